@@ -153,18 +153,29 @@ timed_style names = if is_some (start_of names.timed) then TIMED_STYLE.now else 
 abbrev pub trace_style : Option Differing → List ℕ
 trace_style differing = if is_some differing then TRACE_STYLE.now else []
 
+-- what the style of a page is made of
+abbrev pub style_text : Names → Option Differing → List ℕ
+style_text names differing = STYLE.now ++ drawing.STYLE.now ++ cards.STYLE.now ++ timed_style names ++ trace_style differing
+
+-- the number of the first row at which the kernel differs from the rules, with a link to it
+abbrev pub first_text : ℕ → List ℕ
+first_text first = FIRST.now ++ decimal first ++ FIRST_WORD.now ++ decimal first ++ FIRST_END.now
+
+-- at how many rows the kernel differs from the rules, where there is one
+abbrev pub different_text : Differing → List ℕ
+different_text differing = codes ". <b class=holds>" ++ count_text differing.rows (codes " row differs") (codes " rows differ") ++ first_text differing.first
+
 -- at how many rows of a trace the kernel differs from the rules, and the first of these; a page of a script says nothing of it
 abbrev pub compared_text : Option Differing → List ℕ
 compared_text None = []
 compared_text (Some differing) =
     if differing.rows == 0 then AGREES.now
-    else codes ". <b class=holds>" ++ count_text differing.rows (codes " row differs") (codes " rows differ") ++ FIRST.now ++ decimal differing.first
-    ++ FIRST_WORD.now ++ decimal differing.first ++ FIRST_END.now
+    else different_text differing
 
 -- the document's beginning with its title and its style
 unfoldable pub opening_text : Title → List ℕ
 opening_text title =
-    HEAD.now ++ title_text title ++ STYLE.now ++ drawing.STYLE.now ++ cards.STYLE.now ++ timed_style title.names.now ++ trace_style title.differing ++ STYLE_END.now
+    HEAD.now ++ title_text title ++ style_text title.names.now title.differing ++ STYLE_END.now
 
 -- how many lines there are, where there is one and each was refused
 abbrev pub all_refused : Title → Option ℕ

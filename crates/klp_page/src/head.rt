@@ -3,7 +3,8 @@ ghost use Rattle.std.specs.Prelude.{◌≡◌, [], ◌++◌, codes, count_by, So
 ghost use Rattle.std.specs.Fmt.{decimal};
 ghost use Rattle.klp_markup.specs.Adds.{Adds};
 ghost use Rattle.klp_page.specs.Text.{is_started, is_start, count_text, refusals_text, title_text, timed_style};
-ghost use Rattle.klp_page.specs.Text.{opening_text, all_refused, front_text, story_and_drawing, trace_style, compared_text};
+ghost use Rattle.klp_page.specs.Text.{opening_text, all_refused, front_text, story_and_drawing, trace_style};
+ghost use Rattle.klp_page.specs.Text.{style_text, first_text, different_text, compared_text};
 
 use crate::style::{
     AGREES, COUNTS, FIRST, FIRST_END, FIRST_WORD, HEAD, LINES, RUN, STORY, STYLE, STYLE_END,
@@ -124,7 +125,41 @@ fn add_trace_style(sheet: &mut Sheet, differing: &Option<Differing>)
     }
 }
 
-/// Adds at how many rows the kernel differs from the rules, with a link to the first.
+/// Adds the style of the page, of its drawing and of its cards.
+fn add_style(sheet: &mut Sheet, names: &Names, differing: &Option<Differing>)
+    ensures { Adds sheet.old sheet.new (style_text names.now differing.now) }
+{
+    klp_markup::laws::what_is_added_adds_up();
+    sheet.markup(STYLE);
+    sheet.markup(klp_drawing::STYLE);
+    sheet.markup(klp_page_layout::STYLE);
+    add_timed_style(sheet, names);
+    add_trace_style(sheet, differing);
+}
+
+/// Adds a link to the first row at which the kernel differs from the rules.
+fn add_first(sheet: &mut Sheet, first: u64)
+    ensures { Adds sheet.old sheet.new (first_text first) }
+{
+    klp_markup::laws::what_is_added_adds_up();
+    sheet.markup(FIRST);
+    sheet.number(first);
+    sheet.markup(FIRST_WORD);
+    sheet.number(first);
+    sheet.markup(FIRST_END);
+}
+
+/// Adds at how many rows the kernel differs from the rules, if it does at one, with a link to the first.
+fn add_different(sheet: &mut Sheet, differing: Differing)
+    ensures { Adds sheet.old sheet.new (different_text differing) }
+{
+    klp_markup::laws::what_is_added_adds_up();
+    sheet.markup(". <b class=holds>");
+    add_count(sheet, differing.rows, " row differs", " rows differ");
+    add_first(sheet, differing.first);
+}
+
+/// Adds at how many rows the kernel differs from the rules, or that it does at none.
 fn add_differing(sheet: &mut Sheet, differing: Differing)
     ensures { Adds sheet.old sheet.new (compared_text (Some differing)) }
 {
@@ -132,13 +167,7 @@ fn add_differing(sheet: &mut Sheet, differing: Differing)
     if differing.rows == 0 {
         sheet.markup(AGREES);
     } else {
-        sheet.markup(". <b class=holds>");
-        add_count(sheet, differing.rows, " row differs", " rows differ");
-        sheet.markup(FIRST);
-        sheet.number(differing.first);
-        sheet.markup(FIRST_WORD);
-        sheet.number(differing.first);
-        sheet.markup(FIRST_END);
+        add_different(sheet, differing);
     }
 }
 
@@ -160,11 +189,7 @@ fn add_opening(sheet: &mut Sheet, title: &Title<'_>)
     klp_markup::laws::what_is_added_adds_up();
     sheet.markup(HEAD);
     add_title(sheet, title);
-    sheet.markup(STYLE);
-    sheet.markup(klp_drawing::STYLE);
-    sheet.markup(klp_page_layout::STYLE);
-    add_timed_style(sheet, title.names);
-    add_trace_style(sheet, &title.differing);
+    add_style(sheet, title.names, &title.differing);
     sheet.markup(STYLE_END);
 }
 

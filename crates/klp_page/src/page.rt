@@ -3,7 +3,7 @@ ghost use Rattle.std.specs.Prelude.{◌≡◌, length, count_by, IfOk, IfErr};
 ghost use Rattle.klp_catalog_text.specs.Within.{AreTargetsWithin};
 ghost use Rattle.klp_page.specs.Rows.{last_view};
 ghost use Rattle.klp_page.specs.Text.{page_text};
-ghost use Rattle.klp_page.specs.Pages.{is_refused, IsPage, IsPageOfRun, IsScriptFault, IsPageOver, IsFaultOver};
+ghost use Rattle.klp_page.specs.Pages.{is_refused, IsTitle, IsPage, IsPageOfRun, IsScriptFault, IsPageOver, IsFaultOver};
 ghost use Rattle.klp_page.specs.Pages.{IsPageOf, IsFaultOf, Writes};
 
 use crate::head::{Differing, Title, add_front, add_story_and_drawing, transitions};
@@ -67,6 +67,28 @@ fn refused(rows: &[Row]) -> u64
     count as u64
 }
 
+/// Returns what the head of the page says of these rows and sentences. The run ends with this view.
+fn title_of<'a>(
+    name: &'a [u8],
+    names: &'a Names,
+    rows: &[Row],
+    view: &View,
+    sentences: &[Sentence],
+    differing: Option<Differing>,
+) -> Title<'a>
+    ensures { IsTitle result name.now names.now rows.now view.now sentences.now differing }
+{
+    Title {
+        name,
+        names,
+        lines: rows.len() as u64,
+        refused: refused(rows),
+        transitions: transitions(sentences),
+        is_moving: view.moving.is_some(),
+        differing,
+    }
+}
+
 /// Returns the text of the page of a run that was served and recorded. `differing` is `None` for a page of a script.
 /// `Err` if memory runs out.
 pub fn page_of(
@@ -84,15 +106,7 @@ pub fn page_of(
 {
     let sentences = sentences(alloc, opening, &recorded.run)?;
     let view = last_view(opening, &recorded.run);
-    let title = Title {
-        name,
-        names,
-        lines: recorded.rows.len() as u64,
-        refused: refused(&recorded.rows),
-        transitions: transitions(&sentences),
-        is_moving: view.moving.is_some(),
-        differing,
-    };
+    let title = title_of(name, names, &recorded.rows, view, &sentences, differing);
     let drawing = layout.draw(alloc, manager, &sentences)?;
     written(
         alloc,
