@@ -56,7 +56,11 @@ _klppage() {
   case "${#klp_words[@]}" in
     1) _klp_files catalog "${klp_words[0]}" ;;
     2) _klp_files script "${klp_words[1]}" ;;
-    3) _klp_files names "${klp_words[2]}" ;;
+    3)
+      if [ "${klp_words[1]}" = --trace ]; then _klp_files trace "${klp_words[2]}"
+      else _klp_files names "${klp_words[2]}"; fi
+      ;;
+    4) _klp_files names "${klp_words[3]}" ;;
   esac
 }
 

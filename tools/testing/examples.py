@@ -96,18 +96,23 @@ def lives():
     return [(f"{name}.steps", functools.partial(steps, name, catalog)) for name, catalog in index("lives")]
 
 
-def page(name):
-    """A page is made with names where there are some. What is hinted at isn't compared: a script may have a line that is refused
+def page(name, *words):
+    """A page of a script or a trace, with names if there are some. What is hinted at isn't compared: a script may have a line that is refused
     on purpose."""
     names = [f"{name}.names"] if os.path.exists(f"{EXAMPLES}/{name}.names") else []
-    status, out, err = run(["klppage", f"{name}.catalog", f"{name}.script", *names])
+    status, out, err = run(["klppage", f"{name}.catalog", *words, *names])
     told = [line for line in err.splitlines() if ": hint: " not in line]
     return fault((status, out, "".join(told)), (0, read(f"{name}.html"), ""))
 
 
 def pages():
-    names = sorted(it for it, ending in map(os.path.splitext, os.listdir(f"{EXAMPLES}/pages")) if ending == ".script")
-    return [(f"pages/{name}.html", functools.partial(page, f"pages/{name}")) for name in names]
+    made = []
+    for name, ending in sorted(map(os.path.splitext, os.listdir(f"{EXAMPLES}/pages"))):
+        words = {".script": (), ".trace": ("--trace",)}.get(ending)
+        if words is not None:
+            file = f"pages/{name}"
+            made.append((f"{file}.html", functools.partial(page, file, *words, f"{file}{ending}")))
+    return made
 
 
 def lint(name):

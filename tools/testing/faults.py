@@ -319,7 +319,7 @@ SCRIPTS = [
     (b"\xfe\xffm\n", 0, f"line 1: hint: {WIDE}"),
 ]
 # How the programs say that they are called, and words that they refuse.
-USAGE = {"klpwatch": "CATALOG TRACE", "klppage": "CATALOG SCRIPT [NAMES]"}
+USAGE = {"klpwatch": "CATALOG TRACE", "klppage": "CATALOG SCRIPT|--trace TRACE [NAMES]"}
 REFUSED = [(), ("k.catalog",), ("--help",), ("k.catalog", "-"), ("k.catalog", "k.catalog", "-"), ("k.catalog",) * 4, ("k.catalog", b"\xff")]
 # Texts of names, and what is told of them.
 NAME = "wanted is a name of 1 to 64 bytes without control characters"

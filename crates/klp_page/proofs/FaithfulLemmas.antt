@@ -49,9 +49,9 @@ served before after view (line ∷ lines) (row ∷ rows) (moment ∷ run) are =
     let later = served are.0 after moment.view lines rows run are.2 in
     record {
       managers = are.0 ∷ later.managers;
-      left = ((are.1.answer, are.1.answered), later.left);
+      left = ((are.1.served.answer, are.1.served.answered), later.left);
       last = later.last;
-      shown = (are.1.seen, later.shown);
+      shown = (are.1.served.seen, later.shown);
     }
 
 -- what is seen after a line is the manager's
@@ -118,9 +118,9 @@ unfolding front_text
 front_begins title catalog view sentences picture rows =
     let first = first_text title.names.now catalog view sentences (all_refused title) in
     begins_on _ _ _ (begins_on _ _ _ (begins_on _ _ _
-    (begins_on _ _ _ (begins_on _ _ _ (begins_on _ _ _
+    (begins_on _ _ _ (begins_on _ _ _ (begins_on _ _ _ (begins_on _ _ _
     (begins_behind (opening_text title) (end_text title.names.now catalog view sentences (all_refused title)) first
-    (begins_on _ _ _ (begins_on _ _ _ (begins_on _ _ _ (begins_itself first _))))))))))
+    (begins_on _ _ _ (begins_on _ _ _ (begins_on _ _ _ (begins_itself first _)))))))))))
 
 -- and has the sentences
 story_part : (title : Title) (catalog : Catalog) (view : View) (sentences : List Sentence) (picture : List ℕ) (rows : List Row)

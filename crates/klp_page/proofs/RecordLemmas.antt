@@ -9,14 +9,14 @@ use Rattle.klp_console.specs.Lines.{whole, lines_of}
 use Rattle.klp_timeline.specs.declared.moment.Moment.{Moment}
 use Rattle.klp_timeline.specs.declared.moment.View.{View}
 use Rattle.klp_page.specs.declared.row.Row.{Row}
-use Rattle.klp_page.specs.Rows.{IsRowOf, AddsRow, AreRows, last_view}
+use Rattle.klp_page.specs.Rows.{IsScriptRow, AddsRow, AreRows, last_view}
 use Rattle.klp_page.specs.Pages.{HasRows}
 
 -- the row of one line more
 pub rows_on : (first next last : Journaled) (view : View) (lines : List (List ℕ)) (rows : List Row) (run : List Moment) (line : List ℕ) (row : Row) (moment : Moment)
-    → AreRows first next view lines rows run → IsRowOf next last (last_view view run) line row moment
+    → AreRows first next view lines rows run → IsScriptRow next last (last_view view run) line row moment
     → AreRows first last view (lines ++ line ∷ []) (rows ++ row ∷ []) (run ++ moment ∷ [])
-rows_on first next last view [] [] [] line row moment same is = (last, subst (λ m. IsRowOf m last view line row moment) same is, refl)
+rows_on first next last view [] [] [] line row moment same is = (last, subst (λ m. IsScriptRow m last view line row moment) same is, refl)
 rows_on first next last view [] [] (other ∷ run) line row moment are is = absurd are
 rows_on first next last view [] (other ∷ rows) run line row moment are is = absurd are
 rows_on first next last view (other ∷ lines) [] run line row moment are is = absurd are

@@ -1,1 +1,5 @@
 pub mod Asked
+pub mod Faithful
+pub mod Pages
+pub mod Rows
+pub mod Text

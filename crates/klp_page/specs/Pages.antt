@@ -1,5 +1,5 @@
 -- What a page comes to over a catalog's text and a script.
-use Rattle.std.specs.Prelude.{◌≡◌, ℕ, Bool, ◌<◌, List, [], ◌∷◌, ◌++◌, length, count_by, is_some, ◌⊎◌, Option, Result, Ok, Err}
+use Rattle.std.specs.Prelude.{◌≡◌, ℕ, Bool, ◌<◌, List, [], ◌∷◌, ◌++◌, length, count_by, is_some, ◌⊎◌, Option, None, Result, Ok, Err}
 use Rattle.std.specs.Io.KnownBytes.{Appends}
 use Rattle.klp_types.specs.declared.limits.TheConstants.{MAX_CONSOLE_LINE}
 use Rattle.klp_catalog_text.specs.Plan.{Plan}
@@ -21,6 +21,7 @@ use Rattle.klp_timeline.specs.declared.moment.View.{View}
 use Rattle.klp_timeline.specs.Sentences.{sentences_of}
 use Rattle.klp_views.specs.Views.{IsView}
 use Rattle.klp_page.specs.declared.head.Title.{Title}
+use Rattle.klp_page.specs.declared.head.Differing.{Differing}
 use Rattle.klp_page.specs.declared.row.Row.{Row}
 use Rattle.klp_page.specs.Rows.{AreRows, last_view}
 use Rattle.klp_page.specs.Text.{is_start, page_text}
@@ -29,19 +30,20 @@ abbrev pub is_refused : Row → Bool
 is_refused row = row.is_refused
 
 -- the title of a page: its name, what is known of the run beside its lines, how many lines there are and were refused, how many transitions started, and whether one goes on at the end
-pub record IsTitle (title : Title) (name : List ℕ) (names : Names) (rows : List Row) (view : View) (sentences : List Sentence) : Type 0 where
+pub record IsTitle (title : Title) (name : List ℕ) (names : Names) (rows : List Row) (view : View) (sentences : List Sentence) (differing : Option Differing) : Type 0 where
   pub name_is : title.name.now ≡ name
   pub names_are : title.names.now ≡ names
   pub lines_are : title.lines ≡ length rows
   pub refused_are : title.refused ≡ count_by is_refused rows
   pub transitions_are : title.transitions ≡ count_by is_start sentences
   pub moves : title.is_moving ≡ is_some view.moving
+  pub differing_is : title.differing ≡ differing
 
 -- A page of rows and of what was seen with them: above the rows stands how the run ends, and what is said of it, which is all that there is to be said
-pub record IsPageOfRun (catalog : Catalog) (name : List ℕ) (names : Names) (opening : View) (rows : List Row) (run : List Moment) (page : List ℕ) : Type 0 where
+pub record IsPageOfRun (catalog : Catalog) (name : List ℕ) (names : Names) (opening : View) (rows : List Row) (run : List Moment) (differing : Option Differing) (page : List ℕ) : Type 0 where
   pub drawing : List ℕ
   pub title : Title
-  pub title_is : IsTitle title name names rows (last_view opening run) (sentences_of opening run)
+  pub title_is : IsTitle title name names rows (last_view opening run) (sentences_of opening run) differing
   pub written : page ≡ page_text title catalog (last_view opening run) (sentences_of opening run) drawing rows
 
 -- the page has a row for each line of the script, in order, and is made of these and of what was seen with each
@@ -52,7 +54,7 @@ pub record IsPage (booted : Journaled) (name : List ℕ) (names : Names) (script
   pub left : Journaled
   pub begins : IsView (setting_of booted.managed) booted.managed.state opening
   pub shown : AreRows booted left opening (lines_of script) rows run
-  pub is_page : IsPageOfRun left.managed.catalog name names opening rows run page
+  pub is_page : IsPageOfRun left.managed.catalog name names opening rows run None page
 
 -- of the lines of a script, all but the last have their rows
 pub record HasRows (before after : Journaled) (opening : View) (script last : List ℕ) (rows : List Row) (run : List Moment) : Type 0 where

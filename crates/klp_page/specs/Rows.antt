@@ -1,5 +1,5 @@
 -- What the rows of a page show of a script, and the moments that are seen with them.
-use Rattle.std.specs.Prelude.{◌≡◌, ℕ, ◌+◌, ◌&&◌, Bool, not, List, [], ◌∷◌, ◌++◌, length, Option, Some, if◌then◌else◌}
+use Rattle.std.specs.Prelude.{◌≡◌, ℕ, ◌+◌, ◌&&◌, Bool, false, not, List, [], ◌∷◌, ◌++◌, length, Option, Some, if◌then◌else◌}
 use Rattle.klp_console_commands.specs.Lines.{request_of}
 use Rattle.klp_console.specs.declared.outcome.Outcome.{Outcome}
 use Rattle.klp_console.specs.Answered.{Answer, IsAnswered, names_in}
@@ -46,6 +46,12 @@ pub record IsRowOf (before after : Journaled) (view : View) (line : List ℕ) (r
   pub quiet : row.is_quiet ≡ is_quiet outcome view moment
   pub holders : row.holders.items ≡ holders_shown view moment.view
 
+-- the same on a page of a script, which knows of no kernel
+pub record IsScriptRow (before after : Journaled) (view : View) (line : List ℕ) (row : Row) (moment : Moment) : Type 0 where
+  pub served : IsRowOf before after view line row moment
+  pub unseen : row.seen.items ≡ []
+  pub agrees : row.differs ≡ false
+
 -- what was seen last
 abbrev pub last_view : View → List Moment → View
 last_view view [] = view
@@ -55,7 +61,7 @@ last_view view (moment ∷ run) = last_view moment.view run
 abbrev pub AreRows : Journaled → Journaled → View → List (List ℕ) → List Row → List Moment → Type 0
 AreRows before after view [] [] [] = after ≡ before
 AreRows before after view (line ∷ lines) (row ∷ rows) (moment ∷ run) =
-    (next : Journaled) × IsRowOf before next view line row moment × AreRows next after moment.view lines rows run
+    (next : Journaled) × IsScriptRow before next view line row moment × AreRows next after moment.view lines rows run
 AreRows before after view lines rows run = ⊥
 
 -- a line was answered with this text, and this became of it
@@ -70,6 +76,6 @@ pub record IsAnsweredBy (before after : Journaled) (line text : List ℕ) (outco
 pub record AddsRow (before after : Journaled) (opening : View) (line : List ℕ) (rows more_rows : List Row) (run more_run : List Moment) : Type 0 where
   pub row : Row
   pub moment : Moment
-  pub is_row : IsRowOf before after (last_view opening run) line row moment
+  pub is_row : IsScriptRow before after (last_view opening run) line row moment
   pub rows_are : more_rows ≡ rows ++ row ∷ []
   pub run_is : more_run ≡ run ++ moment ∷ []

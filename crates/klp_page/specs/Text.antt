@@ -16,13 +16,19 @@ use Rattle.klp_timeline.specs.declared.moment.View.{View}
 use Rattle.klp_drawing.specs.declared.style.TheConstants as drawing
 use Rattle.klp_page_layout.specs.declared.style.TheConstants as cards
 use Rattle.klp_page.specs.declared.head.Title.{Title}
+use Rattle.klp_page.specs.declared.head.Differing.{Differing}
 use Rattle.klp_page.specs.declared.row.Row.{Row}
 use Rattle.klp_page.specs.declared.style.TheConstants.{
   HEAD,
   STYLE,
   TIMED_STYLE,
+  TRACE_STYLE,
   STYLE_END,
   COUNTS,
+  AGREES,
+  FIRST,
+  FIRST_WORD,
+  FIRST_END,
   STORY,
   RUN,
   LINES,
@@ -30,6 +36,10 @@ use Rattle.klp_page.specs.declared.style.TheConstants.{
   PLAIN_ROW,
   CARD_ROW,
   REFUSED,
+  DIFFERING,
+  SEEN,
+  SEEN_END,
+  DIFFERENCE,
   OPEN,
   ID,
   NUMBER,
@@ -65,14 +75,30 @@ abbrev pub time_text : Option ℕ → List ℕ
 time_text None = []
 time_text (Some time) = TIME.now ++ seconds_text time
 
--- the line with its number and its time, its answer and its mark
+-- the class of a row at which the kernel differs from the rules
+abbrev pub differing_text : Bool → List ℕ
+differing_text differs = if differs then DIFFERING.now else []
+
+-- the kernel's answer, if a trace has it
+abbrev pub kernel_answer : List ℕ → List ℕ
+kernel_answer seen = if length seen == 0 then [] else SEEN.now ++ escaped seen ++ SEEN_END.now
+
+-- the mark of a row at which the kernel differs from the rules
+abbrev pub difference_text : Bool → List ℕ
+difference_text differs = if differs then DIFFERENCE.now else []
+
+-- what a trace says of the kernel beside the rules' answer
+abbrev pub kernel_text : Row → List ℕ
+kernel_text row = kernel_answer row.seen.items ++ difference_text row.differs
+
+-- the line with its number and its time, its answer, the kernel's answer, and its mark
 unfoldable pub shown_text : Names → ℕ → Row → List ℕ
 shown_text names number row =
-    decimal number ++ time_text (since_start names.timed number) ++ LINE.now ++ escaped row.line.items ++ ANSWER.now ++ escaped row.answer.items ++ ANSWER_END.now ++ mark_text names row.holders.items
+    decimal number ++ time_text (since_start names.timed number) ++ LINE.now ++ escaped row.line.items ++ ANSWER.now ++ escaped row.answer.items ++ ANSWER_END.now ++ kernel_text row ++ mark_text names row.holders.items
 
 -- what stands in front of the number of a line
 unfoldable pub start_text : List ℕ → ℕ → Row → List ℕ
-start_text tag number row = tag ++ refused_text row.is_refused ++ ID.now ++ decimal number
+start_text tag number row = tag ++ refused_text row.is_refused ++ differing_text row.differs ++ ID.now ++ decimal number
 
 -- a row with cards opens, and shows them then
 unfoldable pub row_text : Names → ℕ → Row → List ℕ
@@ -123,10 +149,33 @@ title_text title =
 abbrev pub timed_style : Names → List ℕ
 timed_style names = if is_some (start_of names.timed) then TIMED_STYLE.now else []
 
+-- what the style needs for a trace
+abbrev pub trace_style : Option Differing → List ℕ
+trace_style differing = if is_some differing then TRACE_STYLE.now else []
+
+-- what the style of a page is made of
+abbrev pub style_text : Names → Option Differing → List ℕ
+style_text names differing = STYLE.now ++ drawing.STYLE.now ++ cards.STYLE.now ++ timed_style names ++ trace_style differing
+
+-- the number of the first row at which the kernel differs from the rules, with a link to it
+abbrev pub first_text : ℕ → List ℕ
+first_text first = FIRST.now ++ decimal first ++ FIRST_WORD.now ++ decimal first ++ FIRST_END.now
+
+-- at how many rows the kernel differs from the rules, where there is one
+abbrev pub different_text : Differing → List ℕ
+different_text differing = codes ". <b class=holds>" ++ count_text differing.rows (codes " row differs") (codes " rows differ") ++ first_text differing.first
+
+-- at how many rows of a trace the kernel differs from the rules, and the first of these; a page of a script says nothing of it
+abbrev pub compared_text : Option Differing → List ℕ
+compared_text None = []
+compared_text (Some differing) =
+    if differing.rows == 0 then AGREES.now
+    else different_text differing
+
 -- the document's beginning with its title and its style
 unfoldable pub opening_text : Title → List ℕ
 opening_text title =
-    HEAD.now ++ title_text title ++ STYLE.now ++ drawing.STYLE.now ++ cards.STYLE.now ++ timed_style title.names.now ++ STYLE_END.now
+    HEAD.now ++ title_text title ++ style_text title.names.now title.differing ++ STYLE_END.now
 
 -- how many lines there are, where there is one and each was refused
 abbrev pub all_refused : Title → Option ℕ
@@ -134,7 +183,7 @@ all_refused title = if nat_lt 0 title.refused && title.refused == title.lines th
 
 -- how the run ends, below the document's beginning, and what happened above the sentences
 unfoldable pub front_text : Title → Catalog → View → List Sentence → List ℕ
-front_text title catalog view sentences = opening_text title ++ end_text title.names.now catalog view sentences (all_refused title) ++ COUNTS.now ++ title_text title ++ STORY.now
+front_text title catalog view sentences = opening_text title ++ end_text title.names.now catalog view sentences (all_refused title) ++ COUNTS.now ++ title_text title ++ compared_text title.differing ++ STORY.now
 
 -- the sentences, and the drawing
 unfoldable pub story_and_drawing : Names → Catalog → List Sentence → List ℕ → List ℕ

@@ -1,11 +1,15 @@
 //! What stands above the rows of a page, and below them.
-ghost use Rattle.std.specs.Prelude.{◌≡◌, [], ◌++◌, codes, count_by, if◌then◌else◌};
+ghost use Rattle.std.specs.Prelude.{◌≡◌, [], ◌++◌, codes, count_by, Some, if◌then◌else◌};
 ghost use Rattle.std.specs.Fmt.{decimal};
 ghost use Rattle.klp_markup.specs.Adds.{Adds};
 ghost use Rattle.klp_page.specs.Text.{is_started, is_start, count_text, refusals_text, title_text, timed_style};
-ghost use Rattle.klp_page.specs.Text.{opening_text, all_refused, front_text, story_and_drawing};
+ghost use Rattle.klp_page.specs.Text.{opening_text, all_refused, front_text, story_and_drawing, trace_style};
+ghost use Rattle.klp_page.specs.Text.{style_text, first_text, different_text, compared_text};
 
-use crate::style::{COUNTS, HEAD, LINES, RUN, STORY, STYLE, STYLE_END, TIMED_STYLE};
+use crate::style::{
+    AGREES, COUNTS, FIRST, FIRST_END, FIRST_WORD, HEAD, LINES, RUN, STORY, STYLE, STYLE_END,
+    TIMED_STYLE, TRACE_STYLE,
+};
 use klp_catalog::Catalog;
 use klp_markup::Sheet;
 use klp_modules::Modules;
@@ -25,6 +29,16 @@ pub(crate) struct Title<'a> {
     pub refused: u64,
     pub transitions: u64,
     pub is_moving: bool,
+    /// `None` for a page of a script.
+    pub differing: Option<Differing>,
+}
+
+/// At how many rows of a trace the kernel differs from the rules, and the number of the first of these rows; 0 if it
+/// differs at none.
+#[derive(Clone, Copy)]
+pub struct Differing {
+    pub rows: u64,
+    pub first: u64,
 }
 
 /// Whether the sentence tells of the start of a transition.
@@ -101,6 +115,72 @@ fn add_timed_style(sheet: &mut Sheet, names: &Names)
     }
 }
 
+/// Adds the style of a trace, if the page is of one.
+fn add_trace_style(sheet: &mut Sheet, differing: &Option<Differing>)
+    ensures { Adds sheet.old sheet.new (trace_style differing.now) }
+{
+    klp_markup::laws::what_is_added_adds_up();
+    if differing.is_some() {
+        sheet.markup(TRACE_STYLE);
+    }
+}
+
+/// Adds the style of the page, of its drawing and of its cards.
+fn add_style(sheet: &mut Sheet, names: &Names, differing: &Option<Differing>)
+    ensures { Adds sheet.old sheet.new (style_text names.now differing.now) }
+{
+    klp_markup::laws::what_is_added_adds_up();
+    sheet.markup(STYLE);
+    sheet.markup(klp_drawing::STYLE);
+    sheet.markup(klp_page_layout::STYLE);
+    add_timed_style(sheet, names);
+    add_trace_style(sheet, differing);
+}
+
+/// Adds a link to the first row at which the kernel differs from the rules.
+fn add_first(sheet: &mut Sheet, first: u64)
+    ensures { Adds sheet.old sheet.new (first_text first) }
+{
+    klp_markup::laws::what_is_added_adds_up();
+    sheet.markup(FIRST);
+    sheet.number(first);
+    sheet.markup(FIRST_WORD);
+    sheet.number(first);
+    sheet.markup(FIRST_END);
+}
+
+/// Adds at how many rows the kernel differs from the rules, if it does at one, with a link to the first.
+fn add_different(sheet: &mut Sheet, differing: Differing)
+    ensures { Adds sheet.old sheet.new (different_text differing) }
+{
+    klp_markup::laws::what_is_added_adds_up();
+    sheet.markup(". <b class=holds>");
+    add_count(sheet, differing.rows, " row differs", " rows differ");
+    add_first(sheet, differing.first);
+}
+
+/// Adds at how many rows the kernel differs from the rules, or that it does at none.
+fn add_differing(sheet: &mut Sheet, differing: Differing)
+    ensures { Adds sheet.old sheet.new (compared_text (Some differing)) }
+{
+    klp_markup::laws::what_is_added_adds_up();
+    if differing.rows == 0 {
+        sheet.markup(AGREES);
+    } else {
+        add_different(sheet, differing);
+    }
+}
+
+/// Adds how the kernel of a trace compares with the rules. Adds nothing to a page of a script.
+fn add_compared(sheet: &mut Sheet, differing: &Option<Differing>)
+    ensures { Adds sheet.old sheet.new (compared_text differing.now) }
+{
+    klp_markup::laws::what_is_added_adds_up();
+    if let Some(differing) = *differing {
+        add_differing(sheet, differing);
+    }
+}
+
 /// Adds the beginning of the document, up to the end of its style.
 #[tactic(auto, unfolding(crate::specs::Text::opening_text))]
 fn add_opening(sheet: &mut Sheet, title: &Title<'_>)
@@ -109,10 +189,7 @@ fn add_opening(sheet: &mut Sheet, title: &Title<'_>)
     klp_markup::laws::what_is_added_adds_up();
     sheet.markup(HEAD);
     add_title(sheet, title);
-    sheet.markup(STYLE);
-    sheet.markup(klp_drawing::STYLE);
-    sheet.markup(klp_page_layout::STYLE);
-    add_timed_style(sheet, title.names);
+    add_style(sheet, title.names, &title.differing);
     sheet.markup(STYLE_END);
 }
 
@@ -151,6 +228,7 @@ pub(crate) fn add_front(
     );
     sheet.markup(COUNTS);
     add_title(sheet, title);
+    add_compared(sheet, &title.differing);
     sheet.markup(STORY);
 }
 

@@ -12,14 +12,14 @@ use std::alloc::{AllocError, Global};
 
 /// The cards of a row, and whether the row is open at first.
 #[derive(Drop)]
-pub(crate) struct Cards {
+pub struct Cards {
     pub sheet: Sheet,
     pub is_open: bool,
 }
 
 /// The state of what has no contract, the drawing and the cards, as a run is served line by line.
 #[derive(Drop)]
-pub(crate) struct Layout<'a> {
+pub struct Layout<'a> {
     names: &'a Names,
     chronicle: Chronicle<'a>,
     bars: Bars,
@@ -34,7 +34,7 @@ fn stands_open(parts: &RowParts, act: &Option<Fact>) -> bool {
 
 impl<'a> Layout<'a> {
     /// Returns the layout of a run of which no line was served. Takes no memory.
-    pub(crate) fn new(alloc: Global, names: &'a Names) -> Layout<'a> {
+    pub fn new(alloc: Global, names: &'a Names) -> Layout<'a> {
         Layout {
             names,
             chronicle: Chronicle::new(alloc, names),
@@ -44,19 +44,19 @@ impl<'a> Layout<'a> {
     }
 
     /// Begins to watch the shadow variables that the scripts of the plan's callbacks change. `Err` if memory runs out.
-    pub(crate) fn watch(&mut self, plan: &Plan) -> Result<(), AllocError> {
+    pub fn watch(&mut self, plan: &Plan) -> Result<(), AllocError> {
         self.chronicle.watch(plan)
     }
 
     /// Prepares for each patch, task and site of a manager that was just booted. `Err` if memory runs out.
-    pub(crate) fn open(&mut self, manager: &Manager) -> Result<(), AllocError> {
+    pub fn open(&mut self, manager: &Manager) -> Result<(), AllocError> {
         self.chronicle.open(manager)?;
         self.bars.open()
     }
 
     /// Updates the drawing with a line, and returns the line's cards. The cards are empty for a line that neither
     /// caused nor undid an event. `Err` if memory runs out.
-    pub(crate) fn see(
+    pub fn see(
         &mut self,
         alloc: Global,
         manager: &Manager,

@@ -22,6 +22,10 @@ mod row;
 mod style;
 mod words;
 
+pub use head::Differing;
 pub use laws::a_page_is_true_to_its_run;
-pub use page::{page_over_text, write_page};
+pub use layout::{Cards, Layout};
+pub use page::{page_of, page_over_text, write_page};
+pub use record::{Recorded, last_view, record_line};
+pub use row::Row;
 pub use words::{PageFiles, page_words};

@@ -3,10 +3,10 @@ ghost use Rattle.std.specs.Prelude.{◌≡◌, length, count_by, IfOk, IfErr};
 ghost use Rattle.klp_catalog_text.specs.Within.{AreTargetsWithin};
 ghost use Rattle.klp_page.specs.Rows.{last_view};
 ghost use Rattle.klp_page.specs.Text.{page_text};
-ghost use Rattle.klp_page.specs.Pages.{is_refused, IsPage, IsPageOfRun, IsScriptFault, IsPageOver, IsFaultOver};
+ghost use Rattle.klp_page.specs.Pages.{is_refused, IsTitle, IsPage, IsPageOfRun, IsScriptFault, IsPageOver, IsFaultOver};
 ghost use Rattle.klp_page.specs.Pages.{IsPageOf, IsFaultOf, Writes};
 
-use crate::head::{Title, add_front, add_story_and_drawing, transitions};
+use crate::head::{Differing, Title, add_front, add_story_and_drawing, transitions};
 use crate::layout::Layout;
 use crate::record::{Recorded, last_view, record};
 use crate::row::{Row, add_rows};
@@ -67,29 +67,46 @@ fn refused(rows: &[Row]) -> u64
     count as u64
 }
 
-/// Returns the text of the page of a run that was served and recorded. `Err` if memory runs out.
-fn page_of(
+/// Returns what the head of the page says of these rows and sentences. The run ends with this view.
+fn title_of<'a>(
+    name: &'a [u8],
+    names: &'a Names,
+    rows: &[Row],
+    view: &View,
+    sentences: &[Sentence],
+    differing: Option<Differing>,
+) -> Title<'a>
+    ensures { IsTitle result name.now names.now rows.now view.now sentences.now differing }
+{
+    Title {
+        name,
+        names,
+        lines: rows.len() as u64,
+        refused: refused(rows),
+        transitions: transitions(sentences),
+        is_moving: view.moving.is_some(),
+        differing,
+    }
+}
+
+/// Returns the text of the page of a run that was served and recorded. `differing` is `None` for a page of a script.
+/// `Err` if memory runs out.
+pub fn page_of(
     alloc: Global,
     manager: &Manager,
     name: &[u8],
     names: &Names,
     opening: &View,
     recorded: &Recorded,
+    differing: Option<Differing>,
     layout: &mut Layout<'_>,
 ) -> Result<Vec<u8>, AllocError>
     ensures { IfOk result (λ page. IsPageOfRun manager.now.managed.catalog name.now names.now opening.now
-        recorded.now.rows.items recorded.now.run.items page.items) }
+        recorded.now.rows.items recorded.now.run.items differing page.items) }
 {
     let sentences = sentences(alloc, opening, &recorded.run)?;
     let view = last_view(opening, &recorded.run);
-    let title = Title {
-        name,
-        names,
-        lines: recorded.rows.len() as u64,
-        refused: refused(&recorded.rows),
-        transitions: transitions(&sentences),
-        is_moving: view.moving.is_some(),
-    };
+    let title = title_of(name, names, &recorded.rows, view, &sentences, differing);
     let drawing = layout.draw(alloc, manager, &sentences)?;
     written(
         alloc,
@@ -117,7 +134,9 @@ fn paged(
     layout.open(manager)?;
     let opening = view_of(manager);
     let recorded = record(alloc, manager, script, &opening, layout)?;
-    Ok(page_of(alloc, manager, name, names, &opening, &recorded, layout)?)
+    Ok(page_of(
+        alloc, manager, name, names, &opening, &recorded, None, layout,
+    )?)
 }
 
 // Serves a script by a manager, which is dropped then, and returns the page. Only `close` drops a manager, so that its

@@ -4,7 +4,7 @@ ghost use Rattle.klp_types.specs.declared.limits.TheConstants.{MAX_TASKS};
 ghost use Rattle.klp_manager_state.specs.Managed.{setting_of};
 ghost use Rattle.klp_views.specs.Views.{IsView, act_of};
 ghost use Rattle.klp_console.specs.Lines.{lines_of};
-ghost use Rattle.klp_page.specs.Rows.{IsAnsweredBy, IsRowOf, AddsRow, AreRows, holders_from, holders_shown, is_quiet};
+ghost use Rattle.klp_page.specs.Rows.{IsAnsweredBy, IsScriptRow, AddsRow, AreRows, holders_from, holders_shown, is_quiet};
 ghost use Rattle.klp_page.specs.Rows.{last_view};
 ghost use Rattle.klp_page.specs.Pages.{HasRows, IsScriptFault};
 
@@ -30,13 +30,13 @@ struct Answered {
 
 /// The rows of the lines so far, and the state after each of them.
 #[derive(Drop)]
-pub(crate) struct Recorded {
+pub struct Recorded {
     pub rows: Vec<Row>,
     pub run: Vec<Moment>,
 }
 
 /// Returns the state after the last line, or `opening` if there was no line.
-pub(crate) fn last_view<'a>(opening: &'a View, run: &'a [Moment]) -> &'a View
+pub fn last_view<'a>(opening: &'a View, run: &'a [Moment]) -> &'a View
     ensures { result.now ≡ last_view opening.now run.now }
 {
     match run.last() {
@@ -110,14 +110,14 @@ fn holders_shown(alloc: Global, before: &View, after: &View) -> Result<Vec<TaskI
 }
 
 /// Serves one line. Returns its row, what the line did, and the state after it. `Err` if memory runs out.
-fn record_line(
+pub fn record_line(
     alloc: Global,
     manager: &mut Manager,
     line: &[u8],
     before: &View,
     layout: &mut Layout<'_>,
 ) -> Result<(Row, Moment), AllocError>
-    ensures { IfOk result (λ made. IsRowOf manager.old manager.new before.now line.now made.0 made.1) }
+    ensures { IfOk result (λ made. IsScriptRow manager.old manager.new before.now line.now made.0 made.1) }
 {
     let from = manager.mark();
     let writes = Blank::new(2);
@@ -132,6 +132,8 @@ fn record_line(
         holders: holders_shown(alloc, before, &moment.view)?,
         is_open: cards.is_open,
         cards: cards.sheet,
+        seen: Vec::new(alloc),
+        differs: false,
     };
     Ok((row, moment))
 }

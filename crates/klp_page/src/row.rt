@@ -4,11 +4,12 @@ ghost use Rattle.std.specs.Fmt.{decimal};
 ghost use Rattle.klp_markup.specs.Adds.{Adds};
 ghost use Rattle.klp_names.specs.Names.{since_start};
 ghost use Rattle.klp_page.specs.Text.{mark_text, refused_text, open_text, time_text, shown_text, start_text, row_text};
-ghost use Rattle.klp_page.specs.Text.{fold_start, fold_end, rows_text};
+ghost use Rattle.klp_page.specs.Text.{fold_start, fold_end, rows_text, differing_text, kernel_answer, difference_text, kernel_text};
 
 use crate::style::{
-    ANSWER, ANSWER_END, CARD_NUMBER, CARD_ROW, CARDS, CARDS_END, FOLD, FOLD_END, FOLDED, HELD,
-    HELD_END, ID, LINE, NUMBER, OPEN, PLAIN_END, PLAIN_ROW, QUIET_ROWS, REFUSED, TIME,
+    ANSWER, ANSWER_END, CARD_NUMBER, CARD_ROW, CARDS, CARDS_END, DIFFERENCE, DIFFERING, FOLD,
+    FOLD_END, FOLDED, HELD, HELD_END, ID, LINE, NUMBER, OPEN, PLAIN_END, PLAIN_ROW, QUIET_ROWS,
+    REFUSED, SEEN, SEEN_END, TIME,
 };
 use klp_markup::{Sheet, add_each_task, add_seconds};
 use klp_names::Names;
@@ -16,7 +17,7 @@ use klp_types::TaskId;
 
 /// What a page shows of one line.
 #[derive(Drop)]
-pub(crate) struct Row {
+pub struct Row {
     pub line: Vec<u8>,
     pub answer: Vec<u8>,
     pub is_refused: bool,
@@ -28,6 +29,10 @@ pub(crate) struct Row {
     pub is_open: bool,
     /// Cards of what the line changed.
     pub cards: Sheet,
+    /// The kernel's answer, if a trace has it; else empty.
+    pub seen: Vec<u8>,
+    /// Whether the kernel did something else here than the rules say.
+    pub differs: bool,
 }
 
 /// Adds who holds the transition up. Adds nothing if nobody does.
@@ -51,6 +56,47 @@ fn add_refused(sheet: &mut Sheet, is_refused: bool)
     if is_refused {
         sheet.markup(REFUSED);
     }
+}
+
+/// Adds the class of a row at which the kernel differs from the rules, if it does.
+fn add_differing(sheet: &mut Sheet, differs: bool)
+    ensures { Adds sheet.old sheet.new (differing_text differs) }
+{
+    klp_markup::laws::what_is_added_adds_up();
+    if differs {
+        sheet.markup(DIFFERING);
+    }
+}
+
+/// Adds the kernel's answer. Adds nothing if no trace has it.
+fn add_seen(sheet: &mut Sheet, seen: &[u8])
+    ensures { Adds sheet.old sheet.new (kernel_answer seen.now) }
+{
+    klp_markup::laws::what_is_added_adds_up();
+    if !seen.is_empty() {
+        sheet.markup(SEEN);
+        sheet.text(seen);
+        sheet.markup(SEEN_END);
+    }
+}
+
+/// Adds the mark of a row at which the kernel differs from the rules, if it does.
+fn add_difference(sheet: &mut Sheet, differs: bool)
+    ensures { Adds sheet.old sheet.new (difference_text differs) }
+{
+    klp_markup::laws::what_is_added_adds_up();
+    if differs {
+        sheet.markup(DIFFERENCE);
+    }
+}
+
+/// Adds the kernel's answer, and a mark if it differs from the rules.
+fn add_kernel(sheet: &mut Sheet, row: &Row)
+    ensures { Adds sheet.old sheet.new (kernel_text row.now) }
+{
+    klp_markup::laws::what_is_added_adds_up();
+    add_seen(sheet, &row.seen);
+    add_difference(sheet, row.differs);
 }
 
 /// Adds the attribute of a row that is open at first, if the row is.
@@ -83,7 +129,8 @@ fn add_number(sheet: &mut Sheet, names: &Names, number: u64)
     add_time(sheet, names.since_start(number));
 }
 
-/// Adds the columns of a row: the line's number and time, its text, its answer, and who holds the transition up.
+/// Adds the columns of a row: the line's number and time, its text, its answer, the kernel's answer, and who holds the
+/// transition up.
 #[tactic(auto, unfolding(crate::specs::Text::shown_text))]
 fn add_shown(sheet: &mut Sheet, names: &Names, number: u64, row: &Row)
     ensures { Adds sheet.old sheet.new (shown_text names.now number row.now) }
@@ -95,6 +142,7 @@ fn add_shown(sheet: &mut Sheet, names: &Names, number: u64, row: &Row)
     sheet.markup(ANSWER);
     sheet.text(&row.answer);
     sheet.markup(ANSWER_END);
+    add_kernel(sheet, row);
     add_mark(sheet, names, &row.holders);
 }
 
@@ -106,6 +154,7 @@ fn add_start(sheet: &mut Sheet, tag: &'static str, number: u64, row: &Row)
     klp_markup::laws::what_is_added_adds_up();
     sheet.markup(tag);
     add_refused(sheet, row.is_refused);
+    add_differing(sheet, row.differs);
     sheet.markup(ID);
     sheet.number(number);
 }

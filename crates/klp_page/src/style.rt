@@ -49,10 +49,27 @@ pub(crate) const TIMED_STYLE: &str =
 @media(max-width:40rem){.row>summary,div.row{grid-template-columns:4.4rem minmax(0,1fr)}}
 ";
 
+/// The style of a page of a trace: the kernel's answers, and the rows at which the kernel differs from the rules.
+pub(crate) const TRACE_STYLE: &str =
+    ".row>summary>.n,div.row>.n{grid-row:1/span 2}.seen{grid-column:3;color:var(--soft);font-size:.86em;overflow-wrap:anywhere}.other{grid-column:2/-1;justify-self:start;color:var(--hold);
+border:2px solid;padding:0 .4rem}.differs{border-left:.4rem solid var(--hold)}.differs .seen{color:var(--hold);font-weight:600}
+@media(max-width:40rem){.seen,.other{grid-column:2}}
+";
+
 pub(crate) const STYLE_END: &str = "</style>
 ";
 
 pub(crate) const COUNTS: &str = "<p class=soft>";
+
+/// What a page of a trace says behind its title if the kernel does nothing else than the rules say.
+pub(crate) const AGREES: &str = ". Whatever the trace says of the kernel is as the rules say.";
+
+/// What stands around the number of the first row at which the kernel differs from the rules.
+pub(crate) const FIRST: &str = " from the rules. The first is <a href=\"#line-";
+
+pub(crate) const FIRST_WORD: &str = "\">line ";
+
+pub(crate) const FIRST_END: &str = "</a>.</b>";
 
 pub(crate) const STORY: &str = "</p>\n<h2>What happened</h2><ul class=story>\n";
 
@@ -69,6 +86,9 @@ pub(crate) const REFUSED: &str = " no";
 
 pub(crate) const ID: &str = "\" id=line-";
 
+/// The class of a row at which the kernel differs from the rules.
+pub(crate) const DIFFERING: &str = " differs";
+
 /// The attribute of a row that shows its cards at first.
 pub(crate) const OPEN: &str = " open";
 
@@ -84,6 +104,14 @@ pub(crate) const LINE: &str = "</span><code class=line>";
 pub(crate) const ANSWER: &str = "</code><samp>";
 
 pub(crate) const ANSWER_END: &str = "</samp>";
+
+/// What stands around the kernel's answer.
+pub(crate) const SEEN: &str = "<span class=seen>the kernel: ";
+
+pub(crate) const SEEN_END: &str = "</span>";
+
+/// The mark of a row at which the kernel differs from the rules.
+pub(crate) const DIFFERENCE: &str = "<b class=other>the kernel differs from the rules</b>";
 
 pub(crate) const PLAIN_END: &str = "</div>\n";
 

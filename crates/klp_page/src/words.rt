@@ -1,7 +1,7 @@
 //! The words behind the program's name.
-ghost use Rattle.std.specs.Prelude.{◌≡◌, map, string_bytes, Some, None, MatchResult};
+ghost use Rattle.std.specs.Prelude.{◌≡◌, map, string_bytes, option_map, Some, None, MatchResult};
 ghost use Rattle.klp_program.specs.Asked.{begins_with_dash};
-ghost use Rattle.klp_page.specs.Asked.{page_files, meaning};
+ghost use Rattle.klp_page.specs.Asked.{files_with, page_files, meaning};
 
 use klp_program::report_usage_as;
 use std::io::Write;
@@ -9,11 +9,16 @@ use std::io::Write;
 /// The name of the program in its messages.
 const NAME: &str = "klppage";
 
+/// The word in front of a trace.
+const TRACE: &str = "--trace";
+
 /// The paths of the files that a page is made of.
 #[derive(Clone, Copy)]
 pub struct PageFiles<'a> {
     pub catalog: &'a str,
-    pub script: &'a str,
+    /// The script, or the trace.
+    pub run: &'a str,
+    pub is_trace: bool,
     /// The file of names of tasks, and times of lines.
     pub names: Option<&'a str>,
 }
@@ -25,32 +30,56 @@ fn begins_with_dash(word: &str) -> bool
     word.as_bytes().first() == Some(&b'-')
 }
 
-/// Reads the program's arguments: the paths of a catalog, of a script and, if it is given, of names. Refuses other
-/// arguments with a message on `err`, and returns the exit status as `Err`.
+/// Returns the paths behind that of the catalog, each in its place. `None` if there are too few or too many, or if one
+/// is an option.
+fn files_with<'a>(catalog: &'a str, words: &'a [String], is_trace: bool) -> Option<PageFiles<'a>>
+    ensures { option_map meaning result ≡ files_with is_trace catalog.now (map string_bytes words.now) }
+{
+    match words {
+        [run] if !begins_with_dash(catalog) && !begins_with_dash(run.as_str()) => Some(PageFiles {
+            catalog,
+            run: run.as_str(),
+            is_trace,
+            names: None,
+        }),
+        [run, names]
+            if !begins_with_dash(catalog)
+                && !begins_with_dash(run.as_str())
+                && !begins_with_dash(names.as_str()) => {
+            Some(PageFiles {
+                catalog,
+                run: run.as_str(),
+                is_trace,
+                names: Some(names.as_str()),
+            })
+        }
+        _ => None,
+    }
+}
+
+/// Returns the paths that these arguments name: of a catalog, of a script or a trace, and perhaps of names. `None` if they
+/// are others.
+fn files_in<'a>(given: &'a [String]) -> Option<PageFiles<'a>>
+    ensures { option_map meaning result ≡ page_files (map string_bytes given.now) }
+{
+    match given {
+        [catalog, word, words @ ..] if word.as_bytes() == TRACE.as_bytes() => {
+            files_with(catalog.as_str(), words, true)
+        }
+        [catalog, words @ ..] => files_with(catalog.as_str(), words, false),
+        [] => None,
+    }
+}
+
+/// Reads the program's arguments: the paths of a catalog, of a script or behind `--trace` of a trace, and of names, which may
+/// be left out. Refuses other arguments with a message on `err`, and returns the exit status as `Err`.
 pub fn page_words<'a, W: Write>(given: &'a [String], err: &mut W) -> Result<PageFiles<'a>, u8>
     ensures { MatchResult result
         (λ files. page_files (map string_bytes given.now) ≡ Some (meaning files))
         (λ status. (status ≡ 2) × (page_files (map string_bytes given.now) ≡ None)) }
 {
-    match given {
-        [catalog, script]
-            if !begins_with_dash(catalog.as_str()) && !begins_with_dash(script.as_str()) => {
-            Ok(PageFiles {
-                catalog: catalog.as_str(),
-                script: script.as_str(),
-                names: None,
-            })
-        }
-        [catalog, script, names]
-            if !begins_with_dash(catalog.as_str())
-                && !begins_with_dash(script.as_str())
-                && !begins_with_dash(names.as_str()) => {
-            Ok(PageFiles {
-                catalog: catalog.as_str(),
-                script: script.as_str(),
-                names: Some(names.as_str()),
-            })
-        }
-        _ => Err(report_usage_as(NAME, err)),
+    match files_in(given) {
+        Some(files) => Ok(files),
+        None => Err(report_usage_as(NAME, err)),
     }
 }

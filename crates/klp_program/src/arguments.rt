@@ -192,7 +192,7 @@ pub fn report_usage<W: Write>(err: &mut W) -> u8
 fn usage_of(name: &str) -> &'static str {
     match name.as_bytes() {
         b"klpwatch" => "usage: klpwatch CATALOG TRACE (man klpwatch)",
-        b"klppage" => "usage: klppage CATALOG SCRIPT [NAMES] (man klppage)",
+        b"klppage" => "usage: klppage CATALOG SCRIPT|--trace TRACE [NAMES] (man klppage)",
         _ => "usage",
     }
 }

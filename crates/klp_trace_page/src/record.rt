@@ -1,0 +1,196 @@
+//! A trace is played line by line, and each line gets its row.
+ghost use Rattle.std.specs.Prelude.{◌≡◌, ◌&&◌, not, length, bytes_eq, option_map, IfOk};
+ghost use Rattle.std.specs.Str.Lines.{lines};
+ghost use Rattle.klp_page.specs.Rows.{last_view};
+ghost use Rattle.klp_trace_page.specs.Traced.{IsRoomy, IsPlayedEvent, IsStillRow, IsTracedRow, AddsTracedRow, AreTraced};
+ghost use Rattle.klp_trace_page.specs.Rules.{rules_text, sight_text};
+
+use crate::line::item_text;
+use crate::rules::{rules_text, sight_text};
+use klp_catalog_text::Lines;
+use klp_console::Outcome;
+use klp_core::Manager;
+use klp_markup::Sheet;
+use klp_model::{Refusal, Reply, Seen};
+use klp_page::{Layout, Recorded, Row, last_view, record_line};
+use klp_timeline::{Moment, View};
+use klp_trace::answer_text;
+use klp_types::{MAX_GROUPS, MAX_RECORDS};
+use klp_views::view_of;
+use klp_watch::{Observed, Sight};
+use std::alloc::{AllocError, Global};
+
+/// Seals the journal if the next event might find no room in it.
+fn make_room(manager: &mut Manager)
+    ensures { IsRoomy manager.old manager.new }
+{
+    if manager.mark() >= MAX_GROUPS as u32 || manager.records_free() < MAX_RECORDS as u32 {
+        manager.seal();
+    }
+}
+
+/// Puts the kernel's answer beside that of the rules, and marks the row if it is another.
+fn compare(row: &mut Row, seen: Vec<u8>)
+    ensures row { row.new ≡ record row.old {
+      is_quiet = row.old.is_quiet && not row.new.differs;
+      seen = row.new.seen;
+      differs = row.new.differs;
+    } }
+    ensures seen { row.new.seen.items ≡ seen.items }
+    ensures differs { row.new.differs ≡ not (bytes_eq row.old.answer.items seen.items) }
+{
+    row.differs = row.answer.as_slice() != seen.as_slice();
+    row.is_quiet = row.is_quiet && !row.differs;
+    row.seen = seen;
+}
+
+/// Takes the event that a line of the console asks for, by the rules. Returns its row and its moment. `Err` if memory runs
+/// out.
+fn event_row(
+    alloc: Global,
+    manager: &mut Manager,
+    text: &[u8],
+    answer: Option<&Result<Reply, Refusal>>,
+    before: &View,
+    layout: &mut Layout<'_>,
+) -> Result<(Row, Moment), AllocError>
+    ensures { IfOk result (λ made. IsPlayedEvent manager.old manager.new before.now text.now
+        (option_map (λ answer. answer.now) answer.entry) made.0 made.1) }
+{
+    make_room(manager);
+    let (mut row, moment) = record_line(alloc, manager, text, before, layout)?;
+    if let Some(answer) = answer {
+        let seen = answer_text(alloc, manager, answer)?;
+        compare(&mut row, Vec::from_slice(alloc, seen.as_bytes())?);
+    }
+    Ok((row, moment))
+}
+
+/// Returns the row and the moment of an item by which nothing changes. `rules` is what the rules say there, and `seen` what
+/// the kernel showed. `Err` if memory runs out.
+fn still_row(
+    alloc: Global,
+    manager: &Manager,
+    text: &[u8],
+    rules: &str,
+    seen: &str,
+    before: &View,
+    layout: &mut Layout<'_>,
+) -> Result<(Row, Moment), AllocError>
+    ensures { IfOk result (λ made. IsStillRow manager.now manager.now text.now rules.now seen.now made.0 made.1) }
+{
+    let moment = Moment {
+        act: None,
+        view: view_of(manager),
+    };
+    layout.see(alloc, manager, &Outcome::Done, before, &moment)?;
+    let differs = rules.as_bytes() != seen.as_bytes();
+    let row = Row {
+        line: Vec::from_slice(alloc, text)?,
+        answer: Vec::from_slice(alloc, rules.as_bytes())?,
+        is_refused: false,
+        is_quiet: !differs,
+        holders: Vec::new(alloc),
+        is_open: false,
+        cards: Sheet::new(alloc),
+        seen: Vec::from_slice(alloc, seen.as_bytes())?,
+        differs,
+    };
+    Ok((row, moment))
+}
+
+/// Returns the row and the moment of what the kernel showed. `Err` if memory runs out.
+fn sight_row(
+    alloc: Global,
+    manager: &Manager,
+    text: &[u8],
+    sight: &Sight,
+    before: &View,
+    layout: &mut Layout<'_>,
+) -> Result<(Row, Moment), AllocError>
+    ensures { IfOk result (λ made. IsStillRow manager.now manager.now text.now (rules_text manager.now sight.now)
+        (sight_text manager.now.managed.catalog sight.now) made.0 made.1) }
+{
+    let rules = rules_text(alloc, manager, sight)?;
+    let seen = sight_text(alloc, manager, sight)?;
+    still_row(
+        alloc,
+        manager,
+        text,
+        rules.as_str(),
+        seen.as_str(),
+        before,
+        layout,
+    )
+}
+
+/// Plays one item of a trace. Returns its row and its moment. `Err` if memory runs out.
+fn item_row(
+    alloc: Global,
+    manager: &mut Manager,
+    text: &[u8],
+    item: &Observed,
+    before: &View,
+    layout: &mut Layout<'_>,
+) -> Result<(Row, Moment), AllocError>
+    ensures { IfOk result (λ made. IsTracedRow manager.old manager.new before.now text.now item.now made.0 made.1) }
+{
+    match item {
+        Observed::Seen(Seen::Event(_)) => event_row(alloc, manager, text, None, before, layout),
+        Observed::Answered(_, answer) => {
+            event_row(alloc, manager, text, Some(answer), before, layout)
+        }
+        Observed::Seen(_) => still_row(alloc, manager, text, "", "", before, layout),
+        Observed::Saw(sight) => sight_row(alloc, manager, text, sight, before, layout),
+    }
+}
+
+/// Plays one line of a trace, and adds its row and its moment to `recorded`. `Err` if memory runs out.
+fn add_line(
+    alloc: Global,
+    manager: &mut Manager,
+    line: &[u8],
+    item: &Observed,
+    opening: &View,
+    recorded: &mut Recorded,
+    layout: &mut Layout<'_>,
+) -> Result<(), AllocError>
+    ensures { IfOk result (λ _. AddsTracedRow manager.old manager.new (last_view opening.now recorded.old.run.items)
+        line.now item.now recorded.old.rows.items recorded.new.rows.items recorded.old.run.items
+        recorded.new.run.items) }
+{
+    let before = last_view(opening, &recorded.run);
+    let (row, moment) = item_row(alloc, manager, item_text(line), item, before, layout)?;
+    recorded.rows.push(row)?;
+    recorded.run.push(moment)?;
+    Ok(())
+}
+
+/// Plays a trace with these items. Returns a row for each of its lines, and what each line did. `Err` if memory runs out.
+pub(crate) fn record_trace(
+    alloc: Global,
+    manager: &mut Manager,
+    text: &[u8],
+    items: &[Observed],
+    opening: &View,
+    layout: &mut Layout<'_>,
+) -> Result<Recorded, AllocError>
+    requires { length (lines text.now) ≡ length items.now }
+    ensures { IfOk result (λ recorded. AreTraced manager.old manager.new opening.now (lines text.now) items.now
+        recorded.rows.items recorded.run.items) }
+{
+    let mut recorded = Recorded {
+        rows: Vec::new(alloc),
+        run: Vec::new(alloc),
+    };
+    let mut lines = Lines::new(text);
+    let mut rest = items;
+    while let Some(line) = lines.next() {
+        let [item, others @ ..] = rest else {
+            return Ok(recorded);
+        };
+        add_line(alloc, manager, line, item, opening, &mut recorded, layout)?;
+        rest = others;
+    }
+    Ok(recorded)
+}

@@ -1,0 +1,36 @@
+//! The times of a trace, as those of its lines.
+
+use klp_catalog_text::Lines;
+use klp_names::Names;
+use klp_trace::LineParts;
+use std::alloc::{AllocError, Global};
+
+/// Returns a text of names with the time of each line of the trace behind it. It has no contract: [`Names::read`] reads it.
+fn with_lines(alloc: Global, names: &[u8], trace: &[u8]) -> Result<Vec<u8>, AllocError> {
+    let mut text = Vec::from_slice(alloc, names)?;
+    if !names.is_empty() && !names.ends_with(b"\n".as_slice()) {
+        text.push(b'\n')?;
+    }
+    let mut lines = Lines::new(trace);
+    let mut number = 0u64;
+    while let Some(line) = lines.next() {
+        number = number.saturating_add(1);
+        if let Some(time) = LineParts::of(line).time {
+            let word = format!(in alloc; "line {number} ")?;
+            text.extend_from_slice(word.as_bytes())?;
+            text.extend_from_slice(time)?;
+            text.push(b'\n')?;
+        }
+    }
+    Ok(text)
+}
+
+/// Returns the names of a text of names, with the trace's times as those of its lines. If the text has times itself, those
+/// stay. It has no contract. `None` if memory runs out, or if the text or a time is faulty.
+pub fn timed_names(alloc: Global, names: &[u8], trace: &[u8]) -> Option<Names> {
+    let text = with_lines(alloc, names, trace).ok()?;
+    match Names::read(alloc, &text) {
+        Ok(names) => Some(names),
+        Err(_) => Names::read(alloc, names).ok(),
+    }
+}
