@@ -1,5 +1,5 @@
 //! A manager is booted over a catalog, serves a script, and then each patch is judged.
-ghost use Rattle.std.specs.Prelude.{◌≡◌, ◌≤◌, length};
+ghost use Rattle.std.specs.Prelude.{◌≡◌, ◌<◌, ◌≤◌, length, IfSome};
 ghost use Rattle.klp_catalog_text.specs.Within.{AreTargetsWithin};
 
 use crate::idle::{write_idle, write_unpicked};
@@ -38,11 +38,26 @@ fn do_line<M: Ledger>(
     }
 }
 
+/// The first line of a text, and what comes behind it. None if nothing is left.
+fn cut_line(text: &[u8]) -> Option<(&[u8], &[u8])>
+    ensures { IfSome result (λ cut. length cut.1.now < length text.now) }
+{
+    if text.is_empty() {
+        return None;
+    }
+    match text.iter().position(|b| *b == b'\n') {
+        Some(place) => Some((&text[..place], &text[place + 1..])),
+        None => Some((text, &[])),
+    }
+}
+
 /// Does the lines of the script.
 fn do_lines(alloc: Global, manager: &mut Manager, script: &[u8]) -> Result<(), Fault> {
-    for line in script.split(|b| *b == b'\n') {
+    let mut rest = script;
+    while let Some((line, behind)) = cut_line(rest) {
         let writes = Blank::new(2);
         do_line::<Brand>(alloc, manager, line, writes)?;
+        rest = behind;
     }
     Ok(())
 }

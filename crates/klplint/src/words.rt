@@ -119,14 +119,6 @@ impl Told<'_> {
             Premise::Moving => self.write_not_judged("a patch is in transition", out),
             Premise::Installed => self.write_not_judged("it is installed", out),
             Premise::NotUndone { place, pair, key } => self.write_not_undone(place, pair, key, out),
-            Premise::FreesAll { place, id } => {
-                self.begin(self.line(Some(place), None), out)?;
-                let object = self.object(place);
-                writeln!(
-                    out,
-                    "may leave a trace: a callback for {object} frees all variables of the id {id}, of which some may be of others"
-                )
-            }
             Premise::NotApart { first, second, key } => {
                 self.begin(self.line(Some(second), None), out)?;
                 let (one, other) = (self.object(first), self.object(second));

@@ -12,7 +12,7 @@ use Rattle.klplint.proofs.judging.lint_over_plan.Goals as goal
 
 -- the callback means the script
 pub loop-callbacks-preserved : goal.loop-callbacks-preserved
-loop-callbacks-preserved c =
+loop-callbacks-preserved g c =
     let i = c.into_dyn_box.result.vtable in
     let box = c.into_dyn_box.result.value in
     let value = c.in-Some.callback.value in
@@ -36,7 +36,7 @@ loop-callbacks-preserved c =
     subst (λ (items : List LentCallback). items ≡ first_made items scripts) (sym pushed) (next_made made scripts value next c.loop-callbacks.invariant)
 
 pub boot-requires-clause-callbacks : goal.boot-requires-clause-callbacks
-boot-requires-clause-callbacks c =
+boot-requires-clause-callbacks g c =
     let scripts = scripts_of c.args.plan.patches in
     let made = c.loop-callbacks.callbacks.items in
     let count : length made ≡ c.len.result = search in

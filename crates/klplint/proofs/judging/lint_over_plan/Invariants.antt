@@ -5,8 +5,8 @@ use Rattle.klplint.proofs.judging.lint_over_plan.Given as goal
 
 -- there is a callback for each script so far
 abbrev pub invariant-loop-callbacks : goal.invariant-loop-callbacks
-invariant-loop-callbacks l = l.callbacks.items ≡ first_made l.callbacks.items (scripts_of l.plan-inside.patches.items)
+invariant-loop-callbacks g l = l.callbacks.items ≡ first_made l.callbacks.items (scripts_of l.plan-inside.patches.items)
 
 -- how many scripts are left
 abbrev pub decreases-loop-callbacks : goal.decreases-loop-callbacks
-decreases-loop-callbacks l = length (scripts_of l.plan-inside.patches.items) - length l.callbacks.items
+decreases-loop-callbacks g l = length (scripts_of l.plan-inside.patches.items) - length l.callbacks.items
