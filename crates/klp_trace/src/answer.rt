@@ -14,7 +14,7 @@ use klp_model::{Refusal, Reply};
 use klp_words::{LineWords, Separators, number64, shadow_value, signed};
 use std::alloc::{AllocError, Global};
 
-/// All refusals, which are few, so the one that a text tells is looked for.
+/// All refusals. They are few, so the one that a text tells is found by trying each.
 static REFUSALS: [Refusal; 18] = [
     Refusal::NoPatch,
     Refusal::Busy,
@@ -36,6 +36,7 @@ static REFUSALS: [Refusal; 18] = [
     Refusal::SameValue,
 ];
 
+/// Reads the word behind `pending`: how many tasks aren't at the target.
 fn pending_of(words: &mut LineWords<'_>) -> Option<Reply>
     ensures { result ≡ option_map Pending (next_as (decimal_of (2 ^ 8)) words.old) }
 {
@@ -43,12 +44,14 @@ fn pending_of(words: &mut LineWords<'_>) -> Option<Reply>
     Some(Reply::Pending(tasks))
 }
 
+/// Reads the word behind `completed`: 1 if the patch was enabled, 0 if it was disabled.
 fn completed_of(words: &mut LineWords<'_>) -> Option<Reply>
     ensures { result ≡ option_map Completed (next_as flag_of words.old) }
 {
     Some(Reply::Completed(flag_of(words.next()?)?))
 }
 
+/// Reads the words behind `prefailed`: a patch, an object and a status.
 fn pre_failed_of(words: &mut LineWords<'_>, manager: &Manager) -> Option<Reply>
     ensures { result ≡ pre_failed_of manager.now words.old }
 {
@@ -61,12 +64,14 @@ fn pre_failed_of(words: &mut LineWords<'_>, manager: &Manager) -> Option<Reply>
     Some(Reply::PreFailed(patch, object, signed(status)?))
 }
 
+/// Reads the word behind `value`: the value of a shadow variable.
 fn value_of(words: &mut LineWords<'_>) -> Option<Reply>
     ensures { result ≡ option_map Value (next_as shadow_value_of words.old) }
 {
     Some(Reply::Value(shadow_value(words.next()?)?))
 }
 
+/// Reads the word behind `freed`: how many shadow variables were freed.
 fn freed_of(words: &mut LineWords<'_>) -> Option<Reply>
     ensures { result ≡ option_map Freed (next_as (decimal_of (2 ^ 16)) words.old) }
 {
@@ -74,12 +79,15 @@ fn freed_of(words: &mut LineWords<'_>) -> Option<Reply>
     Some(Reply::Freed(count))
 }
 
+/// Reads the words behind `woken`: the functions that the task was inside of.
 fn woken_of(words: &mut LineWords<'_>, manager: &Manager) -> Option<Reply>
     ensures { result ≡ option_map Woken (frames_of manager.now words.old) }
 {
     Some(Reply::Woken(frames_of(words, manager)?))
 }
 
+/// Reads the reply that begins with this word. Words that are too many are passed over here: the whole text is compared
+/// with the console's once the reply is known.
 fn reply_with(first: &[u8], words: &mut LineWords<'_>, manager: &Manager) -> Option<Reply>
     ensures { result ≡ reply_with manager.now first.now words.old }
 {
@@ -106,7 +114,7 @@ fn reply_with(first: &[u8], words: &mut LineWords<'_>, manager: &Manager) -> Opt
     }
 }
 
-/// What a reply says by its words, before it is compared with the console's text of it.
+/// Reads the reply in a text, however its numbers are spelled. The text isn't compared with the console's yet.
 fn reply_in(text: &[u8], manager: &Manager) -> Option<Reply>
     ensures { result ≡ reply_in manager.now (words_between (separates Spaces) text.now) }
 {
@@ -115,7 +123,7 @@ fn reply_in(text: &[u8], manager: &Manager) -> Option<Reply>
     reply_with(first, &mut words, manager)
 }
 
-/// Whether a line, with its line feed, is of this text.
+/// Whether the line is this text with a line feed behind it.
 fn is_line_of(text: &[u8], line: &str) -> bool
     ensures { result ≡ is_line_of text.now line.now }
 {
@@ -125,7 +133,7 @@ fn is_line_of(text: &[u8], line: &str) -> bool
     }
 }
 
-/// The reply, if the console writes this text of it.
+/// Returns the reply as an answer if the console writes exactly this text of it. `Err` if memory runs out.
 fn as_written(
     alloc: Global,
     text: &[u8],
@@ -145,7 +153,7 @@ fn as_written(
     }
 }
 
-/// The refusal of which the console writes this text.
+/// Returns the refusal of which the console writes exactly this text. `None` if there is no such refusal.
 fn refusal_of(text: &[u8]) -> Option<Refusal>
     ensures { result ≡ refusal_of text.now }
 {
@@ -155,7 +163,8 @@ fn refusal_of(text: &[u8]) -> Option<Refusal>
         .copied()
 }
 
-/// The answer of which the console writes this text: byte by byte, so nothing else is taken for an answer.
+/// Returns the answer of which the console writes exactly this text. `None` if there is no such answer. `Err` if memory
+/// runs out.
 pub(crate) fn answer_of(
     alloc: Global,
     text: &[u8],

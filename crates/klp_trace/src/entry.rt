@@ -11,17 +11,18 @@ use klp_watch::Observed;
 use klp_words::microseconds;
 use std::alloc::{AllocError, Global};
 
-/// An item, and its time if its line has one in front.
+/// An item, with its time if its line has one in front.
 #[derive(Clone, Copy)]
 pub struct Timed<T> {
     pub item: T,
     pub time: Option<Microseconds>,
 }
 
-/// What a line says.
+/// What a line of a trace says.
 pub type Entry = Timed<Observed>;
 
-// Generic, as the borrow checker doesn't cover it for what is seen.
+/// Puts a time beside an item. `None` if there is no item. The function is generic, since the borrow checker doesn't
+/// cover it for [`Observed`].
 fn with_time<T: Drop>(item: Option<T>, time: Option<Microseconds>) -> Option<Timed<T>>
     ensures { result ≡ option_map (λ own. record { item = own; time = time }) item }
 {
@@ -31,7 +32,7 @@ fn with_time<T: Drop>(item: Option<T>, time: Option<Microseconds>) -> Option<Tim
     }
 }
 
-/// What a text says that has this time, if any.
+/// Reads an item whose line has this time, or none. `None` if the text is no item. `Err` if memory runs out.
 fn entry_at(
     alloc: Global,
     text: &[u8],
@@ -44,7 +45,8 @@ fn entry_at(
     Ok(with_time(item, time))
 }
 
-/// What a line says, if it is an item.
+/// Reads a line: an item, and its time if it has one. `None` if the line is no item, or if its time is none. `Err` if
+/// memory runs out.
 fn entry_of(alloc: Global, line: &[u8], manager: &Manager) -> Result<Option<Entry>, AllocError>
     ensures { IfOk result (λ entry. entry ≡ entry_of manager.now line.now) }
 {
@@ -57,7 +59,8 @@ fn entry_of(alloc: Global, line: &[u8], manager: &Manager) -> Result<Option<Entr
     }
 }
 
-/// The same behind lines of which this is the last time: what is at fault is told.
+/// Reads a line behind others, of which `last` is the last time. `Err` with what is wrong if the line is no item, if
+/// its time is before `last`, or if memory runs out.
 pub(crate) fn entry_behind(
     alloc: Global,
     last: Microseconds,

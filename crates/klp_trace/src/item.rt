@@ -14,7 +14,7 @@ use klp_watch::Observed;
 use klp_words::{LineWords, Separators};
 use std::alloc::{AllocError, Global};
 
-/// The words behind `call`: a task, and the symbol that it calls.
+/// Reads the words behind `call`: a task, and the symbol that it calls.
 fn call_of(words: &mut LineWords<'_>, manager: &Manager) -> Option<Observed>
     ensures { result ≡ call_of manager.now words.old }
 {
@@ -25,7 +25,7 @@ fn call_of(words: &mut LineWords<'_>, manager: &Manager) -> Option<Observed>
     Some(Observed::Seen(Seen::Call(task, site_of(symbol, manager)?)))
 }
 
-/// The word behind `return`: a task.
+/// Reads the word behind `return`: a task.
 fn return_of(words: &mut LineWords<'_>) -> Option<Observed>
     ensures { result ≡ return_of words.old }
 {
@@ -35,8 +35,8 @@ fn return_of(words: &mut LineWords<'_>) -> Option<Observed>
     Some(Observed::Seen(Seen::Return(task_of(task)?)))
 }
 
-/// The item that a text without an answer is, where this is the event that it asks for, if it asks for one. Names are
-/// looked up, and nothing of the manager's state is.
+/// Reads an item without an answer. `event` is the event that the text asks for as a line of the console, if it asks
+/// for one. Names are looked up in the manager's catalog, and its state is not.
 fn item_alone(text: &[u8], event: Option<Event>, manager: &Manager) -> Option<Observed>
     requires { event ≡ event_of manager.now text.now }
     ensures { result ≡ item_alone manager.now text.now }
@@ -60,7 +60,8 @@ fn item_alone(text: &[u8], event: Option<Event>, manager: &Manager) -> Option<Ob
     }
 }
 
-/// An event with its answer, which `?` leaves open.
+/// Reads what the kernel answered to an event. `?` is no answer, so then the item is the event alone. `None` if the
+/// console writes no such answer. `Err` if memory runs out.
 fn event_answered(
     alloc: Global,
     event: Event,
@@ -76,7 +77,8 @@ fn event_answered(
     Ok(answer.map(|answer| Observed::Answered(event, answer)))
 }
 
-/// An event in a line of its own, with its answer.
+/// Reads an event with its answer. `None` if the text asks for no event, or if the answer is none. `Err` if memory runs
+/// out.
 fn item_answered(
     alloc: Global,
     text: &[u8],
@@ -91,7 +93,7 @@ fn item_answered(
     }
 }
 
-/// The item that a text is, if it is one.
+/// Reads the item that a text is. `None` if it is none. `Err` if memory runs out.
 pub(crate) fn item_of(
     alloc: Global,
     text: &[u8],

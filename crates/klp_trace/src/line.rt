@@ -19,7 +19,8 @@ pub struct LineParts<'a> {
     pub answer: Option<&'a [u8]>,
 }
 
-/// The text of an item, and that of its answer.
+/// Splits a text at its first `=`, if `> ` follows there: into the text of an item and that of its answer. Else the
+/// whole text is the item's, and there is no answer.
 pub(crate) fn item_and_answer(text: &[u8]) -> (&[u8], Option<&[u8]>)
     ensures { MatchOption result.1
         ((starts_with nat_eq (after_first is_equals_sign text.now) (codes "> ") ≡ false) × (result.0.now ≡ text.now))
@@ -34,7 +35,8 @@ pub(crate) fn item_and_answer(text: &[u8]) -> (&[u8], Option<&[u8]>)
     }
 }
 
-/// The word behind the `@` of a line, and the text behind the space that ends it. `None` for a line without a time.
+/// Splits a line that begins with `@` into its time and the text behind that: the time ends at the first space. `None`
+/// if the line has no time.
 pub(crate) fn time_and_rest(line: &[u8]) -> Option<(&[u8], &[u8])>
     ensures { MatchOption result (starts_with nat_eq line.now (codes "@") ≡ false)
         (λ parts. (starts_with nat_eq line.now (codes "@") ≡ true)
@@ -46,7 +48,7 @@ pub(crate) fn time_and_rest(line: &[u8]) -> Option<(&[u8], &[u8])>
 }
 
 impl<'a> LineParts<'a> {
-    /// The parts of any line, also of one that is no item. It is for telling people of the line, and has no contract.
+    /// Splits any line into its parts, also one that is no item. This is for messages to people, and has no contract.
     pub fn of(line: &'a [u8]) -> LineParts<'a> {
         let (time, text) = match time_and_rest(line) {
             Some((time, text)) => (Some(time), text),

@@ -7,7 +7,7 @@ use klp_core::Manager;
 use klp_types::{Frames, MAX_TASKS, ObjId, PatchId, PatchState, Site, TaskId, Version};
 use klp_words::{LineWords, cut, is_name, number64, text};
 
-/// A task by its number, whether it is there or not.
+/// Reads the number of a task. There may be no such task. `None` if the word is no number below [`MAX_TASKS`].
 pub(crate) fn task_of(word: &[u8]) -> Option<TaskId>
     ensures { result ≡ task_of word.now }
 {
@@ -19,6 +19,7 @@ pub(crate) fn task_of(word: &[u8]) -> Option<TaskId>
     }
 }
 
+/// Reads the name of a patch. `None` if the catalog has no such patch.
 pub(crate) fn patch_of(word: &[u8], manager: &Manager) -> Option<PatchId>
     ensures { result ≡ patch_of manager.now word.now }
 {
@@ -28,7 +29,7 @@ pub(crate) fn patch_of(word: &[u8], manager: &Manager) -> Option<PatchId>
     manager.catalog().patch(text(word))
 }
 
-/// An object, loaded or not.
+/// Reads the name of an object, which may be loaded or not. `None` if the catalog has no such object.
 pub(crate) fn object_of(word: &[u8], manager: &Manager) -> Option<ObjId>
     ensures { result ≡ object_of manager.now word.now }
 {
@@ -39,7 +40,8 @@ pub(crate) fn object_of(word: &[u8], manager: &Manager) -> Option<ObjId>
     manager.modules().object(text(word))
 }
 
-/// `PATCH:INDEX`: a new function of a patch, whether the patch has it or not.
+/// Reads `PATCH:INDEX`, a new function of a patch. The patch may have no function of this index. `None` if the catalog
+/// has no such patch.
 fn new_function_of(word: &[u8], manager: &Manager) -> Option<Version>
     ensures { result ≡ new_function_of manager.now word.now }
 {
@@ -49,7 +51,8 @@ fn new_function_of(word: &[u8], manager: &Manager) -> Option<Version>
     Some(Version::New(patch, index))
 }
 
-/// The function that a frame spells, as the line of a sleeper has it: the original one of a symbol, or a new one.
+/// Reads a function as `task sleep` spells it: the original of a symbol, or a new function of a patch. `None` if the
+/// word is neither.
 pub(crate) fn version_of(word: &[u8], manager: &Manager) -> Option<Version>
     ensures { result ≡ version_of manager.now word.now }
 {
@@ -59,7 +62,7 @@ pub(crate) fn version_of(word: &[u8], manager: &Manager) -> Option<Version>
     }
 }
 
-/// The functions that words spell, innermost last. A task is inside of 32 at most.
+/// Reads the functions that a task is inside of, innermost last. `None` if a word is none, or if they are more than 32.
 pub(crate) fn frames_of(words: &mut LineWords<'_>, manager: &Manager) -> Option<Frames>
     ensures { result ≡ frames_of manager.now words.old }
 {
@@ -72,7 +75,7 @@ pub(crate) fn frames_of(words: &mut LineWords<'_>, manager: &Manager) -> Option<
     Some(frames)
 }
 
-/// The site at which a version is called.
+/// Returns the site at which a version is called. `None` for a new function that its patch doesn't have.
 pub(crate) fn site_of_version(version: Version, manager: &Manager) -> Option<Site>
     ensures { result ≡ site_of_version manager.now version }
 {
@@ -85,7 +88,7 @@ pub(crate) fn site_of_version(version: Version, manager: &Manager) -> Option<Sit
     }
 }
 
-/// The state of a task, as its `patch_state` file reads.
+/// Reads the state of a task, as its `patch_state` file has it: `-1`, `0` or `1`.
 pub(crate) fn state_of(word: &[u8]) -> Option<PatchState>
     ensures { result ≡ state_of word.now }
 {
@@ -100,7 +103,7 @@ pub(crate) fn state_of(word: &[u8]) -> Option<PatchState>
     }
 }
 
-/// What a file of a patch reads.
+/// Reads what a file of a patch has: `0` or `1`.
 pub(crate) fn flag_of(word: &[u8]) -> Option<bool>
     ensures { result ≡ flag_of word.now }
 {

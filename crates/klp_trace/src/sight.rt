@@ -9,6 +9,7 @@ use klp_types::{TaskId, Version};
 use klp_watch::{PatchFiles, Sight};
 use klp_words::LineWords;
 
+/// Reads a task, and the state that it has.
 fn state_seen(task: &[u8], state: &[u8]) -> Option<Sight>
     ensures { result ≡ state_seen task.now state.now }
 {
@@ -16,12 +17,14 @@ fn state_seen(task: &[u8], state: &[u8]) -> Option<Sight>
     Some(Sight::State(task, Some(state_of(state)?)))
 }
 
+/// Reads the name of a patch that has no files.
 fn gone_seen(patch: &[u8], manager: &Manager) -> Option<Sight>
     ensures { result ≡ gone_seen manager.now patch.now }
 {
     Some(Sight::Files(patch_of(patch, manager)?, None))
 }
 
+/// Reads a patch, and what its files have.
 fn files_seen(patch: &[u8], enabled: &[u8], transition: &[u8], manager: &Manager) -> Option<Sight>
     ensures { result ≡ files_seen manager.now patch.now enabled.now transition.now }
 {
@@ -37,7 +40,7 @@ fn files_seen(patch: &[u8], enabled: &[u8], transition: &[u8], manager: &Manager
     ))
 }
 
-/// The words behind `saw`: a task and its state, or a patch and what its files read.
+/// Reads the words behind `saw`: a task and its state, or a patch and what its files have.
 pub(crate) fn saw_of(words: &mut LineWords<'_>, manager: &Manager) -> Option<Sight>
     ensures { result ≡ saw_of manager.now words.old }
 {
@@ -56,13 +59,15 @@ pub(crate) fn saw_of(words: &mut LineWords<'_>, manager: &Manager) -> Option<Sig
     }
 }
 
+/// Returns that a task ran this version when it called the function of the version's site. `None` if the version is a
+/// new function that its patch doesn't have.
 fn version_seen(task: TaskId, version: Version, manager: &Manager) -> Option<Sight>
     ensures { result ≡ version_seen manager.now task version }
 {
     site_of_version(version, manager).map(|site| Sight::Version(task, site, version))
 }
 
-/// The words behind `ran`: a task, and the version that it ran.
+/// Reads the words behind `ran`: a task, and the version that it ran.
 pub(crate) fn ran_of(words: &mut LineWords<'_>, manager: &Manager) -> Option<Sight>
     ensures { result ≡ ran_of manager.now words.old }
 {
@@ -73,7 +78,7 @@ pub(crate) fn ran_of(words: &mut LineWords<'_>, manager: &Manager) -> Option<Sig
     version_seen(task, version_of(frame, manager)?, manager)
 }
 
-/// The word behind `hooked` or `plain`: the symbol whose text was read.
+/// Reads the word behind `hooked` or `plain`: the symbol whose text was read.
 pub(crate) fn text_of(words: &mut LineWords<'_>, hooked: bool, manager: &Manager) -> Option<Sight>
     ensures { result ≡ text_of manager.now hooked words.old }
 {

@@ -13,7 +13,7 @@ use klp_model::{Refusal, Reply};
 use klp_types::{Frames, ObjId, PatchId, ShadowValue, Site, Version};
 use std::alloc::{AllocError, Global};
 
-/// The line of a refusal, with its line feed.
+/// Returns the line of a refusal, with its line feed.
 pub(crate) fn refusal_line(refusal: Refusal) -> &'static str
     ensures { result.now ≡ refusal_text refusal }
 {
@@ -39,12 +39,14 @@ pub(crate) fn refusal_line(refusal: Refusal) -> &'static str
     }
 }
 
+/// Returns the name of a patch. Empty if the catalog has no such patch.
 fn patch_name(manager: &Manager, patch: PatchId) -> &str
     ensures { result.now ≡ patch_name manager.now.managed.catalog patch }
 {
     manager.catalog().patch_name(patch).unwrap_or("")
 }
 
+/// Returns the name of an object. Empty if the catalog has no such object.
 fn object_name(manager: &Manager, object: ObjId) -> &str
     ensures { result.now ≡ object_name manager.now.managed.catalog.names object }
 {
@@ -52,7 +54,7 @@ fn object_name(manager: &Manager, object: ObjId) -> &str
     manager.modules().object_name(object).unwrap_or("")
 }
 
-/// ` .klp.sym.OBJECT.SYMBOL,POSITION`
+/// Writes ` .klp.sym.OBJECT.SYMBOL,POSITION`, with a space in front.
 fn symbol_text(
     alloc: Global,
     object: &str,
@@ -71,7 +73,7 @@ fn symbol_text(
     Ok(text)
 }
 
-/// An original function, by its symbol and the position from 1.
+/// Writes an original function by its symbol, behind a space. The position among symbols of that name counts from 1.
 fn original_text(alloc: Global, manager: &Manager, site: Site) -> Result<String, AllocError>
     ensures { IfOk result (λ text. string_bytes text ≡ frame_text manager.now.managed.catalog (Original site)) }
 {
@@ -84,7 +86,7 @@ fn original_text(alloc: Global, manager: &Manager, site: Site) -> Result<String,
     }
 }
 
-/// ` PATCH:INDEX`
+/// Writes ` PATCH:INDEX`, with a space in front.
 fn new_text(alloc: Global, patch: &str, function: u16) -> Result<String, AllocError>
     ensures { IfOk result (λ text. string_bytes text ≡ codes " " ++ patch.now ++ codes ":" ++ decimal function) }
 {
@@ -95,7 +97,7 @@ fn new_text(alloc: Global, patch: &str, function: u16) -> Result<String, AllocEr
     Ok(text)
 }
 
-/// A function that a task was inside of, behind a space.
+/// Writes a function that a task was inside of, behind a space.
 fn frame_text(alloc: Global, manager: &Manager, version: Version) -> Result<String, AllocError>
     ensures { IfOk result (λ text. string_bytes text ≡ frame_text manager.now.managed.catalog version) }
 {
@@ -105,7 +107,7 @@ fn frame_text(alloc: Global, manager: &Manager, version: Version) -> Result<Stri
     }
 }
 
-/// Functions that a task was inside of, outermost first.
+/// Writes the functions that a task was inside of, each behind a space, the outermost first.
 fn frames_text(alloc: Global, manager: &Manager, versions: &[Version]) -> Result<String, AllocError>
     ensures { IfOk result (λ text. string_bytes text ≡ frames_text manager.now.managed.catalog versions.now) }
 {
@@ -116,6 +118,7 @@ fn frames_text(alloc: Global, manager: &Manager, versions: &[Version]) -> Result
     Ok(text)
 }
 
+/// Writes the line of a task that woke up, with the functions that it was inside of.
 fn woken_text(alloc: Global, manager: &Manager, frames: &Frames) -> Result<String, AllocError>
     ensures { IfOk result (λ text. string_bytes text ≡ reply_text manager.now.managed.catalog (Woken frames.now)) }
 {
@@ -123,6 +126,7 @@ fn woken_text(alloc: Global, manager: &Manager, frames: &Frames) -> Result<Strin
     format!(in alloc; "woken{frames}\n")
 }
 
+/// Writes the line of a shadow variable's value.
 fn value_text(alloc: Global, value: &ShadowValue) -> Result<String, AllocError>
     ensures { IfOk result (λ text. string_bytes text ≡ codes "value " ++ value_text value.now ++ codes "\n") }
 {
@@ -135,6 +139,7 @@ fn value_text(alloc: Global, value: &ShadowValue) -> Result<String, AllocError>
     }
 }
 
+/// Writes the line of a patch that wasn't enabled, since the pre-patch callback for an object returned this status.
 fn pre_failed_text(
     alloc: Global,
     patch: &str,
@@ -153,7 +158,7 @@ fn pre_failed_text(
     Ok(text)
 }
 
-/// The line of a reply, with its line feed.
+/// Writes the line of a reply, with its line feed.
 pub(crate) fn reply_text(
     alloc: Global,
     manager: &Manager,
@@ -178,7 +183,7 @@ pub(crate) fn reply_text(
     }
 }
 
-/// What the console writes of an answer, with its line feed.
+/// Returns the line that the console writes of an answer, with its line feed. `Err` if memory runs out.
 pub fn answer_text(
     alloc: Global,
     manager: &Manager,

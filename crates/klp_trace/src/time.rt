@@ -17,6 +17,7 @@ impl Model for Microseconds {
 }
 
 impl Microseconds {
+    /// Whether this time is earlier than the other.
     pub(crate) fn is_before(self, other: Microseconds) -> bool
         ensures { result ≡ nat_lt self other }
     {

@@ -30,8 +30,9 @@ pub struct Trace {
     pub times: Vec<Option<Microseconds>>,
 }
 
-/// Puts what was read behind the items that are there, and answers the last time then, which this was before. What wasn't
-/// read is at fault as before. It is generic, as the borrow checker doesn't cover it for what is seen.
+/// Adds an item that was read, and its time, and returns the last time then: the item's own, or `last` if it has none.
+/// `Err` if nothing was read, with the same fault, or if memory runs out. The function is generic, since the borrow
+/// checker doesn't cover it for [`Observed`].
 fn take<T: Drop>(
     items: &mut Vec<T>,
     times: &mut Vec<Option<Microseconds>>,
@@ -55,8 +56,8 @@ fn take<T: Drop>(
 }
 
 impl Trace {
-    /// The items of a text, one a line, or its first line that is at fault. Names are those of the manager's
-    /// catalog, and nothing of its state is asked. Memory is taken for the items as they come.
+    /// Reads a trace, which has one item on each line. `Err` with the first line that is at fault. Names are looked up
+    /// in the manager's catalog, and its state is not. Memory is taken for the items as they come.
     pub fn read(alloc: Global, text: &[u8], manager: &Manager) -> Result<Trace, TraceFault>
         ensures read { IfOk result (λ trace. IsTraceOf manager.now text.now trace.items.items trace.times.items) }
         ensures fault { IfErr result (λ fault. IsTraceFault manager.now (lines text.now) fault.line fault.kind) }
