@@ -6,7 +6,6 @@ use crate::followed::{Followed, Held};
 use crate::run::{Moved, Run};
 use crate::time::{Elapsed, Moment};
 use klp_core::Lag;
-use klp_program::Verdict;
 use klp_types::{Mode, Version};
 use std::fmt;
 use std::io;
@@ -127,7 +126,12 @@ impl<'a> Explained<'a> {
         let time = Elapsed(moved.from, moved.to);
         let is_moving = self.run.files.get(moved.patch).copied().unwrap_or(None);
         if !matches!(is_moving, Some((_, true))) {
-            writeln!(out, "{name} was being {way} from {from} s, for {time} s, and that is complete")?;
+            let end = match is_moving {
+                Some((true, false)) if !moved.target => "that was reversed, and it is enabled again",
+                None if moved.target => "that was reversed, and it is gone again",
+                _ => "that is complete",
+            };
+            writeln!(out, "{name} was being {way} from {from} s, for {time} s, and {end}")?;
             return self.run.print_holders(moved, true, out);
         }
         writeln!(out, "{name} is being {way} since {from} s, for {time} s so far")?;
@@ -151,11 +155,6 @@ impl<'a> Explained<'a> {
             writeln!(out, "  {left_out} followed tasks were left out: at most 64 are told")?;
         }
         Ok(())
-    }
-
-    /// Whether some run of the rules shows what was recorded.
-    pub fn is_explained(&self) -> bool {
-        self.failed.is_none() && matches!(self.verdict, Verdict::Honest(_))
     }
 
     fn print_verdict<W: Write>(&self, capture: &Capture<'a>, out: &mut W) -> io::Result<()> {

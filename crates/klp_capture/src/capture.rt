@@ -13,7 +13,7 @@ pub(crate) struct Span {
 }
 
 impl Span {
-    const EMPTY: Span = Span { from: 0, to: 0 };
+    pub(crate) const EMPTY: Span = Span { from: 0, to: 0 };
 
     /// These items. None of them if the list has fewer.
     pub(crate) fn of<T>(self, items: &[T]) -> &[T] {

@@ -1,8 +1,11 @@
 //! A log explained: a catalog of what it names, a run of the rules that shows it, and whether that is one.
-ghost use Rattle.std.specs.Prelude.{◌≤◌, length};
+ghost use Rattle.std.specs.Prelude.{◌≡◌, ◌≤◌, true, length, string_bytes, Ok, IfOk};
 ghost use Rattle.klp_catalog_text.specs.Within.{AreTargetsWithin};
+ghost use Rattle.klp_program.specs.Watches.{Watches};
+ghost use Rattle.klp_capture.specs.Explained.{is_honest};
 
 use crate::capture::Capture;
+use crate::catalog::Text;
 use crate::functions::Functions;
 use crate::run::Run;
 use crate::time::Moment;
@@ -31,9 +34,34 @@ pub struct Explained<'a> {
 }
 
 impl<'a> Explained<'a> {
+    /// Whether a run of the rules shows all that was recorded: each sample is in the trace, and the trace is honest.
+    pub fn is_explained(&self) -> bool
+        ensures { result ≡ true → is_honest self.now.verdict ≡ true }
+    {
+        match self.verdict {
+            Verdict::Honest(_) => self.failed.is_none(),
+            _ => false,
+        }
+    }
+
     /// The trace that shows what the log has, up to the sample that nothing leads to.
-    pub fn trace(&self) -> &str {
+    pub fn trace(&self) -> &str
+        ensures { result.now ≡ string_bytes self.now.run.trace }
+    {
         self.run.trace.as_str()
+    }
+}
+
+impl<'a> Explained<'a> {
+    /// A text of names (`klppage CATALOG SCRIPT NAMES`): what each task of the trace is called.
+    pub fn names(&self, alloc: Global) -> Result<String, AllocError> {
+        let mut text = String::new(alloc);
+        for (number, task) in self.run.tasks.iter().enumerate() {
+            let name = Text(task.name);
+            let thread = task.thread;
+            writeln!(text, "task {number} {name}[{thread}]")?;
+        }
+        Ok(text)
     }
 }
 
@@ -80,8 +108,12 @@ fn explore_over_plan<'a>(
     Ok(explore_by(alloc, manager, run, capture, forced)?)
 }
 
-/// Explains a log.
-pub fn explained<'a>(alloc: Global, capture: &Capture<'a>) -> Result<Explained<'a>, Fault> {
+/// Explains a log: makes a catalog of what it names, and looks for a run of the rules that shows each sample. The verdict
+/// is that of `klpwatch` on the trace that was found, over that catalog.
+pub fn explain<'a>(alloc: Global, capture: &Capture<'a>) -> Result<Explained<'a>, Fault>
+    ensures judged { IfOk result
+        (λ found. Watches (string_bytes found.catalog) (string_bytes found.run.trace) (Ok found.verdict)) }
+{
     let functions = Functions::of(alloc, capture)?;
     let catalog = functions.catalog(alloc)?;
     let mut run = Run::new(alloc, functions)?;

@@ -1,5 +1,5 @@
 //! The functions that the patches of a log change: a catalog of what it names, and which of them a task is inside of.
-use crate::capture::{Capture, PatchRow};
+use crate::capture::{Capture, PatchRow, Span};
 use crate::line::{FrameLine, SymbolLine};
 use klp_types::{MAX_OBJECTS, MAX_PATCHES, MAX_SITES};
 use std::alloc::{AllocError, Global};
@@ -145,10 +145,11 @@ fn index_of<'a>(
 
 /// What the first sample tells of the patches.
 fn first_rows<'c, 'a>(capture: &'c Capture<'a>) -> &'c [PatchRow<'a>] {
-    match capture.samples.first() {
-        Some(sample) => sample.patches.of(&capture.rows),
-        None => &[],
-    }
+    let span = match capture.samples.first() {
+        Some(sample) => sample.patches,
+        None => Span::EMPTY,
+    };
+    span.of(&capture.rows)
 }
 
 /// The names of the patches, the oldest first. Those of the first sample are sorted by their modules.

@@ -554,6 +554,24 @@ fn mode_of(seen: &Sighting) -> Mode {
 }
 
 impl<'a> Followed<'a> {
+    /// It lags so in a sample of this moment, or doesn't. It holds the transition up since the first of the samples that
+    /// follow one another in which it does so in the same function.
+    fn note_lag(&mut self, lag: Option<Lag>, moment: Moment) {
+        if let Some(Lag::Holds(version)) = lag {
+            let is_same = self.lag == lag;
+            let from = match self.held {
+                Some(held) if is_same => held.from,
+                _ => moment,
+            };
+            self.held = Some(Held {
+                from,
+                to: moment,
+                version,
+            });
+        }
+        self.lag = lag;
+    }
+
     /// It has begun, and is where it was seen first.
     fn settle_begun(&mut self, facts: &Facts, seen: Sighting) {
         let is_outside = seen.activity == Activity::Running && seen.places.is_empty();
@@ -702,18 +720,10 @@ impl<'a> Run<'a> {
             to: moment,
         });
         let lags = manager.holders();
-        for (task, lag) in self.tasks.iter_mut().zip(&lags) {
-            task.lag = *lag;
-            if let Some(Lag::Holds(version)) = lag {
-                let from = match task.held {
-                    Some(held) if held.version == *version => held.from,
-                    _ => moment,
-                };
-                task.held = Some(Held {
-                    from,
-                    to: moment,
-                    version: *version,
-                });
+        for number in 0..self.tasks.len() {
+            let lag = lags.get(number).copied().unwrap_or(None);
+            if let Some(task) = self.tasks.get_mut(number) {
+                task.note_lag(lag, moment);
             }
         }
     }
