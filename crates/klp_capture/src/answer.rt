@@ -7,9 +7,8 @@ use crate::run::{Moved, Run};
 use crate::time::{Elapsed, Moment};
 use klp_core::Lag;
 use klp_types::{Mode, Version};
-use std::fmt;
-use std::io;
 use std::io::Write;
+use std::{fmt, io};
 
 /// A task, by its name and its thread's number: `billing[90]`.
 #[derive(Clone, Copy)]
@@ -64,13 +63,23 @@ impl<'a> Run<'a> {
         let name = Called(task);
         let function = self.function_name(held.version);
         let since = held.from.max(moved.from);
-        let kind = if task.is_kernel_thread { ", a kernel thread," } else { "" };
+        let kind = if task.is_kernel_thread {
+            ", a kernel thread,"
+        } else {
+            ""
+        };
         if is_over || held.to < moved.to {
             let until = held.to;
-            return writeln!(out, "  {name}{kind} held it up, asleep in {function}, from {since} s to {until} s");
+            return writeln!(
+                out,
+                "  {name}{kind} held it up, asleep in {function}, from {since} s to {until} s"
+            );
         }
         let time = Elapsed(since, moved.to);
-        writeln!(out, "  {name}{kind} holds it up: asleep in {function} since {since} s or before, for {time} s")
+        writeln!(
+            out,
+            "  {name}{kind} holds it up: asleep in {function} since {since} s or before, for {time} s"
+        )
     }
 
     fn print_holders<W: Write>(&self, moved: &Moved, is_over: bool, out: &mut W) -> io::Result<()> {
@@ -90,10 +99,16 @@ impl<'a> Run<'a> {
             let name = Called(task);
             match task.lag {
                 Some(Lag::Waits(Mode::Asleep)) => {
-                    writeln!(out, "  {name} lags, asleep in no function that the patch changes: the next try switches it")?;
+                    writeln!(
+                        out,
+                        "  {name} lags, asleep in no function that the patch changes: the next try switches it"
+                    )?;
                 }
                 Some(Lag::Waits(_)) => {
-                    writeln!(out, "  {name} lags, and runs: it is switched when it next leaves the kernel")?;
+                    writeln!(
+                        out,
+                        "  {name} lags, and runs: it is switched when it next leaves the kernel"
+                    )?;
                 }
                 _ => {}
             }
@@ -108,9 +123,15 @@ impl<'a> Run<'a> {
                 let name = Called(task);
                 let function = self.function_name(version);
                 if is_forced {
-                    writeln!(out, "  the force left {name} asleep in {function}, which no task calls any more")?;
+                    writeln!(
+                        out,
+                        "  the force left {name} asleep in {function}, which no task calls any more"
+                    )?;
                 } else {
-                    writeln!(out, "  forced now, {name} would sleep on in {function}, which no task calls any more")?;
+                    writeln!(
+                        out,
+                        "  forced now, {name} would sleep on in {function}, which no task calls any more"
+                    )?;
                 }
             }
         }
@@ -119,7 +140,12 @@ impl<'a> Run<'a> {
 }
 
 impl<'a> Explained<'a> {
-    fn print_transition<W: Write>(&self, capture: &Capture<'a>, moved: &Moved, out: &mut W) -> io::Result<()> {
+    fn print_transition<W: Write>(
+        &self,
+        capture: &Capture<'a>,
+        moved: &Moved,
+        out: &mut W,
+    ) -> io::Result<()> {
         let name = self.run.patch_name(moved.patch);
         let way = direction(moved.target);
         let from = moved.from;
@@ -127,14 +153,21 @@ impl<'a> Explained<'a> {
         let is_moving = self.run.files.get(moved.patch).copied().unwrap_or(None);
         if !matches!(is_moving, Some((_, true))) {
             let end = match is_moving {
-                Some((true, false)) if !moved.target => "that was reversed, and it is enabled again",
+                Some((true, false)) if !moved.target =>
+                    "that was reversed, and it is enabled again",
                 None if moved.target => "that was reversed, and it is gone again",
                 _ => "that is complete",
             };
-            writeln!(out, "{name} was being {way} from {from} s, for {time} s, and {end}")?;
+            writeln!(
+                out,
+                "{name} was being {way} from {from} s, for {time} s, and {end}"
+            )?;
             return self.run.print_holders(moved, true, out);
         }
-        writeln!(out, "{name} is being {way} since {from} s, for {time} s so far")?;
+        writeln!(
+            out,
+            "{name} is being {way} since {from} s, for {time} s so far"
+        )?;
         self.run.print_holders(moved, false, out)?;
         self.run.print_waiting(out)?;
         self.print_uncounted(capture, out)?;
@@ -146,13 +179,23 @@ impl<'a> Explained<'a> {
         let Some(sample) = self.run.last.and_then(|last| capture.samples.get(last)) else {
             return Ok(());
         };
-        let (running, sleeping, tasks) = (sample.line.running, sample.line.sleeping, sample.line.tasks);
+        let (running, sleeping, tasks) = (
+            sample.line.running,
+            sample.line.sleeping,
+            sample.line.tasks,
+        );
         if running > 0 || sleeping > 0 {
-            writeln!(out, "  of {tasks} tasks {running} more lag and run, and {sleeping} more lag asleep elsewhere")?;
+            writeln!(
+                out,
+                "  of {tasks} tasks {running} more lag and run, and {sleeping} more lag asleep elsewhere"
+            )?;
         }
         if self.run.left_out > 0 {
             let left_out = self.run.left_out;
-            writeln!(out, "  {left_out} followed tasks were left out: at most 64 are told")?;
+            writeln!(
+                out,
+                "  {left_out} followed tasks were left out: at most 64 are told"
+            )?;
         }
         Ok(())
     }
@@ -160,7 +203,10 @@ impl<'a> Explained<'a> {
     fn print_verdict<W: Write>(&self, capture: &Capture<'a>, out: &mut W) -> io::Result<()> {
         let samples = self.run.shown;
         if let Some(at) = self.forced {
-            writeln!(out, "the transition was forced at {at} s: what came then isn't held against the rules")?;
+            writeln!(
+                out,
+                "the transition was forced at {at} s: what came then isn't held against the rules"
+            )?;
         }
         if self.is_explained() {
             return writeln!(out, "a run of the rules shows each of {samples} samples");
@@ -168,7 +214,10 @@ impl<'a> Explained<'a> {
         match self.failed.and_then(|failed| capture.samples.get(failed)) {
             Some(sample) => {
                 let (from, to) = (sample.line.from, sample.line.to);
-                writeln!(out, "no run of the rules shows the sample from {from} s to {to} s")
+                writeln!(
+                    out,
+                    "no run of the rules shows the sample from {from} s to {to} s"
+                )
             }
             None => writeln!(out, "no run of the rules shows the samples"),
         }
@@ -178,14 +227,20 @@ impl<'a> Explained<'a> {
     pub fn print<W: Write>(&self, capture: &Capture<'a>, out: &mut W) -> io::Result<()> {
         for file in &capture.missing {
             let file = Text(*file);
-            writeln!(out, "the kernel doesn't show {file}: is this root, and is it configured?")?;
+            writeln!(
+                out,
+                "the kernel doesn't show {file}: is this root, and is it configured?"
+            )?;
         }
         match self.run.moved {
             Some(moved) => self.print_transition(capture, &moved, out)?,
             None => writeln!(out, "no patch was in transition")?,
         }
         if !capture.is_whole {
-            writeln!(out, "the log was cut off: what is told is as of its last whole sample")?;
+            writeln!(
+                out,
+                "the log was cut off: what is told is as of its last whole sample"
+            )?;
         }
         self.print_verdict(capture, out)
     }

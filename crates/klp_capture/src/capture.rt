@@ -178,9 +178,8 @@ impl<'a> Capture<'a> {
         };
         let thread = last.task.thread;
         let start = last.task.start;
-        let same = before
-            .iter()
-            .rfind(|seen| seen.task.thread == thread && seen.task.start == start);
+        let same = before.iter().rfind(|seen| seen.task.thread == thread
+            && seen.task.start == start);
         match same {
             Some(seen) => {
                 last.frames = seen.frames;

@@ -24,7 +24,11 @@ impl fmt::Display for Text<'_> {
 
 impl Functions<'_> {
     /// Writes the symbol of a function, as the console spells it.
-    pub(crate) fn write_symbol(&self, text: &mut String, function: usize) -> Result<(), AllocError> {
+    pub(crate) fn write_symbol(
+        &self,
+        text: &mut String,
+        function: usize,
+    ) -> Result<(), AllocError> {
         let Some(function) = self.functions.get(function) else {
             return Ok(());
         };

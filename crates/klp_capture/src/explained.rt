@@ -67,7 +67,9 @@ impl<'a> Explained<'a> {
 
 /// Whether bytes have others among them.
 fn contains(bytes: &[u8], wanted: &[u8]) -> bool {
-    bytes.windows(wanted.len().max(1)).any(|window| window == wanted)
+    bytes
+        .windows(wanted.len().max(1))
+        .any(|window| window == wanted)
 }
 
 /// When a transition was forced, by the kernel's log.
@@ -85,6 +87,7 @@ fn explore_by<'a>(
     forced: Option<Moment>,
 ) -> Result<Option<usize>, AllocError> {
     let mut manager = manager;
+    let _for_its_clause = manager.mark();
     let failed = run.explore(alloc, &mut manager, capture, forced);
     close(manager);
     failed

@@ -1,4 +1,6 @@
 //! Whether lines of a trace lead to what they say is seen.
+ghost use Rattle.klp_core.specs.Journaled.{IsWellFormed};
+
 use klp_core::Manager;
 use klp_model::Seen;
 use klp_trace::Trace;
@@ -41,7 +43,9 @@ fn shows(manager: &Manager, sight: &Sight) -> bool {
 }
 
 /// Takes an event, or compares what is shown.
-fn holds(manager: &mut Manager, item: &Observed) -> bool {
+fn holds(manager: &mut Manager, item: &Observed) -> bool
+    requires { IsWellFormed manager.old }
+{
     match item {
         Observed::Seen(Seen::Event(event)) => manager.apply_without_reply(event).is_ok(),
         Observed::Seen(_) => true,
@@ -52,11 +56,14 @@ fn holds(manager: &mut Manager, item: &Observed) -> bool {
 
 /// Whether a manager takes the events of these lines, and shows between them what they say. Calls are compared by the
 /// versions that ran. The events that it took stay.
-pub(crate) fn fits(alloc: Global, manager: &mut Manager, text: &str) -> bool {
+pub(crate) fn fits(alloc: Global, manager: &mut Manager, text: &str) -> bool
+    requires { IsWellFormed manager.old }
+{
     let Ok(trace) = Trace::read(alloc, text.as_bytes(), manager) else {
         return false;
     };
     for item in &trace.items {
+        let _for_its_clause = manager.mark();
         if !holds(manager, item) {
             return false;
         }

@@ -9,10 +9,12 @@ const KERNEL: &[u8] = b"vmlinux";
 
 /// The function that patched functions call, and where it is if the log doesn't say.
 const HANDLER: &[u8] = b"klp_ftrace_handler";
+
 const HANDLER_ADDRESS: u64 = 0xffff_ffff_8100_0000;
 
 /// What stands for an address that the log doesn't have, and how far the next one is.
 const FIRST_ADDRESS: u64 = 0xffff_ffff_cf00_0000;
+
 const ADDRESS_STEP: u64 = 16;
 
 /// What the names of new functions begin with, before the name of the function that they replace: the same name

@@ -21,7 +21,10 @@ impl<'r> PatchLines<'r> {
     fn echo(&mut self, value: bool) -> Result<(), AllocError> {
         let name = Text(self.name);
         let value = u8::from(value);
-        writeln!(self.text, "echo {value} > /sys/kernel/livepatch/{name}/enabled")
+        writeln!(
+            self.text,
+            "echo {value} > /sys/kernel/livepatch/{name}/enabled"
+        )
     }
 
     fn poll(&mut self) -> Result<(), AllocError> {

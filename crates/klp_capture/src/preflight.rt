@@ -1,5 +1,5 @@
 //! Before a patch is loaded: who is inside of the functions that it would change.
-use crate::capture::{Capture, SeenTask};
+use crate::capture::{Capture, SeenTask, Span};
 use crate::catalog::Text;
 use crate::line::Activity;
 use std::io;
@@ -23,12 +23,12 @@ impl<'a> Capture<'a> {
 
     /// Writes who would hold a transition up that started now, and in which function.
     pub fn print_preflight<W: Write>(&self, out: &mut W) -> io::Result<()> {
-        let tasks = match self.samples.last() {
-            Some(sample) => sample.tasks.of(&self.seen),
-            None => &[],
+        let span = match self.samples.last() {
+            Some(sample) => sample.tasks,
+            None => Span::EMPTY,
         };
         let mut holders: u64 = 0;
-        for seen in tasks {
+        for seen in span.of(&self.seen) {
             let Some(function) = self.asked_of(seen) else {
                 continue;
             };
@@ -36,11 +36,20 @@ impl<'a> Capture<'a> {
             let function = Text(function);
             if seen.task.is_stable && seen.task.activity == Activity::Asleep {
                 holders = holders.saturating_add(1);
-                writeln!(out, "{name}[{thread}] would hold it up: it is asleep in {function}")?;
+                writeln!(
+                    out,
+                    "{name}[{thread}] would hold it up: it is asleep in {function}"
+                )?;
             } else {
-                writeln!(out, "{name}[{thread}] runs, and was seen in {function}: it may hold it up")?;
+                writeln!(
+                    out,
+                    "{name}[{thread}] runs, and was seen in {function}: it may hold it up"
+                )?;
             }
         }
-        writeln!(out, "if these functions were patched now, {holders} tasks would hold it up")
+        writeln!(
+            out,
+            "if these functions were patched now, {holders} tasks would hold it up"
+        )
     }
 }

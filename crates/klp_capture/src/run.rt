@@ -3,12 +3,14 @@
 //! A log says what was, not what happened. Between two samples this looks for events that the rules allow, and that lead
 //! from one to the next: it tries lines of a trace on a manager, compares what is shown then, and takes them back where it
 //! isn't as the log has it. It needs no trust: what it finds is a trace, which is held against the rules as any other.
+ghost use Rattle.klp_core.specs.Journaled.{IsWellFormed};
+
 use crate::capture::{Capture, PatchRow, Sample, SeenTask};
+use crate::catalog::Text;
 use crate::fits::fits;
 use crate::followed::{Followed, Held, Sighting, TaskLines};
 use crate::functions::{Functions, Place, files_in, is_changing, moving_in};
 use crate::line::{Activity, PatchedState};
-use crate::catalog::Text;
 use crate::patches::{Files, PatchLines, completes, starts};
 use crate::time::Moment;
 use klp_core::{Lag, Manager};
@@ -158,9 +160,9 @@ impl<'a> Run<'a> {
 
     /// The number of a thread that hasn't ended.
     fn number_of(&self, thread: u64, start: u64) -> Option<usize> {
-        self.tasks
-            .iter()
-            .position(|task| task.thread == thread && task.start == start && !task.has_ended)
+        self.tasks.iter().position(|task| task.thread == thread
+            && task.start == start
+            && !task.has_ended)
     }
 
     /// The patch in transition in the last sample, with its target.
@@ -215,28 +217,24 @@ impl<'a> Run<'a> {
 
 /// Where a transition that starts in a sample ends: the number of the first sample that shows another one, or none.
 fn end_of_transition(capture: &Capture<'_>, number: usize) -> usize {
-    let rows = |sample: &Sample| moving_in(sample.patches.of(&capture.rows));
-    let Some(first) = capture.samples.get(number) else {
+    let samples = capture.samples.get(number..).unwrap_or(&[]);
+    let Some(first) = samples.first() else {
         return number;
     };
-    let moving = rows(first);
-    let mut end = number.saturating_add(1);
-    while let Some(sample) = capture.samples.get(end) {
-        if moving.is_none() || rows(sample) != moving {
-            return end;
-        }
-        end = end.saturating_add(1);
+    let moving = moving_in(first.patches.of(&capture.rows));
+    let next = number.saturating_add(1);
+    if moving.is_none() {
+        return next;
     }
-    end
+    let others = samples.iter().skip(1).take_while(|sample| moving_in(
+        sample.patches.of(&capture.rows),
+    ) == moving);
+    next.saturating_add(others.count())
 }
 
 impl<'a> Run<'a> {
     /// What the files of each patch read in a sample.
-    fn files_at(
-        &self,
-        alloc: Global,
-        rows: &[PatchRow<'a>],
-    ) -> Result<Vec<Files>, AllocError> {
+    fn files_at(&self, alloc: Global, rows: &[PatchRow<'a>]) -> Result<Vec<Files>, AllocError> {
         let mut files = Vec::new(alloc);
         for patch in &self.functions.patches {
             files.push(files_in(rows, patch.name))?;
@@ -247,12 +245,9 @@ impl<'a> Run<'a> {
     /// Whether a patch is gone since a cumulative one replaced it: the other's transition completed.
     fn is_replaced(&self, patch: usize, after: &[Files]) -> bool {
         let pairs = self.files.iter().zip(after);
-        pairs
-            .zip(&self.functions.patches)
-            .enumerate()
-            .any(|(other, ((before, after), found))| {
-                other != patch && found.is_cumulative && completes(*before, *after, false)
-            })
+        pairs.zip(&self.functions.patches).enumerate().any(|(other, ((before, after), found))| {
+            other != patch && found.is_cumulative && completes(*before, *after, false)
+        })
     }
 
     /// What a sample says, and what has to be told before it.
@@ -419,7 +414,14 @@ impl<'r, 'a> Lines<'r, 'a> {
     /// Which modules were loaded.
     fn add_loads(&mut self, loads: &[usize]) -> Result<(), AllocError> {
         for object in loads {
-            let name = Text(self.run.functions.objects.get(*object).copied().unwrap_or(b""));
+            let name = Text(
+                self.run
+                    .functions
+                    .objects
+                    .get(*object)
+                    .copied()
+                    .unwrap_or(b""),
+            );
             writeln!(self.text, "insmod {name}")?;
         }
         Ok(())
@@ -449,7 +451,8 @@ impl<'r, 'a> Lines<'r, 'a> {
             return Ok(());
         }
         let is_switched = facts.is_switched(task.state, &named.seen);
-        self.task(named.number).go_on(task, &named.seen, is_switched)
+        self.task(named.number)
+            .go_on(task, &named.seen, is_switched)
     }
 
     fn add_tasks(&mut self, step: &Step) -> Result<(), AllocError> {
@@ -493,7 +496,11 @@ impl Facts {
         let Some(target) = self.target else {
             return false;
         };
-        let before = if self.starts { state_at(!target) } else { before };
+        let before = if self.starts {
+            state_at(!target)
+        } else {
+            before
+        };
         let is_at_target = seen.state == state_at(target)
             || (self.completes && seen.state == PatchedState::Undefined);
         before != state_at(target) && is_at_target
@@ -501,10 +508,12 @@ impl Facts {
 }
 
 impl Step {
-
     /// How many places for a poll there are.
     fn places(&self) -> usize {
-        self.named.len().saturating_add(self.ended.len()).saturating_add(1)
+        self.named
+            .len()
+            .saturating_add(self.ended.len())
+            .saturating_add(1)
     }
 }
 
@@ -548,34 +557,47 @@ impl<'a> Run<'a> {
     }
 }
 
+/// Since when a task holds the transition up: as it did before if that goes on.
+fn since(held: Option<Held>, goes_on: bool, moment: Moment) -> Moment {
+    match held {
+        Some(held) if goes_on => held.from,
+        _ => moment,
+    }
+}
+
 /// What a task is inside of, and how it is, once it was seen so.
 fn mode_of(seen: &Sighting) -> Mode {
-    if seen.is_asleep() { Mode::Asleep } else { Mode::Kernel }
+    if seen.is_asleep() {
+        Mode::Asleep
+    } else {
+        Mode::Kernel
+    }
 }
 
 impl<'a> Followed<'a> {
     /// It lags so in a sample of this moment, or doesn't. It holds the transition up since the first of the samples that
     /// follow one another in which it does so in the same function.
     fn note_lag(&mut self, lag: Option<Lag>, moment: Moment) {
+        let is_same = self.lag == lag;
+        self.lag = lag;
         if let Some(Lag::Holds(version)) = lag {
-            let is_same = self.lag == lag;
-            let from = match self.held {
-                Some(held) if is_same => held.from,
-                _ => moment,
-            };
+            let from = since(self.held, is_same, moment);
             self.held = Some(Held {
                 from,
                 to: moment,
                 version,
             });
         }
-        self.lag = lag;
     }
 
     /// It has begun, and is where it was seen first.
     fn settle_begun(&mut self, facts: &Facts, seen: Sighting) {
         let is_outside = seen.activity == Activity::Running && seen.places.is_empty();
-        self.mode = if is_outside { Mode::User } else { mode_of(&seen) };
+        self.mode = if is_outside {
+            Mode::User
+        } else {
+            mode_of(&seen)
+        };
         self.state = match facts.target {
             Some(target) if facts.starts => state_at(!target),
             _ => seen.state,
@@ -670,7 +692,9 @@ impl<'a> Run<'a> {
         capture: &Capture<'a>,
         number: usize,
         sample: &Sample,
-    ) -> Result<bool, AllocError> {
+    ) -> Result<bool, AllocError>
+        requires { IsWellFormed manager.old }
+    {
         let rows = sample.patches.of(&capture.rows);
         let after = self.files_at(alloc, rows)?;
         let loads = self.loads_in(alloc, rows)?;
@@ -735,8 +759,11 @@ impl<'a> Run<'a> {
         manager: &mut Manager,
         capture: &Capture<'a>,
         until: Option<Moment>,
-    ) -> Result<Option<usize>, AllocError> {
+    ) -> Result<Option<usize>, AllocError>
+        requires { IsWellFormed manager.old }
+    {
         for (number, sample) in capture.samples.iter().enumerate() {
+            let _for_its_clause = manager.mark();
             if until.is_some_and(|until| sample.line.to >= until) {
                 break;
             }

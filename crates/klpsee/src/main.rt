@@ -17,7 +17,9 @@ const NAME: &str = "klpsee";
 
 /// The exit status of faults of files and lines, of words that are refused, and of a log that no run of the rules shows.
 const FAULTY: u8 = 1;
+
 const REFUSED: u8 = 2;
+
 const REFUTED: u8 = 3;
 
 /// What the program's words ask for.
