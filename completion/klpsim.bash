@@ -1,4 +1,4 @@
-# Completion of klpsim, klpwatch, klppage and klplint for bash: what they do, and files of the kind that they take in this place.
+# Completion of klpsim, klpwatch, klppage, klplint and klpsee for bash: what they do, and files of the kind that they take in this place.
 # Folders are completed too, and behind `<` or `>` files of any kind. To have it without installing: source
 # completion/klpsim.bash
 
@@ -73,7 +73,19 @@ _klplint() {
   esac
 }
 
+_klpsee() {
+  local klp_words
+  _klp_words || return 0
+  case "${#klp_words[@]}" in
+    1) _klp_files log "${klp_words[0]}" ;;
+    2) mapfile -t COMPREPLY < <(compgen -W "-o" -- "${klp_words[1]}") ;;
+    3) compopt -o filenames 2>/dev/null
+      mapfile -t COMPREPLY < <(compgen -d -- "${klp_words[2]}") ;;
+  esac
+}
+
 complete -F _klpsim klpsim
 complete -F _klpwatch klpwatch
 complete -F _klppage klppage
 complete -F _klplint klplint
+complete -F _klpsee klpsee

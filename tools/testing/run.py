@@ -4,7 +4,7 @@ import subprocess
 
 TOP = os.path.dirname(os.path.dirname(os.path.dirname(os.path.abspath(__file__))))
 EXAMPLES = f"{TOP}/examples"
-PROGRAMS = ("klpsim", "klpwatch", "klppage", "klplint")
+PROGRAMS = ("klpsim", "klpwatch", "klppage", "klplint", "klpsee")
 # What ./klpsim says on standard error, of a program that isn't proved and of words that are refused, beside what the program
 # says itself.
 DOOR = (": what follows isn't proved;", ": it is compiled first,", ": it is still being compiled,", ": how it is called,")

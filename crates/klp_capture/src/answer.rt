@@ -1,0 +1,247 @@
+//! What a log comes to, in a few lines of words.
+use crate::capture::Capture;
+use crate::catalog::Text;
+use crate::explained::Explained;
+use crate::followed::{Followed, Held};
+use crate::run::{Moved, Run};
+use crate::time::{Elapsed, Moment};
+use klp_core::Lag;
+use klp_types::{Mode, Version};
+use std::io::Write;
+use std::{fmt, io};
+
+/// A task, by its name and its thread's number: `billing[90]`.
+#[derive(Clone, Copy)]
+struct Called<'r, 'a>(&'r Followed<'a>);
+
+impl fmt::Display for Called<'_, '_> {
+    fn fmt<W: fmt::Write>(&self, f: &mut fmt::Formatter<W>) -> fmt::Result {
+        let name = Text(self.0.name);
+        let thread = self.0.thread;
+        write!(f, "{name}[{thread}]")
+    }
+}
+
+/// Which way a transition goes.
+fn direction(target: bool) -> &'static str {
+    if target { "enabled" } else { "disabled" }
+}
+
+impl<'a> Run<'a> {
+    fn patch_name(&self, patch: usize) -> Text<'a> {
+        match self.functions.patches.get(patch) {
+            Some(patch) => Text(patch.name),
+            None => Text(b""),
+        }
+    }
+
+    /// The name of a function that holds a transition up.
+    fn function_name(&self, version: Version) -> Text<'a> {
+        for function in &self.functions.functions {
+            if let Version::New(patch, index) = version
+                && usize::from(patch.0) == function.patch
+                && function.index == Some(index)
+            {
+                return Text(function.new_name.unwrap_or(function.name));
+            }
+        }
+        match version {
+            Version::Original(site) => Text(self.functions.name_at(usize::from(site.0))),
+            Version::New(_, _) => Text(b"a function of the patch"),
+        }
+    }
+
+    /// Who holds the transition up, or held it up.
+    fn print_holder<W: Write>(
+        &self,
+        moved: &Moved,
+        is_over: bool,
+        task: &Followed<'a>,
+        held: Held,
+        out: &mut W,
+    ) -> io::Result<()> {
+        let name = Called(task);
+        let function = self.function_name(held.version);
+        let since = held.from.max(moved.from);
+        let kind = if task.is_kernel_thread {
+            ", a kernel thread,"
+        } else {
+            ""
+        };
+        if is_over || held.to < moved.to {
+            let until = held.to;
+            return writeln!(
+                out,
+                "  {name}{kind} held it up, asleep in {function}, from {since} s to {until} s"
+            );
+        }
+        let time = Elapsed(since, moved.to);
+        writeln!(
+            out,
+            "  {name}{kind} holds it up: asleep in {function} since {since} s or before, for {time} s"
+        )
+    }
+
+    fn print_holders<W: Write>(&self, moved: &Moved, is_over: bool, out: &mut W) -> io::Result<()> {
+        for task in &self.tasks {
+            if let Some(held) = task.held
+                && held.to >= moved.from
+            {
+                self.print_holder(moved, is_over, task, held, out)?;
+            }
+        }
+        Ok(())
+    }
+
+    /// Who lags and doesn't hold it up.
+    fn print_waiting<W: Write>(&self, out: &mut W) -> io::Result<()> {
+        for task in &self.tasks {
+            let name = Called(task);
+            match task.lag {
+                Some(Lag::Waits(Mode::Asleep)) => {
+                    writeln!(
+                        out,
+                        "  {name} lags, asleep in no function that the patch changes: the next try switches it"
+                    )?;
+                }
+                Some(Lag::Waits(_)) => {
+                    writeln!(
+                        out,
+                        "  {name} lags, and runs: it is switched when it next leaves the kernel"
+                    )?;
+                }
+                _ => {}
+            }
+        }
+        Ok(())
+    }
+
+    /// What a force would leave behind.
+    fn print_force<W: Write>(&self, is_forced: bool, out: &mut W) -> io::Result<()> {
+        for task in &self.tasks {
+            if let Some(Lag::Holds(version)) = task.lag {
+                let name = Called(task);
+                let function = self.function_name(version);
+                if is_forced {
+                    writeln!(
+                        out,
+                        "  the force left {name} asleep in {function}, which no task calls any more"
+                    )?;
+                } else {
+                    writeln!(
+                        out,
+                        "  forced now, {name} would sleep on in {function}, which no task calls any more"
+                    )?;
+                }
+            }
+        }
+        Ok(())
+    }
+}
+
+impl<'a> Explained<'a> {
+    fn print_transition<W: Write>(
+        &self,
+        capture: &Capture<'a>,
+        moved: &Moved,
+        out: &mut W,
+    ) -> io::Result<()> {
+        let name = self.run.patch_name(moved.patch);
+        let way = direction(moved.target);
+        let from = moved.from;
+        let time = Elapsed(moved.from, moved.to);
+        let is_moving = self.run.files.get(moved.patch).copied().unwrap_or(None);
+        if !matches!(is_moving, Some((_, true))) {
+            let end = match is_moving {
+                Some((true, false)) if !moved.target =>
+                    "that was reversed, and it is enabled again",
+                None if moved.target => "that was reversed, and it is gone again",
+                _ => "that is complete",
+            };
+            writeln!(
+                out,
+                "{name} was being {way} from {from} s, for {time} s, and {end}"
+            )?;
+            return self.run.print_holders(moved, true, out);
+        }
+        writeln!(
+            out,
+            "{name} is being {way} since {from} s, for {time} s so far"
+        )?;
+        self.run.print_holders(moved, false, out)?;
+        self.run.print_waiting(out)?;
+        self.print_uncounted(capture, out)?;
+        self.run.print_force(self.forced.is_some(), out)
+    }
+
+    /// The tasks that lag and aren't followed.
+    fn print_uncounted<W: Write>(&self, capture: &Capture<'a>, out: &mut W) -> io::Result<()> {
+        let Some(sample) = self.run.last.and_then(|last| capture.samples.get(last)) else {
+            return Ok(());
+        };
+        let (running, sleeping, tasks) = (
+            sample.line.running,
+            sample.line.sleeping,
+            sample.line.tasks,
+        );
+        if running > 0 || sleeping > 0 {
+            writeln!(
+                out,
+                "  of {tasks} tasks {running} more lag and run, and {sleeping} more lag asleep elsewhere"
+            )?;
+        }
+        if self.run.left_out > 0 {
+            let left_out = self.run.left_out;
+            writeln!(
+                out,
+                "  {left_out} followed tasks were left out: at most 64 are told"
+            )?;
+        }
+        Ok(())
+    }
+
+    fn print_verdict<W: Write>(&self, capture: &Capture<'a>, out: &mut W) -> io::Result<()> {
+        let samples = self.run.shown;
+        if let Some(at) = self.forced {
+            writeln!(
+                out,
+                "the transition was forced at {at} s: what came then isn't held against the rules"
+            )?;
+        }
+        if self.is_explained() {
+            return writeln!(out, "a run of the rules shows each of {samples} samples");
+        }
+        match self.failed.and_then(|failed| capture.samples.get(failed)) {
+            Some(sample) => {
+                let (from, to) = (sample.line.from, sample.line.to);
+                writeln!(
+                    out,
+                    "no run of the rules shows the sample from {from} s to {to} s"
+                )
+            }
+            None => writeln!(out, "no run of the rules shows the samples"),
+        }
+    }
+
+    /// Writes what moves since when, who holds it up, and whether the rules explain it.
+    pub fn print<W: Write>(&self, capture: &Capture<'a>, out: &mut W) -> io::Result<()> {
+        for file in &capture.missing {
+            let file = Text(*file);
+            writeln!(
+                out,
+                "the kernel doesn't show {file}: is this root, and is it configured?"
+            )?;
+        }
+        match self.run.moved {
+            Some(moved) => self.print_transition(capture, &moved, out)?,
+            None => writeln!(out, "no patch was in transition")?,
+        }
+        if !capture.is_whole {
+            writeln!(
+                out,
+                "the log was cut off: what is told is as of its last whole sample"
+            )?;
+        }
+        self.print_verdict(capture, out)
+    }
+}

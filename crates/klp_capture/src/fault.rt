@@ -1,0 +1,48 @@
+//! What is wrong with a log.
+use std::alloc::{AllocError, AllocFailed};
+use std::{error, fmt};
+use thiserror::Error;
+
+/// What is wrong with a line of a log.
+#[derive(Clone, Copy, Debug, PartialEq, Eq)]
+pub enum CaptureFaultKind {
+    /// The first line isn't `klpcap 1`, so this is no log, or one of another version.
+    NoHeading,
+    /// No line begins with this word, or what follows it isn't as wanted.
+    BadLine,
+    /// A line belongs to an object, a patch or a task, and no such line is above it in its sample.
+    Stray,
+    /// A sample began before the one above it had ended.
+    OutOfOrder,
+    NoMemory,
+}
+
+/// Prints the fault's name, as `Debug` does.
+impl fmt::Display for CaptureFaultKind {
+    fn fmt<W: fmt::Write>(&self, f: &mut fmt::Formatter<W>) -> fmt::Result {
+        fmt::Debug::fmt(self, f)
+    }
+}
+
+impl error::Error for CaptureFaultKind {}
+
+impl From<AllocError> for CaptureFaultKind {
+    fn from(_e: AllocError) -> CaptureFaultKind {
+        CaptureFaultKind::NoMemory
+    }
+}
+
+impl<T: Drop> From<AllocFailed<T>> for CaptureFaultKind {
+    fn from(_e: AllocFailed<T>) -> CaptureFaultKind {
+        CaptureFaultKind::NoMemory
+    }
+}
+
+/// The first faulty line of a log, printed as `line 3: BadLine`.
+#[derive(Clone, Copy, Debug, PartialEq, Eq, Error)]
+#[error("line {line}: {kind}")]
+pub struct CaptureFault {
+    /// Counted from 1.
+    pub line: u64,
+    pub kind: CaptureFaultKind,
+}

@@ -1,0 +1,498 @@
+//! The functions that the patches of a log change: a catalog of what it names, and which of them a task is inside of.
+use crate::capture::{Capture, PatchRow, Span};
+use crate::line::{FrameLine, SymbolLine};
+use klp_types::{MAX_OBJECTS, MAX_PATCHES, MAX_SITES};
+use std::alloc::{AllocError, Global};
+
+/// The object of functions that are in no module.
+const KERNEL: &[u8] = b"vmlinux";
+
+/// The function that patched functions call, and where it is if the log doesn't say.
+const HANDLER: &[u8] = b"klp_ftrace_handler";
+
+const HANDLER_ADDRESS: u64 = 0xffff_ffff_8100_0000;
+
+/// What stands for an address that the log doesn't have, and how far the next one is.
+const FIRST_ADDRESS: u64 = 0xffff_ffff_cf00_0000;
+
+const ADDRESS_STEP: u64 = 16;
+
+/// What the names of new functions begin with, before the name of the function that they replace: the same name
+/// (kpatch), the kernel's samples, and klp-convert.
+const PREFIXES: [&[u8]; 3] = [b"", b"livepatch_", b"klpp_"];
+
+/// A patch that the log names.
+#[derive(Clone, Copy)]
+pub(crate) struct SeenPatch<'a> {
+    pub(crate) name: &'a [u8],
+    /// Whether older patches left when its transition completed.
+    pub(crate) is_cumulative: bool,
+}
+
+/// A function that a patch changes.
+#[derive(Clone, Copy)]
+pub(crate) struct SeenFunction<'a> {
+    /// The index of its patch.
+    pub(crate) patch: usize,
+    /// The index of its object.
+    pub(crate) object: usize,
+    pub(crate) name: &'a [u8],
+    /// Its position among the symbols of this name, from 1.
+    pub(crate) position: u32,
+    /// Which new function of its patch replaces it. None for a function that a cumulative patch gives back.
+    pub(crate) index: Option<u16>,
+    /// The name of the new function, if the log has it.
+    pub(crate) new_name: Option<&'a [u8]>,
+    pub(crate) new_address: u64,
+}
+
+/// A symbol of an object.
+#[derive(Clone, Copy)]
+pub(crate) struct SeenSymbol<'a> {
+    pub(crate) object: usize,
+    pub(crate) name: &'a [u8],
+    pub(crate) address: u64,
+}
+
+/// A function that a task is inside of: the original, or the new one.
+#[derive(Clone, Copy, PartialEq, Eq)]
+pub(crate) struct Place {
+    /// The index of the function.
+    pub(crate) function: usize,
+    pub(crate) is_new: bool,
+}
+
+/// What the log names: patches, the oldest first, objects, and functions.
+#[derive(Drop)]
+pub(crate) struct Functions<'a> {
+    pub(crate) patches: Vec<SeenPatch<'a>>,
+    pub(crate) objects: Vec<&'a [u8]>,
+    pub(crate) functions: Vec<SeenFunction<'a>>,
+    pub(crate) symbols: Vec<SeenSymbol<'a>>,
+    pub(crate) handler: u64,
+    /// What stands for the next address that isn't known.
+    spare: u64,
+}
+
+/// What the files of a patch read in these rows, if it is there. Both are 0 while its folder is made or taken away.
+pub(crate) fn files_in(rows: &[PatchRow<'_>], wanted: &[u8]) -> Option<(bool, bool)> {
+    for row in rows {
+        if let PatchRow::Patch {
+            name,
+            is_enabled,
+            is_moving,
+        } = row
+            && *name == wanted
+            && (*is_enabled || *is_moving)
+        {
+            return Some((*is_enabled, *is_moving));
+        }
+    }
+    None
+}
+
+/// The patch in these rows that is in transition, with its target.
+pub(crate) fn moving_in<'a>(rows: &[PatchRow<'a>]) -> Option<(&'a [u8], bool)> {
+    for row in rows {
+        if let PatchRow::Patch {
+            name,
+            is_enabled,
+            is_moving: true,
+        } = row
+        {
+            return Some((*name, *is_enabled));
+        }
+    }
+    None
+}
+
+/// Whether a module has this symbol; without a module the kernel itself.
+fn is_of(symbol: &SymbolLine<'_>, object: &[u8]) -> bool {
+    match symbol.module {
+        Some(module) => module == object,
+        None => object == KERNEL,
+    }
+}
+
+fn is_named_after(new: &[u8], prefix: &[u8], old: &[u8]) -> bool {
+    match new.strip_prefix(prefix) {
+        Some(rest) => rest == old,
+        None => false,
+    }
+}
+
+/// Where a module stands in a list, the newest first: older ones are behind.
+fn age_of(modules: &[&[u8]], name: &[u8]) -> usize {
+    modules
+        .iter()
+        .position(|module| *module == name)
+        .unwrap_or(modules.len())
+}
+
+/// The index of this name, which is added if it isn't there. None if there is no room.
+fn index_of<'a>(
+    names: &mut Vec<&'a [u8]>,
+    name: &'a [u8],
+    most: usize,
+) -> Result<Option<usize>, AllocError> {
+    if let Some(index) = names.iter().position(|own| *own == name) {
+        return Ok(Some(index));
+    }
+    if names.len() >= most {
+        return Ok(None);
+    }
+    names.push(name)?;
+    Ok(Some(names.len().saturating_sub(1)))
+}
+
+/// What the first sample tells of the patches.
+fn first_rows<'c, 'a>(capture: &'c Capture<'a>) -> &'c [PatchRow<'a>] {
+    let span = match capture.samples.first() {
+        Some(sample) => sample.patches,
+        None => Span::EMPTY,
+    };
+    span.of(&capture.rows)
+}
+
+/// The names of the patches, the oldest first. Those of the first sample are sorted by their modules.
+fn patches_of<'a>(alloc: Global, capture: &Capture<'a>) -> Result<Vec<&'a [u8]>, AllocError> {
+    let mut names: Vec<&'a [u8]> = Vec::new(alloc);
+    for row in first_rows(capture) {
+        if let PatchRow::Patch { name, .. } = row {
+            let age = age_of(&capture.modules, *name);
+            let place = names
+                .iter()
+                .position(|other| age_of(&capture.modules, *other) < age)
+                .unwrap_or(names.len());
+            if names.len() < MAX_PATCHES && !names.contains(name) {
+                names.insert(place, *name)?;
+            }
+        }
+    }
+    for row in &capture.rows {
+        if let PatchRow::Patch { name, .. } = row {
+            let _ = index_of(&mut names, *name, MAX_PATCHES)?;
+        }
+    }
+    Ok(names)
+}
+
+/// A function that a patch changes, as the rows have it.
+#[derive(Clone, Copy, PartialEq, Eq)]
+struct FoundFunction<'a> {
+    patch: usize,
+    object: usize,
+    name: &'a [u8],
+    position: u32,
+}
+
+/// The functions of all rows, each once, and their objects.
+fn found_in<'a>(
+    alloc: Global,
+    rows: &[PatchRow<'a>],
+    patches: &[&'a [u8]],
+    objects: &mut Vec<&'a [u8]>,
+) -> Result<Vec<FoundFunction<'a>>, AllocError> {
+    let mut found: Vec<FoundFunction<'a>> = Vec::new(alloc);
+    let mut patch = None;
+    let mut object = None;
+    for row in rows {
+        match row {
+            PatchRow::Patch { name, .. } => patch = patches.iter().position(|own| own == name),
+            PatchRow::Object(name) => object = index_of(objects, *name, MAX_OBJECTS)?,
+            PatchRow::Loaded => {}
+            PatchRow::Function { name, position } => {
+                if let (Some(patch), Some(object)) = (patch, object) {
+                    let function = FoundFunction {
+                        patch,
+                        object,
+                        name: *name,
+                        position: *position,
+                    };
+                    if found.len() < MAX_SITES && !found.contains(&function) {
+                        found.push(function)?;
+                    }
+                }
+            }
+        }
+    }
+    Ok(found)
+}
+
+/// Whether a patch is just being made or taken away: then its folder is half there, and both of its files read 0.
+pub(crate) fn is_changing(rows: &[PatchRow<'_>]) -> bool {
+    rows.iter().any(|row| {
+        matches!(
+            row,
+            PatchRow::Patch {
+                is_enabled: false,
+                is_moving: false,
+                ..
+            }
+        )
+    })
+}
+
+/// Whether older patches left when the transition of this one completed.
+fn is_cumulative(capture: &Capture<'_>, patch: &[u8]) -> bool {
+    let mut last: Option<usize> = None;
+    for (number, sample) in capture.samples.iter().enumerate() {
+        let after = sample.patches.of(&capture.rows);
+        if is_changing(after) {
+            continue;
+        }
+        if let Some(sample) = last.and_then(|last| capture.samples.get(last)) {
+            let before = sample.patches.of(&capture.rows);
+            let completes = files_in(before, patch) == Some((true, true))
+                && files_in(after, patch) == Some((true, false));
+            if completes && has_lost_another(before, after, patch) {
+                return true;
+            }
+        }
+        last = Some(number);
+    }
+    false
+}
+
+fn has_lost_another(before: &[PatchRow<'_>], after: &[PatchRow<'_>], patch: &[u8]) -> bool {
+    for row in before {
+        if let PatchRow::Patch { name, .. } = row
+            && *name != patch
+            && files_in(before, name) == Some((true, false))
+            && files_in(after, name).is_none()
+        {
+            return true;
+        }
+    }
+    false
+}
+
+/// The symbol of the new function that replaces a function of this name, if the patch's module has one.
+fn new_symbol_of<'a>(
+    symbols: &[SymbolLine<'a>],
+    patch: &[u8],
+    name: &[u8],
+) -> Option<SymbolLine<'a>> {
+    for prefix in PREFIXES {
+        let found = symbols.iter().find(|symbol| {
+            symbol.module == Some(patch) && is_named_after(symbol.name, prefix, name)
+        });
+        if let Some(symbol) = found {
+            return Some(*symbol);
+        }
+    }
+    None
+}
+
+impl<'a> Functions<'a> {
+    /// What a log names.
+    pub(crate) fn of(alloc: Global, capture: &Capture<'a>) -> Result<Functions<'a>, AllocError> {
+        let names = patches_of(alloc, capture)?;
+        let mut objects: Vec<&'a [u8]> = Vec::new(alloc);
+        objects.push(KERNEL)?;
+        let found = found_in(alloc, &capture.rows, &names, &mut objects)?;
+        let mut functions = Functions {
+            patches: Vec::new(alloc),
+            objects,
+            functions: Vec::new(alloc),
+            symbols: Vec::new(alloc),
+            handler: handler_in(&capture.symbols),
+            spare: FIRST_ADDRESS,
+        };
+        for name in &names {
+            let is_cumulative = is_cumulative(capture, name);
+            functions.patches.push(SeenPatch {
+                name: *name,
+                is_cumulative,
+            })?;
+        }
+        functions.add_all(capture, &found)?;
+        functions.add_symbols(capture)?;
+        Ok(functions)
+    }
+
+    /// An address that stands for one that the log doesn't have.
+    fn spare_address(&mut self) -> u64 {
+        self.spare = self.spare.saturating_add(ADDRESS_STEP);
+        self.spare
+    }
+
+    /// Adds the functions of each patch, object by object.
+    fn add_all(
+        &mut self,
+        capture: &Capture<'a>,
+        found: &[FoundFunction<'a>],
+    ) -> Result<(), AllocError> {
+        for patch in 0..self.patches.len() {
+            let mut index: u16 = 0;
+            for object in 0..self.objects.len() {
+                for function in found {
+                    if function.patch == patch && function.object == object {
+                        self.add(capture, found, function, &mut index)?;
+                    }
+                }
+            }
+        }
+        Ok(())
+    }
+
+    fn add(
+        &mut self,
+        capture: &Capture<'a>,
+        found: &[FoundFunction<'a>],
+        function: &FoundFunction<'a>,
+        index: &mut u16,
+    ) -> Result<(), AllocError> {
+        let Some(patch) = self.patches.get(function.patch).copied() else {
+            return Ok(());
+        };
+        let symbol = new_symbol_of(&capture.symbols, patch.name, function.name);
+        let is_shared = found.iter().any(|other| {
+            other.patch != function.patch
+                && other.object == function.object
+                && other.name == function.name
+        });
+        let is_nop = patch.is_cumulative && is_shared && symbol.is_none();
+        let (new_name, new_address) = match symbol {
+            Some(symbol) => (Some(symbol.name), symbol.address),
+            None => (None, self.spare_address()),
+        };
+        self.functions.push(SeenFunction {
+            patch: function.patch,
+            object: function.object,
+            name: function.name,
+            position: function.position.max(1),
+            index: if is_nop { None } else { Some(*index) },
+            new_name,
+            new_address,
+        })?;
+        if !is_nop {
+            *index = index.saturating_add(1);
+        }
+        Ok(())
+    }
+
+    /// Adds the symbols of each object that its functions are named by: those of the log, and others where it has too few.
+    fn add_symbols(&mut self, capture: &Capture<'a>) -> Result<(), AllocError> {
+        for place in 0..self.functions.len() {
+            let Some(function) = self.functions.get(place).copied() else {
+                return Ok(());
+            };
+            let has = self.count(function.object, function.name);
+            if has == 0 {
+                self.add_known(capture, &function)?;
+            }
+            let has = self.count(function.object, function.name);
+            let wanted = (function.position as usize).min(MAX_SITES);
+            for _missing in has..wanted {
+                let address = self.spare_address();
+                self.symbols.push(SeenSymbol {
+                    object: function.object,
+                    name: function.name,
+                    address,
+                })?;
+            }
+        }
+        Ok(())
+    }
+
+    fn count(&self, object: usize, name: &[u8]) -> usize {
+        self.symbols
+            .iter()
+            .filter(|symbol| symbol.object == object && symbol.name == name)
+            .count()
+    }
+
+    fn add_known(
+        &mut self,
+        capture: &Capture<'a>,
+        function: &SeenFunction<'a>,
+    ) -> Result<(), AllocError> {
+        let Some(object) = self.objects.get(function.object).copied() else {
+            return Ok(());
+        };
+        for symbol in &capture.symbols {
+            if symbol.name == function.name && is_of(symbol, object) {
+                self.symbols.push(SeenSymbol {
+                    object: function.object,
+                    name: symbol.name,
+                    address: symbol.address,
+                })?;
+            }
+        }
+        Ok(())
+    }
+
+    /// The function that a task is inside of, if a patch of the log changes it, or has it.
+    pub(crate) fn place_of(&self, frame: FrameLine<'_>) -> Option<Place> {
+        let function = self
+            .functions
+            .iter()
+            .position(|function| self.is_new(function, frame));
+        if let Some(function) = function {
+            return Some(Place {
+                function,
+                is_new: true,
+            });
+        }
+        let function = self
+            .functions
+            .iter()
+            .position(|function| self.is_original(function, frame))?;
+        Some(Place {
+            function,
+            is_new: false,
+        })
+    }
+
+    /// The name of the symbol at a site of the catalog: sites count through all objects, in the order of their symbols.
+    pub(crate) fn name_at(&self, site: usize) -> &'a [u8] {
+        let mut left = site;
+        for object in 0..self.objects.len() {
+            for symbol in &self.symbols {
+                if symbol.object == object {
+                    if left == 0 {
+                        return symbol.name;
+                    }
+                    left = left.saturating_sub(1);
+                }
+            }
+        }
+        b""
+    }
+
+    /// Whether a frame is the new function that replaces this one.
+    fn is_new(&self, function: &SeenFunction<'a>, frame: FrameLine<'_>) -> bool {
+        let Some(patch) = self.patches.get(function.patch) else {
+            return false;
+        };
+        let named = match function.new_name {
+            Some(name) => name == frame.function,
+            None => false,
+        };
+        named && function.index.is_some() && frame.module == Some(patch.name)
+    }
+
+    /// Whether a frame is the original of this function.
+    fn is_original(&self, function: &SeenFunction<'a>, frame: FrameLine<'_>) -> bool {
+        let Some(object) = self.objects.get(function.object) else {
+            return false;
+        };
+        let is_there = match frame.module {
+            Some(module) => module == *object,
+            None => *object == KERNEL,
+        };
+        is_there && function.name == frame.function
+    }
+}
+
+/// Where the log has the function that patched functions call.
+fn handler_in(symbols: &[SymbolLine<'_>]) -> u64 {
+    let found = symbols
+        .iter()
+        .find(|symbol| symbol.name == HANDLER && symbol.module.is_none());
+    match found {
+        Some(symbol) => symbol.address,
+        None => HANDLER_ADDRESS,
+    }
+}

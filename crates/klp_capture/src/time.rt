@@ -1,0 +1,25 @@
+//! Moments of a log.
+use std::fmt;
+
+/// Microseconds since the kernel booted.
+#[derive(Clone, Copy, PartialEq, Eq, PartialOrd, Ord)]
+pub struct Moment(pub u64);
+
+/// Printed as seconds with two decimals, as a log has them.
+impl fmt::Display for Moment {
+    fn fmt<W: fmt::Write>(&self, f: &mut fmt::Formatter<W>) -> fmt::Result {
+        let hundredths = self.0 / 10_000;
+        write!(f, "{}.{:02}", hundredths / 100, hundredths % 100)
+    }
+}
+
+/// The time from one moment to a later one.
+#[derive(Clone, Copy)]
+pub(crate) struct Elapsed(pub(crate) Moment, pub(crate) Moment);
+
+impl fmt::Display for Elapsed {
+    fn fmt<W: fmt::Write>(&self, f: &mut fmt::Formatter<W>) -> fmt::Result {
+        let elapsed = Moment(self.1.0.saturating_sub(self.0.0));
+        write!(f, "{elapsed}")
+    }
+}
