@@ -1,7 +1,7 @@
 //! What of a patch can't work, or does nothing, in any world.
 
 use crate::place::word_of;
-use crate::words::Told;
+use crate::words::LintedPatch;
 use klp_catalog_text::{PlanCallback, PlanFunction, PlanPatch};
 use klp_modules::SymbolFault;
 use klp_types::Edit;
@@ -14,9 +14,13 @@ fn names(patch: &PlanPatch, id: u64) -> bool {
 }
 
 /// Why an edit of this patch does nothing, whatever is installed, and the system state that it is about.
-fn idle_state(told: &Told<'_>, patches: &[PlanPatch], edit: &Edit) -> Option<(u64, &'static str)> {
+fn idle_state(
+    linted: &LintedPatch<'_>,
+    patches: &[PlanPatch],
+    edit: &Edit,
+) -> Option<(u64, &'static str)> {
     match *edit {
-        Edit::SetData(id, _) | Edit::TakePrev(id) if !names(told.patch, id) => {
+        Edit::SetData(id, _) | Edit::TakePrev(id) if !names(linted.patch, id) => {
             Some((id, "which the patch doesn't name"))
         }
         Edit::TakePrev(id) => {
@@ -33,7 +37,7 @@ fn idle_state(told: &Told<'_>, patches: &[PlanPatch], edit: &Edit) -> Option<(u6
 
 /// Tells the edits of a callback that do nothing, and answers how many there are.
 fn write_idle_edits<W: Write>(
-    told: &Told<'_>,
+    linted: &LintedPatch<'_>,
     patches: &[PlanPatch],
     place: usize,
     callback: &PlanCallback,
@@ -41,9 +45,9 @@ fn write_idle_edits<W: Write>(
 ) -> io::Result<u64> {
     let mut count = 0u64;
     for edit in callback.script.edits.as_slice() {
-        if let Some((id, why)) = idle_state(told, patches, edit) {
-            let line = told.line_behind(Some(place), Some(word_of(callback.which)), 0);
-            told.begin(line, out)?;
+        if let Some((id, why)) = idle_state(linted, patches, edit) {
+            let line = linted.line_behind(Some(place), Some(word_of(callback.which)), 0);
+            linted.begin(line, out)?;
             writeln!(
                 out,
                 "does nothing: a change of the system state {id}, {why}"
@@ -56,15 +60,15 @@ fn write_idle_edits<W: Write>(
 
 /// Tells the edits of a patch that do nothing, and answers how many there are.
 pub(crate) fn write_idle<W: Write>(
-    told: &Told<'_>,
+    linted: &LintedPatch<'_>,
     patches: &[PlanPatch],
     out: &mut W,
 ) -> io::Result<u64> {
-    let patch = told.patch;
+    let patch = linted.patch;
     let mut count = 0u64;
     for (place, target) in patch.targets.iter().enumerate() {
         for callback in target.callbacks.iter() {
-            let idle = write_idle_edits(told, patches, place, callback, out)?;
+            let idle = write_idle_edits(linted, patches, place, callback, out)?;
             count = count.saturating_add(idle);
         }
     }
@@ -80,15 +84,15 @@ fn reason_of(fault: SymbolFault) -> &'static str {
 }
 
 fn write_function<W: Write>(
-    told: &Told<'_>,
+    linted: &LintedPatch<'_>,
     place: usize,
     before: usize,
     function: &PlanFunction,
     fault: SymbolFault,
     out: &mut W,
 ) -> io::Result<()> {
-    told.begin(told.line_behind(Some(place), Some(b"func"), before), out)?;
-    let (object, symbol) = (told.object(place), function.symbol.as_str());
+    linted.begin(linted.line_behind(Some(place), Some(b"func"), before), out)?;
+    let (object, symbol) = (linted.object(place), function.symbol.as_str());
     let (position, reason) = (function.sympos, reason_of(fault));
     writeln!(
         out,
@@ -97,14 +101,14 @@ fn write_function<W: Write>(
 }
 
 /// Tells the functions of a patch whose symbols aren't picked, and answers how many there are.
-pub(crate) fn write_unpicked<W: Write>(told: &Told<'_>, out: &mut W) -> io::Result<u64> {
-    let (patch, modules) = (told.patch, told.manager.modules());
+pub(crate) fn write_unpicked<W: Write>(linted: &LintedPatch<'_>, out: &mut W) -> io::Result<u64> {
+    let (patch, modules) = (linted.patch, linted.manager.modules());
     let mut count = 0u64;
     for (place, target) in patch.targets.iter().enumerate() {
         for (before, function) in target.functions.iter().enumerate() {
             let symbol = function.symbol.as_str();
             if let Err(fault) = modules.resolve(target.object, symbol, function.sympos) {
-                write_function(told, place, before, function, fault, out)?;
+                write_function(linted, place, before, function, fault, out)?;
                 count = count.saturating_add(1);
             }
         }

@@ -3,7 +3,7 @@ ghost use Rattle.std.specs.Prelude.{◌≡◌, ◌<◌, ◌≤◌, length, IfSom
 ghost use Rattle.klp_catalog_text.specs.Within.{AreTargetsWithin};
 
 use crate::idle::{write_idle, write_unpicked};
-use crate::words::{CatalogText, Told, patch_id};
+use crate::words::{CatalogText, LintedPatch, patch_id};
 use klp_callback::Boxed;
 use klp_catalog::Catalog;
 use klp_catalog_text::{Plan, PlanPatch};
@@ -64,18 +64,18 @@ fn do_lines(alloc: Global, manager: &mut Manager, script: &[u8]) -> Result<(), F
 
 /// Tells what comes of a patch. Whether that is a finding.
 fn tell<W: Write>(
-    told: &Told<'_>,
+    linted: &LintedPatch<'_>,
     judged: Result<(), Premise>,
     is_everywhere: bool,
     out: &mut W,
 ) -> io::Result<bool> {
     match judged {
         Ok(()) => {
-            told.write_clean(is_everywhere, out)?;
+            linted.write_clean(is_everywhere, out)?;
             Ok(false)
         }
         Err(premise) => {
-            told.write_failing(premise, out)?;
+            linted.write_failing(premise, out)?;
             Ok(!matches!(premise, Premise::Moving | Premise::Installed))
         }
     }
@@ -94,15 +94,15 @@ fn judge_one<W: Write>(
     };
     let judged = leaves_no_trace(manager, patches, patch_id(number));
     let is_everywhere = holds_everywhere(manager, patches, patch_id(number)).is_ok();
-    let told = Told {
+    let linted = LintedPatch {
         catalog,
         manager,
         patch,
         number,
     };
-    let is_finding = tell(&told, judged, is_everywhere, out)?;
-    let idle = write_idle(&told, patches, out)?;
-    let unpicked = write_unpicked(&told, out)?;
+    let is_finding = tell(&linted, judged, is_everywhere, out)?;
+    let idle = write_idle(&linted, patches, out)?;
+    let unpicked = write_unpicked(&linted, out)?;
     Ok(
         u64::from(is_finding)
             .saturating_add(idle)

@@ -55,16 +55,16 @@ fn name_of(which: Which) -> &'static str {
     }
 }
 
-/// A patch of the catalog that is told of.
+/// A patch of the catalog, of which klplint says whether it keeps its promises.
 #[derive(Clone, Copy)]
-pub(crate) struct Told<'a> {
+pub(crate) struct LintedPatch<'a> {
     pub(crate) catalog: CatalogText<'a>,
     pub(crate) manager: &'a Manager,
     pub(crate) patch: &'a PlanPatch,
     pub(crate) number: usize,
 }
 
-impl Told<'_> {
+impl LintedPatch<'_> {
     fn line(&self, target: Option<usize>, word: Option<&[u8]>) -> u64 {
         self.line_behind(target, word, 0)
     }
