@@ -29,10 +29,10 @@ pub record AreNamed (image : Image) (modules : ModuleTable) (catalog : Catalog) 
 -- a manager that has just been booted: no event was taken, and its base is its state
 abbrev pub booted : Image → Catalog → Journaled
 booted image catalog = record {
-    managed = record { image = image; catalog = catalog; state = opening_state (record { image = image; patches = patches_of catalog }) };
-    base = opening_state (record { image = image; patches = patches_of catalog });
-    groups = [];
-  }
+  managed = record { image = image; catalog = catalog; state = opening_state (record { image = image; patches = patches_of catalog }) };
+  base = opening_state (record { image = image; patches = patches_of catalog });
+  groups = [];
+}
 
 -- the three don't match, or they match and memory ran out
 abbrev pub IsFaultOf : Image → ModuleTable → Catalog → BootFault → Type 0
