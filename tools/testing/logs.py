@@ -36,7 +36,7 @@ def differs_from_kernel(log, said):
     if set(named) != set(told):
         return f"{sorted(told)} held it up, and the kernel names {sorted(named)}"
     for task, (function, first, last) in told.items():
-        end = min(float(to) for begun, to in SAMPLE.findall(log) if float(begun) > last + 0.005)
+        end = min((float(to) for begun, to in SAMPLE.findall(log) if float(begun) > last + 0.005), default=last + 1)
         at, old = named[task]
         if not first <= at <= end or not function.endswith(old):
             return f"task {task} is in {function} from {first} to {last}, and the kernel has it in {old} at {at}"
@@ -65,13 +65,21 @@ def captured(name):
         return wrong or judged_anew(room, DISHONEST if status else 0)
 
 
-def seen(text, name="a.log", words=()):
-    """The status and both outputs of klpsee over a log of this text, in which the log is called by this name."""
+def documented():
+    """docs/CAPTURE.md has what klpsee says of two logs."""
+    with open(f"{TOP}/docs/CAPTURE.md", encoding="utf-8") as it:
+        page = it.read()
+    lost = [name for name in ("stalled", "preflight") if read(f"captures/{name}.output").decode() not in page]
+    return f"what klpsee says of {lost} isn't there" if lost else None
+
+
+def seen(text):
+    """The status and both outputs of klpsee over a log of this text."""
     with tempfile.TemporaryDirectory(prefix="log-") as room:
-        with open(f"{room}/{name}", "wb") as it:
+        with open(f"{room}/a.log", "wb") as it:
             it.write(text if isinstance(text, bytes) else text.encode())
         program = f"{TOP}/crates/klpsee/out/klpsee" if testing.run.IS_BUILT else f"{TOP}/out/unproved/klpsee"
-        return finish(start([program, name, *words], room))
+        return finish(start([program, "a.log"], room))
 
 
 def cut_off(name):
@@ -174,4 +182,5 @@ def cases():
     made += [(f"a task called {it!r}", functools.partial(named, it)) for it in NAMES]
     made += [(f"{it} tasks", functools.partial(many_tasks, it)) for it in (1, 64, 65)]
     made += [(f"a function of {it} bytes", functools.partial(long_name, it)) for it in (128, 511)]
-    return [*made, ("samples in the wrong order", swapped), ("many samples", many_samples)]
+    made += [("samples in the wrong order", swapped), ("many samples", many_samples)]
+    return [*made, ("docs/CAPTURE.md, what klpsee says", documented)]
