@@ -1,1 +1,3 @@
+pub mod EventRowLemmas
+pub mod TracePageLemmas
 pub mod TracedLemmas

@@ -1,6 +1,6 @@
 -- Rows of a trace, one after the other.
-use Rattle.std.proofs.Common.{◌≡◌, ℕ, suc, List, [], ◌∷◌, ◌++◌, length, refl, sym, ap, subst, ◌∙◌, append_assoc, append-nil, arith}
-use Rattle.std.proofs.lemmas.List.{nil_from_length}
+use Rattle.std.proofs.Common.{◌≡◌, ◌≤◌, ◌-◌, ℕ, suc, List, [], ◌∷◌, ◌++◌, length, get_or, take, drop, refl, sym, ap, subst, ◌∙◌, append_assoc, append-nil, arith}
+use Rattle.std.proofs.lemmas.List.{nil_from_length, take_rest}
 use Rattle.klp_core.specs.Journaled.{Journaled}
 use Rattle.klp_timeline.specs.declared.moment.Moment.{Moment}
 use Rattle.klp_timeline.specs.declared.moment.View.{View}
@@ -75,7 +75,19 @@ all_played first last view lines left items rest rows run so_far none =
     subst (λ l. AreTraced first last view l items rows run) (sym lines_are)
     (subst (λ i. AreTraced first last view so_far.earlier i rows run) (sym items_are) so_far.traced)
 
--- a line that is left has its item
-pub line_has_item : (first last : Journaled) (view : View) (lines left : List (List ℕ)) (items : List Observed) (rows : List Row) (run : List Moment) (line : List ℕ)
-    → IsPlayedTo first last view lines (line ∷ left) items [] rows run → ⊥
-line_has_item first last view lines left items rows run line so_far = omega (so_far.as_many, arith)
+-- the item that comes next, in front of the others
+pub next_item : (rest : List Observed) (item : Observed) → 1 ≤ length rest → item ≡ get_or rest 0 item → rest ≡ item ∷ take (length rest - 1) (drop 1 rest)
+next_item [] item some is = absurd (omega (some, arith))
+next_item (first ∷ others) item some is = ap (λ (i : Observed). i ∷ others) (sym is) ∙ ap (λ o. item ∷ o) (sym (take_rest (first ∷ others) 1))
+
+-- one line more, where that line and its item come next
+pub next_played : (first next last : Journaled) (view : View) (lines left others : List (List ℕ)) (items rest : List Observed) (rows more_rows : List Row) (run more_run : List Moment)
+    (line : List ℕ) (item : Observed)
+    → IsPlayedTo first next view lines left items rest rows run → left ≡ line ∷ others → 1 ≤ length rest → item ≡ get_or rest 0 item
+    → AddsTracedRow next last (last_view view run) line item rows more_rows run more_run
+    → IsPlayedTo first last view lines others items (take (length rest - 1) (drop 1 rest)) more_rows more_run
+next_played first next last view lines left others items rest rows more_rows run more_run line item so_far line_is some item_is adds =
+    one_played first next last view lines others items (take (length rest - 1) (drop 1 rest)) rows more_rows run more_run line item
+    (subst (λ r. IsPlayedTo first next view lines (line ∷ others) items r rows run) (next_item rest item some item_is)
+    (subst (λ l. IsPlayedTo first next view lines l items rest rows run) line_is so_far))
+    adds

@@ -60,6 +60,11 @@ pub record IsStillRow (before after : Journaled) (text rules seen : List ℕ) (r
 abbrev pub IsRoomy : Journaled → Journaled → Type 0
 IsRoomy before there = (there ≡ before) ⊎ (there ≡ sealed before)
 
+-- a line of the console that asks for an event was served, with room in the journal for it
+abbrev pub IsTakenRow : Journaled → Journaled → View → List ℕ → Row → Moment → Type 0
+IsTakenRow before after view text row moment =
+    (there : Journaled) × IsRoomy before there × IsScriptRow there after view text row moment
+
 -- an event of the trace was taken, with room in the journal for it
 abbrev pub IsPlayedEvent : Journaled → Journaled → View → List ℕ → Option (Result Reply Refusal) → Row → Moment → Type 0
 IsPlayedEvent before after view text answer row moment =

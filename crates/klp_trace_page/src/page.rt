@@ -1,8 +1,9 @@
 //! A manager is booted over a catalog's text, and a kernel's trace is shown beside it.
-ghost use Rattle.std.specs.Prelude.{◌≡◌, length, IfOk};
-ghost use Rattle.klp_catalog_text.specs.Within.{AreTargetsWithin};
-ghost use Rattle.klp_trace_page.specs.Pages.{IsPlayed, IsTracePage, IsTracePageOver, IsTracePageOf, Writes};
+ghost use Rattle.std.specs.Prelude.{◌≡◌, length, IfOk, IfErr};
 ghost use Rattle.std.specs.Str.Lines.{lines};
+ghost use Rattle.klp_catalog_text.specs.Within.{AreTargetsWithin};
+ghost use Rattle.klp_trace_page.specs.Pages.{IsPlayed, IsTracePage, IsTracePageOver, IsTracePageOf};
+ghost use Rattle.klp_trace_page.specs.Pages.{IsUnshown, IsFaultOver, IsFaultOf, Writes};
 
 use crate::differing::differing_in;
 use crate::record::record_trace;
@@ -59,7 +60,8 @@ fn read_and_paged(
     trace: &[u8],
     layout: &mut Layout<'_>,
 ) -> Result<Vec<u8>, Fault>
-    ensures { IfOk result (λ page. IsTracePage manager.old name.now names.now trace.now page.items) }
+    ensures page { IfOk result (λ page. IsTracePage manager.old name.now names.now trace.now page.items) }
+    ensures fault { IfErr result (λ fault. IsUnshown manager.old trace.now fault) }
 {
     match Trace::read(alloc, trace, manager) {
         Ok(read) => Ok(paged(alloc, manager, name, names, trace, &read.items, layout)?),
@@ -77,7 +79,8 @@ fn page_over_manager(
     trace: &[u8],
     mut layout: Layout<'_>,
 ) -> Result<Vec<u8>, Fault>
-    ensures { IfOk result (λ page. IsTracePage manager name.now names.now trace.now page.items) }
+    ensures page { IfOk result (λ page. IsTracePage manager name.now names.now trace.now page.items) }
+    ensures fault { IfErr result (λ fault. IsUnshown manager trace.now fault) }
 {
     let page = read_and_paged(alloc, &mut manager, name, names, trace, &mut layout);
     close(manager);
@@ -94,7 +97,8 @@ fn page_over_plan(
     trace: &[u8],
 ) -> Result<Vec<u8>, Fault>
     requires { AreTargetsWithin (length plan.objects) plan.patches }
-    ensures { IfOk result (λ page. IsTracePageOver plan name.now names.now trace.now page.items) }
+    ensures page { IfOk result (λ page. IsTracePageOver plan name.now names.now trace.now page.items) }
+    ensures fault { IfErr result (λ fault. IsFaultOver plan trace.now fault) }
 {
     let mut layout = Layout::new(alloc, names);
     layout.watch(&plan)?;
@@ -116,7 +120,8 @@ pub fn page_over_trace(
     names: &Names,
     trace: &[u8],
 ) -> Result<Vec<u8>, Fault>
-    ensures { IfOk result (λ page. IsTracePageOf catalog.now name.now names.now trace.now page.items) }
+    ensures page { IfOk result (λ page. IsTracePageOf catalog.now name.now names.now trace.now page.items) }
+    ensures fault { IfErr result (λ fault. IsFaultOf catalog.now trace.now fault) }
 {
     let plan = Catalog::read(alloc, catalog)?;
     page_over_plan(alloc, plan, name, names, trace)

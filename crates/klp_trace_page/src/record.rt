@@ -1,8 +1,12 @@
 //! A trace is played line by line, and each line gets its row.
-ghost use Rattle.std.specs.Prelude.{◌≡◌, ◌&&◌, not, length, bytes_eq, option_map, IfOk};
+ghost use Rattle.std.specs.Prelude.{◌≡◌, ◌&&◌, not, length, bytes_eq, Some, IfOk};
 ghost use Rattle.std.specs.Str.Lines.{lines};
+ghost use Rattle.klp_core.specs.Journaled.{IsWellFormed};
+ghost use Rattle.klp_console.specs.Replies.{answer_text};
+ghost use Rattle.klp_watch.specs.declared.observed.Observed.TheVariants.{Seen as Item};
 ghost use Rattle.klp_page.specs.Rows.{last_view};
-ghost use Rattle.klp_trace_page.specs.Traced.{IsRoomy, IsPlayedEvent, IsStillRow, IsTracedRow, AddsTracedRow, AreTraced};
+ghost use Rattle.klp_trace_page.specs.Traced.{IsRoomy, IsTakenRow, IsPlayedEvent, IsStillRow, IsTracedRow};
+ghost use Rattle.klp_trace_page.specs.Traced.{AddsTracedRow, AreTraced};
 ghost use Rattle.klp_trace_page.specs.Rules.{rules_text, sight_text};
 
 use crate::line::item_text;
@@ -22,6 +26,7 @@ use std::alloc::{AllocError, Global};
 
 /// Seals the journal if the next event might find no room in it.
 fn make_room(manager: &mut Manager)
+    requires { IsWellFormed manager.old }
     ensures { IsRoomy manager.old manager.new }
 {
     if manager.mark() >= MAX_GROUPS as u32 || manager.records_free() < MAX_RECORDS as u32 {
@@ -50,19 +55,44 @@ fn event_row(
     alloc: Global,
     manager: &mut Manager,
     text: &[u8],
-    answer: Option<&Result<Reply, Refusal>>,
     before: &View,
     layout: &mut Layout<'_>,
 ) -> Result<(Row, Moment), AllocError>
-    ensures { IfOk result (λ made. IsPlayedEvent manager.old manager.new before.now text.now
-        (option_map (λ answer. answer.now) answer.entry) made.0 made.1) }
+    requires { IsWellFormed manager.old }
+    ensures { IfOk result (λ made. IsTakenRow manager.old manager.new before.now text.now made.0 made.1) }
 {
     make_room(manager);
-    let (mut row, moment) = record_line(alloc, manager, text, before, layout)?;
-    if let Some(answer) = answer {
-        let seen = answer_text(alloc, manager, answer)?;
-        compare(&mut row, Vec::from_slice(alloc, seen.as_bytes())?);
-    }
+    record_line(alloc, manager, text, before, layout)
+}
+
+/// Returns the kernel's answer, as the console writes its own. `Err` if memory runs out.
+fn seen_answer(
+    alloc: Global,
+    manager: &Manager,
+    answer: &Result<Reply, Refusal>,
+) -> Result<Vec<u8>, AllocError>
+    ensures { IfOk result (λ seen. seen.items ≡ answer_text manager.now.managed.catalog answer.now) }
+{
+    let text = answer_text(alloc, manager, answer)?;
+    Vec::from_slice(alloc, text.as_bytes())
+}
+
+/// Takes an event as [`event_row`] does, and puts the kernel's answer beside that of the rules. `Err` if memory runs out.
+fn answered_row(
+    alloc: Global,
+    manager: &mut Manager,
+    text: &[u8],
+    answer: &Result<Reply, Refusal>,
+    before: &View,
+    layout: &mut Layout<'_>,
+) -> Result<(Row, Moment), AllocError>
+    requires { IsWellFormed manager.old }
+    ensures { IfOk result (λ made. IsPlayedEvent manager.old manager.new before.now text.now (Some answer.now)
+        made.0 made.1) }
+{
+    let (mut row, moment) = event_row(alloc, manager, text, before, layout)?;
+    let seen = seen_answer(alloc, manager, answer)?;
+    compare(&mut row, seen);
     Ok((row, moment))
 }
 
@@ -124,6 +154,24 @@ fn sight_row(
     )
 }
 
+/// Plays an event, a call or a return of a trace. Returns its row and its moment. `Err` if memory runs out.
+fn seen_row(
+    alloc: Global,
+    manager: &mut Manager,
+    text: &[u8],
+    seen: &Seen,
+    before: &View,
+    layout: &mut Layout<'_>,
+) -> Result<(Row, Moment), AllocError>
+    requires { IsWellFormed manager.old }
+    ensures { IfOk result (λ made. IsTracedRow manager.old manager.new before.now text.now (Item seen.now) made.0 made.1) }
+{
+    match seen {
+        Seen::Event(_) => event_row(alloc, manager, text, before, layout),
+        _ => still_row(alloc, manager, text, "", "", before, layout),
+    }
+}
+
 /// Plays one item of a trace. Returns its row and its moment. `Err` if memory runs out.
 fn item_row(
     alloc: Global,
@@ -135,12 +183,12 @@ fn item_row(
 ) -> Result<(Row, Moment), AllocError>
     ensures { IfOk result (λ made. IsTracedRow manager.old manager.new before.now text.now item.now made.0 made.1) }
 {
+    let _for_its_clause = manager.mark();
     match item {
-        Observed::Seen(Seen::Event(_)) => event_row(alloc, manager, text, None, before, layout),
+        Observed::Seen(seen) => seen_row(alloc, manager, text, seen, before, layout),
         Observed::Answered(_, answer) => {
-            event_row(alloc, manager, text, Some(answer), before, layout)
+            answered_row(alloc, manager, text, answer, before, layout)
         }
-        Observed::Seen(_) => still_row(alloc, manager, text, "", "", before, layout),
         Observed::Saw(sight) => sight_row(alloc, manager, text, sight, before, layout),
     }
 }

@@ -1,6 +1,13 @@
 //! What the rules say where a kernel was looked at, and what it showed, in the same words.
-ghost use Rattle.std.specs.Prelude.{◌≡◌, string_bytes, IfOk};
-ghost use Rattle.klp_trace_page.specs.Rules.{flag_text, hook_text, files_text, state_text, picked_text, text_text, rules_text, sight_text};
+ghost use Rattle.std.specs.Prelude.{◌≡◌, string_bytes, Some, option_map, IfOk};
+ghost use Rattle.klp_types.specs.declared.version.Target.{Target as AnyTarget};
+ghost use Rattle.klp_model.specs.Entries.{is_site_loaded, is_hooked};
+ghost use Rattle.klp_model.specs.Pick.{pick};
+ghost use Rattle.klp_manager_state.specs.Managed.{setting_of};
+ghost use Rattle.klp_console.specs.Names.{patch_name};
+ghost use Rattle.klp_watch.specs.Compared.{files_of};
+ghost use Rattle.klp_trace_page.specs.Rules.{flag_text, hook_text, files_text, state_text, picked_text, text_text};
+ghost use Rattle.klp_trace_page.specs.Rules.{rules_text, sight_text};
 
 use klp_core::Manager;
 use klp_types::{PatchId, PatchState, Site, TaskId, Version};
@@ -35,7 +42,9 @@ fn files_text(alloc: Global, files: Option<PatchFiles>) -> Result<String, AllocE
 }
 
 /// Returns the files of a patch by the rules. `None` if it isn't installed.
-fn files_of(manager: &Manager, patch: PatchId) -> Option<PatchFiles> {
+fn files_of(manager: &Manager, patch: PatchId) -> Option<PatchFiles>
+    ensures { result ≡ files_of manager.now.managed.state patch }
+{
     Some(PatchFiles {
         enabled: manager.enabled(patch)?,
         transition: manager.transition(patch)?,
@@ -53,15 +62,42 @@ fn state_text(alloc: Global, state: Option<i8>) -> Result<String, AllocError>
 }
 
 /// Returns the number of a state that was seen.
-fn number_of(state: Option<PatchState>) -> Option<i8> {
+fn number_of(state: Option<PatchState>) -> Option<i8>
+    ensures { result ≡ state }
+{
     match state {
         Some(state) => Some(state.number()),
         None => None,
     }
 }
 
-/// Returns a version that a task runs when it calls its site: `PATCH:INDEX`, or that it is the original one. `None` is the
-/// version of a task that can't call anything there.
+/// Returns the name of a patch. Empty if the catalog has no such patch.
+fn patch_name(manager: &Manager, patch: PatchId) -> &str
+    ensures { result.now ≡ patch_name manager.now.managed.catalog patch }
+{
+    manager.catalog().patch_name(patch).unwrap_or("")
+}
+
+/// Returns a version that a task runs when it calls its site: `PATCH:INDEX`, or that it is the original one.
+fn version_text(
+    alloc: Global,
+    manager: &Manager,
+    version: Version,
+) -> Result<String, AllocError>
+    ensures { IfOk result (λ text. string_bytes text ≡ picked_text manager.now.managed.catalog (Some version)) }
+{
+    match version {
+        Version::Original(_) => String::from_str(alloc, "the original"),
+        Version::New(patch, function) => {
+            let function = format!(in alloc; ":{function}")?;
+            let mut text = String::from_str(alloc, patch_name(manager, patch))?;
+            text.push_str(function.as_str())?;
+            Ok(text)
+        }
+    }
+}
+
+/// Returns a version as [`version_text`] does. `None` is the version of a task that can't call anything there.
 fn picked_text(
     alloc: Global,
     manager: &Manager,
@@ -70,25 +106,25 @@ fn picked_text(
     ensures { IfOk result (λ text. string_bytes text ≡ picked_text manager.now.managed.catalog version) }
 {
     match version {
+        Some(version) => version_text(alloc, manager, version),
         None => String::from_str(alloc, "no call"),
-        Some(Version::Original(_)) => String::from_str(alloc, "the original"),
-        Some(Version::New(patch, function)) => {
-            let name = manager.catalog().patch_name(patch).unwrap_or("");
-            let function = format!(in alloc; ":{function}")?;
-            let mut text = String::from_str(alloc, name)?;
-            text.push_str(function.as_str())?;
-            Ok(text)
-        }
     }
 }
 
 /// Returns the version that the rules pick for a task at a site.
-fn version_of(manager: &Manager, task: TaskId, site: Site) -> Option<Version> {
+fn version_of(manager: &Manager, task: TaskId, site: Site) -> Option<Version>
+    ensures { result ≡ option_map (λ (t : AnyTarget). t.version)
+        (pick (setting_of manager.now.managed) manager.now.managed.state task site) }
+{
     Some(manager.pick(task, site)?.version)
 }
 
 /// Returns whether a site is hooked by the rules, or that its object isn't loaded.
-fn text_text(manager: &Manager, site: Site) -> &'static str {
+fn text_text(manager: &Manager, site: Site) -> &'static str
+    ensures { result.now ≡ text_text
+        (is_site_loaded (setting_of manager.now.managed) manager.now.managed.state site)
+        (is_hooked (setting_of manager.now.managed) manager.now.managed.state site) }
+{
     match manager.row(site) {
         Some(row) => hook_text(row.word.top.is_some()),
         None => "not loaded",
@@ -124,7 +160,7 @@ pub(crate) fn sight_text(
     match sight {
         Sight::State(_, state) => state_text(alloc, number_of(*state)),
         Sight::Files(_, files) => files_text(alloc, *files),
-        Sight::Version(_, _, version) => picked_text(alloc, manager, Some(*version)),
+        Sight::Version(_, _, version) => version_text(alloc, manager, *version),
         Sight::Text(_, hooked) => String::from_str(alloc, hook_text(*hooked)),
     }
 }

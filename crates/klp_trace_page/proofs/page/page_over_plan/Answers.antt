@@ -5,7 +5,8 @@ use Rattle.klp_callback.specs.LentCallback.{LentCallback}
 use Rattle.klp_catalog_text.specs.Plan.{Plan}
 use Rattle.klp_catalog_text.specs.Scripts.{scripts_of}
 use Rattle.klp_program.specs.Booted.{never_ran}
-use Rattle.klp_page.proofs.PageLemmas.{first_made, next_made, all_made, shown_of, page_over_text}
+use Rattle.klp_page.proofs.PageLemmas.{first_made, next_made, all_made, shown_of}
+use Rattle.klp_trace_page.proofs.TracePageLemmas.{page_over, fault_over}
 use denote.Param.Object.{read_made}
 use Rattle.klp_trace_page.proofs.page.page_over_plan.OwnLists.{own-1, at-1-1}
 use Rattle.klp_trace_page.proofs.page.page_over_plan.Goals as goal
@@ -47,4 +48,7 @@ boot-requires-clause-callbacks c =
     (ap (λ (n : ℕ). option_map never_ran (slice_get scripts n)) count ∙ sym c.in_ok-callback.ensures ∙ ap (option_map (λ made. made.value)) c.in_default.is) so_far
 
 pub returns-clause-page : goal.returns-clause-page
-returns-clause-page c = page_over_text c.args.plan c.in_ok-manager.manager c.args.name.now c.args.names.now c.args.script.now c.page_over_manager.result (λ page. page.items) c.in_ok-manager.ensures.booted c.page_over_manager.ensures.page
+returns-clause-page c = page_over c.args.plan c.in_ok-manager.manager c.args.name.now c.args.names.now c.args.trace.now c.page_over_manager.result (λ page. page.items) c.in_ok-manager.ensures.booted c.page_over_manager.ensures.page
+
+pub returns-clause-fault : goal.returns-clause-fault
+returns-clause-fault c = fault_over c.args.plan c.in_ok-manager.manager c.args.trace.now c.page_over_manager.result c.in_ok-manager.ensures.booted c.page_over_manager.ensures.fault

@@ -5,7 +5,7 @@ use Rattle.klp_trace_page.specs.Traced.{item_text, IsTracedRow}
 use Rattle.klp_trace_page.proofs.record.add_line.Goals as goal
 
 pub returns : goal.returns
-returns c =
+returns g c =
     let row = c.in_ok-row.row in
     let moment = c.in_ok-row.moment in
     let before = c.last_view-before.ensures ∙ ap (last_view c.args.opening.now) c.deref.ensures.value in
