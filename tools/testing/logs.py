@@ -65,6 +65,21 @@ def captured(name):
         return wrong or judged_anew(room, DISHONEST if status else 0)
 
 
+def forced_before():
+    """A force that the kernel's log has from before the capture is none of this transition."""
+    log, said = read("captures/enable.log").decode(), read("captures/enable.output")
+    older = "log 3.000000 livepatch: forcing remaining tasks to the patched state\n"
+    return fault(seen(log.replace("log ", f"{older}log ", 1)), (0, said, ""))
+
+
+def stopped(name, sample, said):
+    """A log that was stopped behind this sample."""
+    before, line, after = read(f"captures/{name}.log").decode().partition(f"\nsample {sample} ")
+    rest = "".join(re.findall(r"^(?:symbol|module) .*\n", after, re.M))
+    status, out, err = seen(f"{before}{line}{after.partition(chr(10))[0]}\n{rest}end stopped\n")
+    return None if (status, err) == (0, "") and said.encode() in out else f"{status}, {out} and {err}"
+
+
 def documented():
     """docs/CAPTURE.md has what klpsee says of two logs."""
     with open(f"{TOP}/docs/CAPTURE.md", encoding="utf-8") as it:
@@ -133,7 +148,7 @@ def named(name):
 
 
 NO_LOGS = ("", "klpcap 2\n", "\nklpcap 1\n", "object vmlinux\n")
-CUT = ("disable", "reverse", "preflight")
+CUT = ("disable", "reverse", "preflight", "busy")
 NAMES = ("two words", ") 5 5", "<script>", "task 90 1", "# a", "'", "a" * 99)
 HEAD = read("captures/enable.log").decode().split("task 90 ", 1)[0]
 FRAME = "frame eventfd_read+0x13a/0x300\n"
@@ -183,4 +198,8 @@ def cases():
     made += [(f"{it} tasks", functools.partial(many_tasks, it)) for it in (1, 64, 65)]
     made += [(f"a function of {it} bytes", functools.partial(long_name, it)) for it in (128, 511)]
     made += [("samples in the wrong order", swapped), ("many samples", many_samples)]
+    made += [("a log with an older force", forced_before)]
+    made += [("nothing in transition", functools.partial(stopped, "enable", "8.05", "no patch was in transition\n"))]
+    switched = "  billing[90] held it up, asleep in livepatch_eventfd_read, from 56.44 s to 59.20 s\n"
+    made += [("a cumulative patch that isn't complete", functools.partial(stopped, "replace", "59.98", switched))]
     return [*made, ("docs/CAPTURE.md, what klpsee says", documented)]

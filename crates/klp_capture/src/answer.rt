@@ -164,6 +164,14 @@ impl<'a> Explained<'a> {
             )?;
             return self.run.print_holders(moved, true, out);
         }
+        if let Some(at) = self.forced {
+            writeln!(
+                out,
+                "{name} was being {way} from {from} s, until it was forced at {at} s"
+            )?;
+            self.run.print_holders(moved, true, out)?;
+            return self.run.print_force(true, out);
+        }
         writeln!(
             out,
             "{name} is being {way} since {from} s, for {time} s so far"

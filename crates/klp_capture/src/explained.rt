@@ -72,9 +72,13 @@ fn contains(bytes: &[u8], wanted: &[u8]) -> bool {
         .any(|window| window == wanted)
 }
 
-/// When a transition was forced, by the kernel's log.
+/// When a transition was forced while it was recorded, by the kernel's log. That has older forces too.
 fn forced_in(capture: &Capture<'_>) -> Option<Moment> {
-    let line = capture.log.iter().find(|line| contains(line.text, FORCED))?;
+    let first = capture.samples.first()?.line.from;
+    let line = capture
+        .log
+        .iter()
+        .find(|line| line.at >= first && contains(line.text, FORCED))?;
     Some(line.at)
 }
 

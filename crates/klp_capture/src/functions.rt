@@ -284,6 +284,35 @@ fn new_symbol_of<'a>(
     None
 }
 
+/// Whether another patch changes this function too.
+fn is_shared(found: &[FoundFunction<'_>], function: &FoundFunction<'_>) -> bool {
+    found.iter().any(|other| {
+        other.patch != function.patch
+            && other.object == function.object
+            && other.name == function.name
+    })
+}
+
+/// Whether a patch has new functions, but none for one that another patch changes: only a cumulative patch gives a
+/// function back. So it is known as one before its transition completes.
+fn gives_back(
+    capture: &Capture<'_>,
+    found: &[FoundFunction<'_>],
+    patch: usize,
+    name: &[u8],
+) -> bool {
+    let mut has_new = false;
+    let mut has_nop = false;
+    for function in found {
+        if function.patch == patch {
+            let is_new = new_symbol_of(&capture.symbols, name, function.name).is_some();
+            has_new = has_new || is_new;
+            has_nop = has_nop || (!is_new && is_shared(found, function));
+        }
+    }
+    has_new && has_nop
+}
+
 impl<'a> Functions<'a> {
     /// What a log names.
     pub(crate) fn of(alloc: Global, capture: &Capture<'a>) -> Result<Functions<'a>, AllocError> {
@@ -300,7 +329,8 @@ impl<'a> Functions<'a> {
             spare: FIRST_ADDRESS,
         };
         for name in &names {
-            let is_cumulative = is_cumulative(capture, name);
+            let is_cumulative = is_cumulative(capture, name)
+                || gives_back(capture, &found, functions.patches.len(), name);
             functions.patches.push(SeenPatch {
                 name: *name,
                 is_cumulative,
@@ -347,12 +377,7 @@ impl<'a> Functions<'a> {
             return Ok(());
         };
         let symbol = new_symbol_of(&capture.symbols, patch.name, function.name);
-        let is_shared = found.iter().any(|other| {
-            other.patch != function.patch
-                && other.object == function.object
-                && other.name == function.name
-        });
-        let is_nop = patch.is_cumulative && is_shared && symbol.is_none();
+        let is_nop = patch.is_cumulative && is_shared(found, function) && symbol.is_none();
         let (new_name, new_address) = match symbol {
             Some(symbol) => (Some(symbol.name), symbol.address),
             None => (None, self.spare_address()),
@@ -466,11 +491,18 @@ impl<'a> Functions<'a> {
         let Some(patch) = self.patches.get(function.patch) else {
             return false;
         };
-        let named = match function.new_name {
+        if function.index.is_none() || frame.module != Some(patch.name) {
+            return false;
+        }
+        match function.new_name {
             Some(name) => name == frame.function,
-            None => false,
-        };
-        named && function.index.is_some() && frame.module == Some(patch.name)
+            // A log that was cut off lacks its symbols.
+            None => PREFIXES.iter().any(|prefix| is_named_after(
+                frame.function,
+                prefix,
+                function.name,
+            )),
+        }
     }
 
     /// Whether a frame is the original of this function.

@@ -18,6 +18,12 @@ impl<'r> PatchLines<'r> {
         writeln!(self.text, "load {name}")
     }
 
+    /// It stood before the log began.
+    pub(crate) fn stand(&mut self) -> Result<(), AllocError> {
+        self.load()?;
+        self.poll()
+    }
+
     fn echo(&mut self, value: bool) -> Result<(), AllocError> {
         let name = Text(self.name);
         let value = u8::from(value);

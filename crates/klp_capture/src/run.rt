@@ -427,6 +427,20 @@ impl<'r, 'a> Lines<'r, 'a> {
         Ok(())
     }
 
+    /// The patches that stood when the log began.
+    fn add_standing(&mut self) -> Result<(), AllocError> {
+        for (patch, files) in self.run.functions.patches.iter().zip(&self.run.files) {
+            if files.is_some() {
+                let mut lines = PatchLines {
+                    name: patch.name,
+                    text: &mut self.text,
+                };
+                lines.stand()?;
+            }
+        }
+        Ok(())
+    }
+
     /// What happened to patches, but for the completion of a transition.
     fn add_changes(&mut self, after: &[Files]) -> Result<(), AllocError> {
         for (number, patch) in self.run.functions.patches.iter().enumerate() {
@@ -536,7 +550,11 @@ impl<'a> Run<'a> {
         let known = self.tasks.len().saturating_sub(step.begun.len());
         let moment = step.facts.moment;
         write!(lines.text, "@{moment} ")?;
+        let empty = lines.text.len();
         lines.add_loads(loads)?;
+        if self.last.is_none() {
+            lines.add_standing()?;
+        }
         if step.facts.has_changed {
             for (offset, seen) in step.begun.iter().enumerate() {
                 lines.task(known.saturating_add(offset)).begin(seen)?;
@@ -553,6 +571,10 @@ impl<'a> Run<'a> {
         lines.add_tasks(step)?;
         lines.add_files(after)?;
         let Lines { text, .. } = lines;
+        // A sample may show nothing at all. A time alone is no line of a trace.
+        if text.len() == empty {
+            return Ok(String::new(alloc));
+        }
         Ok(text)
     }
 }
@@ -683,6 +705,19 @@ impl<'a> Run<'a> {
         }
     }
 
+    /// What the files read before the first sample: the patches that it shows stood already, but for one that comes.
+    fn stand(&mut self, after: &[Files]) {
+        for patch in 0..self.files.len() {
+            let now = after.get(patch).copied().unwrap_or(None);
+            if let Some(files) = self.files.get_mut(patch) {
+                *files = match now {
+                    Some((true, false) | (false, true)) => Some((true, false)),
+                    _ => None,
+                };
+            }
+        }
+    }
+
     /// Goes on to a sample: looks for lines that lead to it, and takes their events. False if there are none; then the
     /// trace has the lines that were tried first.
     fn advance(
@@ -698,6 +733,9 @@ impl<'a> Run<'a> {
         let rows = sample.patches.of(&capture.rows);
         let after = self.files_at(alloc, rows)?;
         let loads = self.loads_in(alloc, rows)?;
+        if self.last.is_none() {
+            self.stand(&after);
+        }
         let step = self.step(alloc, capture, number, sample, &after)?;
         if manager.mark() > MAX_BEFORE_A_SAMPLE {
             manager.seal();

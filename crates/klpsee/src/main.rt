@@ -30,18 +30,21 @@ struct Words<'a> {
     folder: Option<&'a str>,
 }
 
+fn begins_with_dash(word: &str) -> bool {
+    word.as_bytes().first() == Some(&b'-')
+}
+
+/// None for words that are refused: others than these, and files that begin with a dash.
 fn words_of(given: &[String]) -> Option<Words<'_>> {
-    match given {
-        [log] => Some(Words {
-            log: log.as_str(),
-            folder: None,
-        }),
-        [log, option, folder] if option.as_str() == "-o" => Some(Words {
-            log: log.as_str(),
-            folder: Some(folder.as_str()),
-        }),
-        _ => None,
+    let (log, folder) = match given {
+        [log] => (log.as_str(), None),
+        [log, option, folder] if option.as_str() == "-o" => (log.as_str(), Some(folder.as_str())),
+        _ => return None,
+    };
+    if begins_with_dash(log) || folder.is_some_and(begins_with_dash) {
+        return None;
     }
+    Some(Words { log, folder })
 }
 
 /// Writes the answer, and returns the exit status.
@@ -101,7 +104,7 @@ fn run(rt: &HostRuntime) -> Result<u8, u8> {
     let mut err = rt.stderr();
     let given = program_arguments(rt, NAME, &mut err)?;
     let Some(words) = words_of(&given) else {
-        let _ = writeln!(err, "usage: klpsee LOG [-o FOLDER] (man klpsee)");
+        let _ = writeln!(err, "{NAME}: usage: klpsee LOG [-o FOLDER] (man klpsee)");
         return Err(REFUSED);
     };
     let log = file_in(rt, NAME, words.log, &mut err)?;
