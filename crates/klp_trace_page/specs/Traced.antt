@@ -1,5 +1,5 @@
 -- The rows of a trace: one for each of its lines, in order. The manager follows the rules.
-use Rattle.std.specs.Prelude.{◌≡◌, ℕ, ◌==◌, ◌&&◌, Bool, false, not, nat_eq, List, [], ◌∷◌, ◌++◌, length, drop, codes, bytes_eq, ◌⊎◌, Option, Some, None, is_some, Result, if◌then◌else◌}
+use Rattle.std.specs.Prelude.{◌≡◌, ℕ, ◌==◌, ◌&&◌, false, not, nat_eq, List, [], ◌∷◌, ◌++◌, drop, codes, bytes_eq, ◌⊎◌, Option, Some, None, is_some, Result, if◌then◌else◌}
 use Rattle.std.specs.List.{starts_with, before_first, after_first}
 use Rattle.klp_model.specs.declared.event.Reply.{Reply}
 use Rattle.klp_model.specs.declared.event.Refusal.{Refusal}

@@ -21,8 +21,8 @@ use klp_watch::Observed;
 use std::alloc::{AllocError, Global};
 use std::io::Write;
 
-/// Plays a trace with these items on a manager that was just booted, and returns the text of its page. `Err` if memory runs
-/// out.
+/// Plays a trace with these items on a manager that was just booted, and returns the text of its page. `Err` if memory
+/// runs out.
 fn paged(
     alloc: Global,
     manager: &mut Manager,
@@ -51,7 +51,8 @@ fn paged(
     )
 }
 
-/// Reads a trace by the names of a manager that was just booted, plays it, and returns the text of its page.
+/// Reads a trace by the names of a manager that was just booted, plays it, and returns the text of its page. `Err` with
+/// the first line that is at fault, or if memory runs out.
 fn read_and_paged(
     alloc: Global,
     manager: &mut Manager,
@@ -69,8 +70,8 @@ fn read_and_paged(
     }
 }
 
-// Plays a trace on a manager, which is dropped then, and returns the page. Only `close` drops a manager, so that its drop is
-// proved once.
+// Plays a trace on a manager, which is dropped then, and returns the page. Only `close` drops a manager, so that its
+// drop is proved once.
 fn page_over_manager(
     alloc: Global,
     mut manager: Manager,
@@ -87,8 +88,8 @@ fn page_over_manager(
     page
 }
 
-// Boots a manager over a plan, plays the trace on it, and returns the page. The callbacks are made in this function, since
-// no function may return a boxed value that it makes.
+// Boots a manager over a plan, plays the trace on it, and returns the page. The callbacks are made in this function,
+// since no function may return a boxed value that it makes.
 fn page_over_plan(
     alloc: Global,
     plan: Plan,
@@ -110,9 +111,10 @@ fn page_over_plan(
     page_over_manager(alloc, manager, name, names, trace, layout)
 }
 
-/// Boots a manager over the catalog's text, plays the trace on it by the rules, and returns a page with a row for each line.
-/// `name` is the page's title, and `names` has the names of tasks and the times of lines. Takes memory in proportion to the
-/// trace.
+/// Boots a manager over the catalog's text, plays the trace on it by the rules, and returns a page with a row for each
+/// line. `name` is the page's title, and `names` has the names of tasks and the times of lines. `Err` if the text boots
+/// no manager, with the first line of the trace that is at fault, or if memory runs out. Takes memory in proportion to
+/// the trace.
 pub fn page_over_trace(
     alloc: Global,
     catalog: &[u8],
@@ -127,8 +129,8 @@ pub fn page_over_trace(
     page_over_plan(alloc, plan, name, names, trace)
 }
 
-/// Writes the page of a trace to `out`, once all its lines are played: if one of them is at fault, nothing is written. If
-/// `out` refuses the page, the fault is that of the write.
+/// Writes the page of a trace to `out`, once all its lines are played: if one of them is at fault, nothing is written.
+/// If `out` refuses the page, the fault is that of the write.
 pub fn write_trace_page<W: Write>(
     alloc: Global,
     catalog: &[u8],

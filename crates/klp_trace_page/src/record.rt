@@ -49,8 +49,8 @@ fn compare(row: &mut Row, seen: Vec<u8>)
     row.seen = seen;
 }
 
-/// Takes the event that a line of the console asks for, by the rules. Returns its row and its moment. `Err` if memory runs
-/// out.
+/// Takes the event that a line of the console asks for, by the rules. Returns its row and its moment. `Err` if memory
+/// runs out.
 fn event_row(
     alloc: Global,
     manager: &mut Manager,
@@ -77,7 +77,8 @@ fn seen_answer(
     Vec::from_slice(alloc, text.as_bytes())
 }
 
-/// Takes an event as [`event_row`] does, and puts the kernel's answer beside that of the rules. `Err` if memory runs out.
+/// Takes an event as [`event_row`] does, and puts the kernel's answer beside that of the rules. `Err` if memory runs
+/// out.
 fn answered_row(
     alloc: Global,
     manager: &mut Manager,
@@ -96,8 +97,8 @@ fn answered_row(
     Ok((row, moment))
 }
 
-/// Returns the row and the moment of an item by which nothing changes. `rules` is what the rules say there, and `seen` what
-/// the kernel showed. `Err` if memory runs out.
+/// Returns the row and the moment of an item by which nothing changes. `rules` is what the rules say there, and `seen`
+/// what the kernel showed. `Err` if memory runs out.
 fn still_row(
     alloc: Global,
     manager: &Manager,
@@ -164,7 +165,8 @@ fn seen_row(
     layout: &mut Layout<'_>,
 ) -> Result<(Row, Moment), AllocError>
     requires { IsWellFormed manager.old }
-    ensures { IfOk result (λ made. IsTracedRow manager.old manager.new before.now text.now (Item seen.now) made.0 made.1) }
+    ensures { IfOk result (λ made. IsTracedRow manager.old manager.new before.now text.now (Item seen.now)
+        made.0 made.1) }
 {
     match seen {
         Seen::Event(_) => event_row(alloc, manager, text, before, layout),
@@ -214,7 +216,8 @@ fn add_line(
     Ok(())
 }
 
-/// Plays a trace with these items. Returns a row for each of its lines, and what each line did. `Err` if memory runs out.
+/// Plays a trace with these items. Returns a row for each of its lines, and what each line did. `Err` if memory runs
+/// out.
 pub(crate) fn record_trace(
     alloc: Global,
     manager: &mut Manager,

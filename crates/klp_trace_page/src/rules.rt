@@ -79,11 +79,7 @@ fn patch_name(manager: &Manager, patch: PatchId) -> &str
 }
 
 /// Returns a version that a task runs when it calls its site: `PATCH:INDEX`, or that it is the original one.
-fn version_text(
-    alloc: Global,
-    manager: &Manager,
-    version: Version,
-) -> Result<String, AllocError>
+fn version_text(alloc: Global, manager: &Manager, version: Version) -> Result<String, AllocError>
     ensures { IfOk result (λ text. string_bytes text ≡ picked_text manager.now.managed.catalog (Some version)) }
 {
     match version {

@@ -5,7 +5,8 @@ use klp_names::Names;
 use klp_trace::LineParts;
 use std::alloc::{AllocError, Global};
 
-/// Returns a text of names with the time of each line of the trace behind it. It has no contract: [`Names::read`] reads it.
+/// Returns a text of names with the time of each line of the trace behind it. It has no contract: [`Names::read`] reads
+/// it.
 fn with_lines(alloc: Global, names: &[u8], trace: &[u8]) -> Result<Vec<u8>, AllocError> {
     let mut text = Vec::from_slice(alloc, names)?;
     if !names.is_empty() && !names.ends_with(b"\n".as_slice()) {
@@ -25,8 +26,8 @@ fn with_lines(alloc: Global, names: &[u8], trace: &[u8]) -> Result<Vec<u8>, Allo
     Ok(text)
 }
 
-/// Returns the names of a text of names, with the trace's times as those of its lines. If the text has times itself, those
-/// stay. It has no contract. `None` if memory runs out, or if the text or a time is faulty.
+/// Returns the names of a text of names, with the trace's times as those of its lines. If the text has times itself,
+/// those stay. It has no contract. `None` if memory runs out, or if the text or a time is faulty.
 pub fn timed_names(alloc: Global, names: &[u8], trace: &[u8]) -> Option<Names> {
     let text = with_lines(alloc, names, trace).ok()?;
     match Names::read(alloc, &text) {

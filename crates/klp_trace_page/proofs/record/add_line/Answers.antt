@@ -1,7 +1,7 @@
 use Rattle.std.proofs.Common.{ap, subst, ◌∙◌}
 use Rattle.klp_timeline.specs.declared.moment.View.{View}
 use Rattle.klp_page.specs.Rows.{last_view}
-use Rattle.klp_trace_page.specs.Traced.{item_text, IsTracedRow}
+use Rattle.klp_trace_page.specs.Traced.{IsTracedRow}
 use Rattle.klp_trace_page.proofs.record.add_line.Goals as goal
 
 pub returns : goal.returns
