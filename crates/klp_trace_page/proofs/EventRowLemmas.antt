@@ -35,13 +35,13 @@ pub answered : (there after : Journaled) (view : View) (text : List ℕ) (answer
     → row.seen.items ≡ seen → row.differs ≡ not (bytes_eq own.answer.items seen)
     → seen ≡ answer_text after.managed.catalog answer
     → IsEventRow there after view text (Some answer) row moment
-answered there after view text answer own row moment seen served is seen_is differs_is told =
+answered there after view text answer own row moment seen served is seen_is differs_is shown =
     let same : row.answer.items ≡ own.answer.items = ap (λ (r : Row). r.answer.items) is in
     record {
       own = own;
       served = served;
       row_is = is;
-      seen_is = seen_is ∙ told;
+      seen_is = seen_is ∙ shown;
       differs_is = differs_is ∙ ap (λ (text : List ℕ). not (bytes_eq own.answer.items text)) (sym seen_is)
           ∙ ap (λ (text : List ℕ). not (bytes_eq text row.seen.items)) (sym same);
     }
