@@ -1,9 +1,10 @@
 -- The rows of a trace: one for each of its lines, in order. The manager follows the rules.
-use Rattle.std.specs.Prelude.{◌≡◌, ℕ, ◌==◌, ◌&&◌, false, not, nat_eq, List, [], ◌∷◌, ◌++◌, drop, codes, bytes_eq, ◌⊎◌, Option, Some, None, is_some, Result, if◌then◌else◌}
+use Rattle.std.specs.Prelude.{◌≡◌, ℕ, ◌==◌, ◌&&◌, true, false, not, nat_eq, List, [], ◌∷◌, ◌++◌, drop, codes, bytes_eq, ◌⊎◌, Option, Some, None, is_some, Result, if◌then◌else◌}
 use Rattle.std.specs.List.{starts_with, before_first, after_first}
 use Rattle.klp_model.specs.declared.event.Reply.{Reply}
 use Rattle.klp_model.specs.declared.event.Refusal.{Refusal}
 use Rattle.klp_model.specs.declared.seen.Seen.TheVariants.{Event as Happens, Call as Calls, Return as Returns}
+use Rattle.klp_journal.specs.Journal.{has_room}
 use Rattle.klp_catalog.specs.Catalog.{Catalog}
 use Rattle.klp_manager_state.specs.Managed.{setting_of}
 use Rattle.klp_core.specs.Journaled.{Journaled}
@@ -57,8 +58,9 @@ pub record IsStillRow (before after : Journaled) (text rules seen : List ℕ) (r
   pub no_cards : row.cards.text ≡ []
 
 -- the journal is sealed on the way, so no event is refused for want of room
-abbrev pub IsRoomy : Journaled → Journaled → Type 0
-IsRoomy before there = (there ≡ before) ⊎ (there ≡ sealed before)
+pub record IsRoomy (before there : Journaled) : Type 0 where
+  pub same : (there ≡ before) ⊎ (there ≡ sealed before)
+  pub room : has_room there.groups ≡ true
 
 -- a line of the console that asks for an event was served, with room in the journal for it
 abbrev pub IsTakenRow : Journaled → Journaled → View → List ℕ → Row → Moment → Type 0
