@@ -1,5 +1,5 @@
 -- What the book keeps, and what it does with an event.
-use Rattle.std.specs.Prelude.{◌≡◌, ◌≢◌, ◌+◌, false, List, [], ◌∷◌, ◌++◌, length, Result, Ok, Err}
+use Rattle.std.specs.Prelude.{◌≡◌, ◌≢◌, ◌+◌, false, List, [], ◌∷◌, ◌++◌, length, Ok, Err}
 use Rattle.std.specs.List.{All}
 use mathlib.Core.List.{IsPrefix}
 use Rattle.logbook.specs.Pages.{Book}
@@ -93,8 +93,3 @@ pub record IsTakenBack (setting : Setting) (base : State) (event : Event) (old n
 abbrev pub IsRefused : Setting → State → Event → Booked → Booked → Knows → Knows → LiveRefusal → Type 0
 IsRefused setting base event old new before after (Refused refusal) = IsTurnedAway setting base event old new before after refusal
 IsRefused setting base event old new before after NoMemory = IsTakenBack setting base event old new before after
-
--- what becomes of an event: it is admitted, or it isn't
-abbrev pub Admits : Setting → State → Event → Booked → Booked → Knows → Knows → Result ReceiptValue LiveRefusal → Type 0
-Admits setting base event old new before after (Ok receipt) = IsAdmitted setting base event old new before after receipt
-Admits setting base event old new before after (Err fault) = IsRefused setting base event old new before after fault

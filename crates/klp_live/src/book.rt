@@ -1,12 +1,12 @@
 //! The book: the manager with what it publishes.
-ghost use Rattle.std.specs.Prelude.{◌≡◌, ◌<◌, ◌≤◌, ◌^◌, length, Ok, Err, MatchOption};
+ghost use Rattle.std.specs.Prelude.{◌≡◌, ◌<◌, ◌≤◌, ◌^◌, length, Ok, Err, MatchResult, MatchOption};
 ghost use Rattle.klp_model.specs.Legal.{IsLegal, state_after_history};
 ghost use Rattle.klp_model.specs.Rows.{moving_patch};
 ghost use Rattle.klp_model.specs.Run.{answer, next};
 ghost use Rattle.klp_manager_state.specs.Managed.{setting_of};
 ghost use Rattle.klp_core.specs.Taking.{IsTaken};
 ghost use Rattle.klp_core.specs.Rewinding.{IsRewound};
-ghost use Rattle.klp_live.specs.Admitting.{Admits, IsManagerOf};
+ghost use Rattle.klp_live.specs.Admitting.{IsAdmitted, IsManagerOf, IsRefused};
 ghost use Rattle.klp_live.specs.Publishing.{IsPublished};
 
 use crate::change::change_after;
@@ -78,7 +78,9 @@ impl<S: Start + Protocol<Published, View>, M: Machine + Drop, R: Wait + Drop> Bo
         seat: &mut Seat<S>,
         event: Event,
     ) -> Result<Receipt<S>, LiveRefusal>
-        ensures { Admits S.setting S.base event self.old self.new seat.old seat.new result }
+        ensures { MatchResult result
+            (λ receipt. IsAdmitted S.setting S.base event self.old self.new seat.old seat.new receipt)
+            (λ fault. IsRefused S.setting S.base event self.old self.new seat.old seat.new fault) }
     {
         the_journal_alone_is_full();
         self.publisher.must_cover(rt, seat);
