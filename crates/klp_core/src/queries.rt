@@ -7,7 +7,7 @@ ghost use Rattle.klp_types.specs.declared.limits.TheConstants.{MAX_TASKS};
 ghost use Rattle.klp_types.specs.Setting.{state_ids};
 ghost use Rattle.klp_types.specs.World.{variable, state_value};
 ghost use Rattle.klp_types.specs.Pick.{moves};
-ghost use Rattle.klp_world.specs.Parents.{IsNextParent};
+ghost use Rattle.klp_world.specs.Parents.{IsNextParent, lowest_above};
 ghost use Rattle.klp_model.specs.State.{is_installed, installed_patches};
 ghost use Rattle.klp_model.specs.Task.{task_at};
 ghost use Rattle.klp_types.specs.Frames.{frames_of};
@@ -140,13 +140,13 @@ impl Manager {
         self.state.world.get(key)
     }
 
-    /// Returns the lowest address, at or above `from`, of a parent object that has a shadow variable of this id, or None
-    /// if none has one there. One goes over all variables of an id with it: each next call starts one above the last
-    /// answer.
-    pub fn next_parent(&self, id: u64, from: u64) -> Option<u64>
-        ensures { IsNextParent self.now.managed.state.world.shadow id from result }
+    /// Returns the lowest address, above `after`, of a parent object that has a shadow variable of this id, or the lowest
+    /// of all without `after`. None if none has one there. One goes over all variables of an id with it: each next call
+    /// gets the last answer.
+    pub fn next_parent(&self, id: u64, after: Option<u64>) -> Option<u64>
+        ensures { IsNextParent self.now.managed.state.world.shadow id (lowest_above after) result }
     {
-        self.state.world.next_parent(id, from)
+        self.state.world.next_parent(id, after)
     }
 
     /// Returns the value of a system state of an installed patch. None if the patch isn't installed or doesn't name the

@@ -12,7 +12,7 @@ use Rattle.klp_types.specs.World.{World, key_cmp, variable}
 use Rattle.klp_types.specs.Script.{Script, edits_made, made_of, edited_by, effect, touches, Undoes}
 use Rattle.klp_model.specs.State.{State}
 use Rattle.klp_model.specs.Company.{taking_part, script_of, one_touches, object_touches, EachUndoes, UndoesItself, AreApart, IsFairStart}
-use Rattle.klp_lint.specs.Undone.{Values, HaveAddresses, addressed, IsRestored, AreRestored, EachRestores}
+use Rattle.klp_lint.specs.Undone.{Values, IsRestored, AreRestored, EachRestores}
 use Rattle.klp_lint.specs.Premises.{OneOf, IsNotUndone, TwoTouch, Fails, FailsOf, HoldEverywhere}
 use Rattle.klp_lint.specs.declared.premise.Pair.{Pair}
 use Rattle.klp_lint.specs.declared.premise.Pair.TheVariants as pair
@@ -205,23 +205,3 @@ fails_everywhere stays by_key setting patch state (NotUndone place two key) fail
     (one_of (taking_part setting state patch) (λ o p. (p.0, not_undone by_key two patch empty_world key o (λ restored. p.1 (subst (IsRestored two o.1.callbacks key) (nothing_there key) restored)))) fails)
 fails_everywhere stays by_key setting patch state (NotApart first second key) fails hold =
     all_apart first second key (taking_part setting state patch) hold.apart fails
-
--- the variables whose parent objects have addresses are all
-module _ (values : Values) (have : HaveAddresses values) where
-  pub all_addressed : (key : ShadowKey) → addressed values key ≡ values key
-  all_addressed key =
-      elim (ltb key.obj (2 ^ 64)) as (λ b. ltb key.obj (2 ^ 64) ≡ b → cond b (values key) None ≡ values key) [
-        | true ↦ λ e. refl
-        | false ↦ λ e. sym (have key (ltb-false key.obj (2 ^ 64) e))
-      ] refl
-
-  pub each_restores : (objects : List (ℕ × PatchObject)) → EachRestores (addressed values) objects → EachRestores values objects
-  each_restores [] h = tt
-  each_restores (object ∷ objects) h = (λ key. subst (AreRestored object.1.callbacks key) (all_addressed key) (h.0 key), each_restores objects h.1)
-
-  pub fails_of : (objects : List (ℕ × PatchObject)) (premise : Premise) → FailsOf (addressed values) objects premise → FailsOf values objects premise
-  fails_of objects Moving h = h
-  fails_of objects Installed h = h
-  fails_of objects (NotUndone place two key) h =
-      one_of objects (λ o p. (p.0, λ restored. p.1 (subst (IsRestored two o.1.callbacks key) (sym (all_addressed key)) restored))) h
-  fails_of objects (NotApart first second key) h = h

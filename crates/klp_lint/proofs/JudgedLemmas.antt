@@ -9,12 +9,12 @@ use Rattle.klp_catalog.specs.Catalog.{targets_of_patch}
 use Rattle.klp_model.specs.State.{State, is_installed}
 use Rattle.klp_model.specs.Company.{AreApart, taking_part}
 use Rattle.klp_lint.specs.Acting.{acting}
-use Rattle.klp_lint.specs.Undone.{Values, HaveAddresses, addressed, EachRestores, IsLeft}
+use Rattle.klp_lint.specs.Undone.{Values, EachRestores, IsLeft}
 use Rattle.klp_lint.specs.Premises.{ArePatchesOf, OneOf, FailsOf, Judges, JudgesEverywhere, premise_of}
 use Rattle.klp_lint.specs.declared.premise.Left.{Left}
 use Rattle.klp_lint.specs.declared.premise.Premise.{Premise}
 use Rattle.klp_lint.proofs.ActingLemmas.{acting_takes_part}
-use Rattle.klp_lint.proofs.FailsLemmas.{ByKey, restoring_undoes, bare_undoes, fails_there, each_restores, fails_of}
+use Rattle.klp_lint.proofs.FailsLemmas.{ByKey, restoring_undoes, bare_undoes, fails_there}
 
 -- the modules and the targets by which the patch is judged
 pub record IsOver (setting : Setting) (state : State) (patches : List PlanPatch) (patch : ℕ) (modules : ModuleTable) (targets : List PlanTarget) : Type 0 where
@@ -29,23 +29,21 @@ same_objects setting state patches patch modules targets is over =
 
 pub judged_there : ByKey → (setting : Setting) (state : State) (patches : List PlanPatch) (patch : ℕ) (modules : ModuleTable) (targets : List PlanTarget) (result : Result Unit Premise)
     → state.moving ≡ None → is_installed state patch ≡ false → IsOver setting state patches patch modules targets
-    → IfOk result (λ _. EachRestores (addressed (variable state.world)) (acting modules 0 targets))
+    → IfOk result (λ _. EachRestores (variable state.world) (acting modules 0 targets))
     → IfOk result (λ _. AreApart (acting modules 0 targets))
-    → IfErr result (λ premise. FailsOf (addressed (variable state.world)) (acting modules 0 targets) premise)
-    → ArePatchesOf setting patches → HaveAddresses (variable state.world) → Judges setting patch state result
-judged_there by_key setting state patches patch modules targets (Ok done) still away is undone apart fails over have =
+    → IfErr result (λ premise. FailsOf (variable state.world) (acting modules 0 targets) premise)
+    → ArePatchesOf setting patches → Judges setting patch state result
+judged_there by_key setting state patches patch modules targets (Ok done) still away is undone apart fails over =
     let same = same_objects setting state patches patch modules targets is over in
     record {
       still = still;
       away = away;
-      undone = restoring_undoes by_key patch state.world (taking_part setting state patch)
-          (each_restores (variable state.world) have (taking_part setting state patch) (subst (EachRestores (addressed (variable state.world))) same undone));
+      undone = restoring_undoes by_key patch state.world (taking_part setting state patch) (subst (EachRestores (variable state.world)) same undone);
       apart = subst AreApart same apart;
     }
-judged_there by_key setting state patches patch modules targets (Err premise) still away is undone apart fails over have =
+judged_there by_key setting state patches patch modules targets (Err premise) still away is undone apart fails over =
     fails_there by_key setting state patch premise
-    (fails_of (variable state.world) have (taking_part setting state patch) premise
-    (subst (λ l. FailsOf (addressed (variable state.world)) l premise) (same_objects setting state patches patch modules targets is over) fails))
+    (subst (λ l. FailsOf (variable state.world) l premise) (same_objects setting state patches patch modules targets is over) fails)
 
 pub judged_everywhere : ByKey → (setting : Setting) (state : State) (patches : List PlanPatch) (patch : ℕ) (modules : ModuleTable) (targets : List PlanTarget) (result : Result Unit Premise)
     → IsOver setting state patches patch modules targets

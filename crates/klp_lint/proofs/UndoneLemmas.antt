@@ -10,7 +10,7 @@ use Rattle.klp_types.specs.Setting.{Callback}
 use Rattle.klp_types.specs.World.{ShadowValue}
 use Rattle.klp_types.specs.Script.{is_key, edited_at, made_of}
 use Rattle.klp_lint.specs.Scripts.{edits_for, all_edits}
-use Rattle.klp_lint.specs.Undone.{Values, HaveAddresses, IsNextOf, AreRestored, IsHarmless, AreHarmless}
+use Rattle.klp_lint.specs.Undone.{Values, IsNextOf, AreRestored, IsHarmless, AreHarmless}
 
 -- no edit changes the variable
 abbrev NoneChanges : ShadowKey → Option ShadowValue → List Edit → Type 0
@@ -139,15 +139,4 @@ module _ (values : Values) (callbacks : List Callback) (id : ℕ) where
       elim (ltb key.obj (p + 1)) as (λ b. ltb key.obj (p + 1) ≡ b → AreRestored callbacks key (values key)) [
         | true ↦ λ e. up_to p passed here key own (ltb-true key.obj (p + 1) e) there
         | false ↦ λ e. absurd (there (own_key key own (next.1 key.obj (ltb-false key.obj (p + 1) e) below)))
-      ] refl
-
-  -- no address is above the last one
-  pub passed_last : (p : ℕ) → HaveAddresses values → 2 ^ 64 ≤ p + 1 → ArePassed (Some p) → AreRestored callbacks (record { obj = p; id = id }) (values (record { obj = p; id = id }))
-      → ArePassed None
-  passed_last p addresses last passed here = λ key own there.
-      elim (ltb key.obj (p + 1)) as (λ b. ltb key.obj (p + 1) ≡ b → AreRestored callbacks key (values key)) [
-        | true ↦ λ e. up_to p passed here key own (ltb-true key.obj (p + 1) e) there
-        | false ↦ λ e.
-            let above = ltb-false key.obj (p + 1) e in
-            absurd (there (addresses key (omega (arith, last, above))))
       ] refl

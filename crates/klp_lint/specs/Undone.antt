@@ -1,5 +1,5 @@
 -- When the callbacks of an object undo each other, one variable at a time.
-use Rattle.std.specs.Prelude.{◌≡◌, ℕ, ◌^◌, ◌<◌, ◌≤◌, nat_lt, List, [], ◌∷◌, Option, Some, None, if◌then◌else◌}
+use Rattle.std.specs.Prelude.{◌≡◌, ℕ, ◌<◌, ◌≤◌, List, [], ◌∷◌, Option, Some, None}
 use Rattle.klp_types.specs.declared.shadow.ShadowKey.{ShadowKey}
 use Rattle.klp_types.specs.declared.callback.Which.TheVariants.{Pre, Post, PreUn, PostUn}
 use Rattle.klp_types.specs.declared.edit.Edit.{Edit}
@@ -15,14 +15,6 @@ use Rattle.klp_lint.specs.declared.premise.Left.{Left}
 -- the values of all shadow variables
 abbrev pub Values : Type 0
 Values = ShadowKey → Option ShadowValue
-
--- the parent object of each variable has an address of 64 bits
-abbrev pub HaveAddresses : Values → Type 0
-HaveAddresses values = (key : ShadowKey) → 2 ^ 64 ≤ key.obj → values key ≡ None
-
--- the values of those whose parent object has such an address
-abbrev pub addressed : Values → Values
-addressed values key = if nat_lt key.obj (2 ^ 64) then values key else None
 
 -- the lowest parent object, at or above an address, that has a variable of the id: there is none from the address up to it
 abbrev pub IsNextOf : Values → ℕ → ℕ → Option ℕ → Type 0

@@ -6,7 +6,7 @@ ghost use Rattle.klp_manager_state.specs.Managed.{setting_of};
 ghost use Rattle.klp_model.specs.Company.{AreApart};
 ghost use Rattle.klp_lint.specs.Acting.{acting};
 ghost use Rattle.klp_types.specs.World.{variable};
-ghost use Rattle.klp_lint.specs.Undone.{EachRestores, HaveAddresses};
+ghost use Rattle.klp_lint.specs.Undone.{EachRestores};
 ghost use Rattle.klp_lint.specs.Premises.{ArePatchesOf, FailsOf, Judges, JudgesEverywhere};
 
 use crate::objects::{first_common, first_left};
@@ -51,15 +51,13 @@ fn judge<V: Variables>(
 /// trip (docs/ROUND_TRIP.md). `Err` has a premise that fails.
 ///
 /// `patches` are those of the plan over which the manager was booted: a manager doesn't tell the scripts of its
-/// callbacks. Each variable's parent object has to have an address of 64 bits. Those of a manager have, but no contract
-/// says so.
+/// callbacks.
 pub fn leaves_no_trace(
     manager: &Manager,
     patches: &[PlanPatch],
     patch: PatchId,
 ) -> Result<(), Premise>
     ensures { ArePatchesOf (setting_of manager.now.managed) patches.now
-        → HaveAddresses (variable manager.now.managed.state.world)
         → Judges (setting_of manager.now.managed) patch manager.now.managed.state result }
 {
     klp_types::laws::edits_go_key_by_key();

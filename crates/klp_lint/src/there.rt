@@ -10,15 +10,14 @@ pub(crate) struct There<'a>(pub(crate) &'a Manager);
 
 impl Variables for There<'_> {
     ghost use Rattle.klp_types.specs.World.{variable};
-    ghost use Rattle.klp_lint.specs.Undone.{addressed};
 
-    ghost values = { λ there. addressed (variable there.0.now.managed.state.world) };
+    ghost values = { λ there. variable there.0.now.managed.state.world };
 
     fn get(&self, key: ShadowKey) -> Option<ShadowValue> {
         self.0.shadow_get(key)
     }
 
-    fn next_parent(&self, id: u64, from: u64) -> Option<u64> {
-        self.0.next_parent(id, from)
+    fn next_parent(&self, id: u64, after: Option<u64>) -> Option<u64> {
+        self.0.next_parent(id, after)
     }
 }

@@ -48,16 +48,13 @@ fn left_of_id<V: Variables>(variables: &V, callbacks: &[PlanCallback], id: u64) 
     ensures { MatchOption result (IsHarmless (V.values variables.now) callbacks.now (AnyEdit.FreeAll id))
         (λ left. IsLeft (V.values variables.now) callbacks.now left) }
 {
-    let mut next = variables.next_parent(id, 0);
+    let mut next = variables.next_parent(id, None);
     while let Some(obj) = next {
         let key = ShadowKey { obj, id };
         if let Some(pair) = first_unrestored(callbacks, key, variables.get(key)) {
             return Some(Left { pair, key });
         }
-        next = match obj.checked_add(1) {
-            Some(from) => variables.next_parent(id, from),
-            None => None,
-        };
+        next = variables.next_parent(id, Some(obj));
     }
     None
 }

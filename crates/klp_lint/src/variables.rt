@@ -1,6 +1,7 @@
 //! The shadow variables by which callbacks are judged: those of a manager, or none at all.
 ghost use Rattle.std.specs.Prelude.{◌≡◌};
-ghost use Rattle.klp_lint.specs.Undone.{HaveAddresses, IsNextOf};
+ghost use Rattle.klp_world.specs.Parents.{lowest_above};
+ghost use Rattle.klp_lint.specs.Undone.{IsNextOf};
 
 use klp_types::{ShadowKey, ShadowValue};
 
@@ -16,10 +17,10 @@ pub(crate) trait Variables {
     fn get(&self, key: ShadowKey) -> Option<ShadowValue>
         ensures { result ≡ values self.now key };
 
-    /// The lowest parent object, at or above `from`, that has a variable of the id. None if none has one there.
-    fn next_parent(&self, id: u64, from: u64) -> Option<u64>
-        ensures next { IsNextOf (values self.now) id from result }
-        ensures addresses { HaveAddresses (values self.now) };
+    /// The lowest parent object above `after` that has a variable of the id, or the lowest of all without `after`. None
+    /// if none has one there.
+    fn next_parent(&self, id: u64, after: Option<u64>) -> Option<u64>
+        ensures { IsNextOf (values self.now) id (lowest_above after) result };
 }
 
 /// No variables at all, as when none of those that callbacks touch exists.
@@ -35,7 +36,7 @@ impl Variables for Nowhere {
         None
     }
 
-    fn next_parent(&self, _id: u64, _from: u64) -> Option<u64> {
+    fn next_parent(&self, _id: u64, _after: Option<u64>) -> Option<u64> {
         None
     }
 }

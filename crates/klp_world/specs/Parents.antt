@@ -1,9 +1,14 @@
 -- The parent objects that have a shadow variable of an id.
-use Rattle.std.specs.Prelude.{◌≡◌, ℕ, ◌<◌, ◌≤◌, List, Option, Some, None, is_some, true}
+use Rattle.std.specs.Prelude.{◌≡◌, ℕ, ◌+◌, ◌<◌, ◌≤◌, List, Option, Some, None, is_some, true}
 use Rattle.std.specs.FinMap as finite
 use Rattle.klp_types.specs.declared.shadow.ShadowKey.{ShadowKey}
 use Rattle.klp_types.specs.World.{Shadow, ShadowValue}
 use Rattle.klp_world.specs.Slots.{in_slot}
+
+-- the lowest address above this one, or the lowest of all without one
+abbrev pub lowest_above : Option ℕ → ℕ
+lowest_above None = 0
+lowest_above (Some last) = last + 1
 
 -- the lowest parent object at or above an address that has a variable of the id, or None if none has one there
 abbrev pub IsNextParent : Shadow → ℕ → ℕ → Option ℕ → Type 0

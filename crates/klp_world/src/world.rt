@@ -11,7 +11,7 @@ ghost use Rattle.klp_types.specs.World.{with_patch, without_patch};
 ghost use Rattle.klp_types.specs.Script.{allocated};
 ghost use Rattle.klp_world.specs.Added.{against};
 ghost use Rattle.klp_world.specs.Changes.{Changes};
-ghost use Rattle.klp_world.specs.Parents.{IsNextParent};
+ghost use Rattle.klp_world.specs.Parents.{IsNextParent, lowest_above};
 ghost use Rattle.klp_world.specs.Undo.{put_variable, put_state, put_patch, put_back};
 ghost use Rattle.klp_world.specs.StoredEvent.{noting, rows_of_alloc, rows_of_free, rows_of_free_all, variable_rows};
 ghost use Rattle.klp_world.specs.StoredEvent.{state_row, rows_of_set, rows_of_add, rows_of_drop};
@@ -118,13 +118,13 @@ impl World {
         self.shadow.has(key)
     }
 
-    /// Returns the lowest address, at or above `from`, of a parent object that has a shadow variable of this id.
-    /// `None` if none has one there. A caller goes over all variables of an id with it: each next call starts one
-    /// above the last answer. Each call walks over all variables.
-    pub fn next_parent(&self, id: u64, from: u64) -> Option<u64>
-        ensures { IsNextParent self.now.shadow id from result }
+    /// Returns the lowest address, above `after`, of a parent object that has a shadow variable of this id, or the
+    /// lowest of all without `after`. `None` if none has one there. A caller goes over all variables of an id with it:
+    /// each next call gets the last answer. Each call walks over all variables.
+    pub fn next_parent(&self, id: u64, after: Option<u64>) -> Option<u64>
+        ensures { IsNextParent self.now.shadow id (lowest_above after) result }
     {
-        self.shadow.next_parent(id, from)
+        self.shadow.next_parent(id, after)
     }
 
     /// Returns how many shadow variables there are, at a constant cost. Callers use it to check for room before
