@@ -1,5 +1,5 @@
 //! What is written to a folder.
-use klp_capture::Explained;
+use klp_capture_run::Explained;
 use std::fs::OpenOptions;
 use std::io;
 use std::io::Write;

@@ -5,7 +5,9 @@
 mod files;
 
 use crate::files::write_files;
-use klp_capture::{Capture, Explained, explain};
+use klp_capture::Capture;
+use klp_capture_answer::{print_answer, print_preflight};
+use klp_capture_run::{Explained, explain};
 use klp_diagnostics::file_in;
 use klp_program::program_arguments;
 use std::alloc::Global;
@@ -49,7 +51,7 @@ fn words_of(given: &[String]) -> Option<Words<'_>> {
 
 /// Writes the answer, and returns the exit status.
 fn answer<W: Write>(capture: &Capture<'_>, found: &Explained<'_>, out: &mut W) -> u8 {
-    match found.print(capture, out) {
+    match print_answer(capture, found, out) {
         Ok(()) if found.is_explained() => 0,
         Ok(()) => REFUTED,
         Err(_) => FAULTY,
@@ -57,7 +59,7 @@ fn answer<W: Write>(capture: &Capture<'_>, found: &Explained<'_>, out: &mut W) -
 }
 
 fn preflight<W: Write>(capture: &Capture<'_>, out: &mut W) -> u8 {
-    match capture.print_preflight(out) {
+    match print_preflight(capture, out) {
         Ok(()) => 0,
         Err(_) => FAULTY,
     }

@@ -1,7 +1,7 @@
 use Rattle.std.proofs.Common.{◌≡◌, ◌-◌, length}
 use Rattle.klp_catalog_text.specs.Scripts.{scripts_of}
 use Rattle.klp_program.proofs.ServeLemmas.{first_made}
-use Rattle.klp_capture.proofs.explained.explore_over_plan.Given as goal
+use Rattle.klp_capture_run.proofs.explained.explore_over_plan.Given as goal
 
 -- there is a callback for each script so far
 abbrev pub invariant-loop-callbacks : goal.invariant-loop-callbacks

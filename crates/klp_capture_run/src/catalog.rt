@@ -1,26 +1,10 @@
 //! The catalog of what a log names, as text.
 use crate::functions::{Functions, Place};
+use klp_capture::Text;
 use std::alloc::{AllocError, Global};
-use std::fmt;
 
 /// The first five bytes of a function that can be patched: a NOP.
 const NOP: &str = "0f1f440000";
-
-/// Bytes that are text: those of a log that aren't are shown as the mark for that.
-#[derive(Clone, Copy)]
-pub(crate) struct Text<'a>(pub(crate) &'a [u8]);
-
-impl fmt::Display for Text<'_> {
-    fn fmt<W: fmt::Write>(&self, f: &mut fmt::Formatter<W>) -> fmt::Result {
-        for chunk in self.0.utf8_chunks() {
-            f.write_str(chunk.valid())?;
-            if !chunk.invalid().is_empty() {
-                f.write_str("\u{fffd}")?;
-            }
-        }
-        Ok(())
-    }
-}
 
 impl Functions<'_> {
     /// Writes the symbol of a function, as the console spells it.

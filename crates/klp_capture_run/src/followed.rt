@@ -1,19 +1,21 @@
 //! A task that a log follows, as the run so far leaves it.
 use crate::functions::{Functions, Place};
-use crate::line::{Activity, PatchedState};
-use crate::time::Moment;
+use klp_capture::{Activity, Moment, PatchedState};
 use klp_core::Lag;
 use klp_types::{Mode, Version};
 use std::alloc::AllocError;
 
 /// A task of the run.
 #[derive(Drop)]
-pub(crate) struct Followed<'a> {
-    pub(crate) thread: u64,
+pub struct Followed<'a> {
+    /// The thread's number.
+    pub thread: u64,
     /// When the thread began, so that a number that is given again isn't taken for the same thread.
-    pub(crate) start: u64,
-    pub(crate) name: &'a [u8],
-    pub(crate) is_kernel_thread: bool,
+    pub start: u64,
+    /// What it is called.
+    pub name: &'a [u8],
+    /// Whether it is a thread of the kernel itself.
+    pub is_kernel_thread: bool,
     pub(crate) mode: Mode,
     /// The functions that it called and hasn't returned from, outermost first.
     pub(crate) inside: Vec<Place>,
@@ -24,17 +26,20 @@ pub(crate) struct Followed<'a> {
     pub(crate) since: Moment,
     pub(crate) has_ended: bool,
     /// Why it wasn't at the target in the last sample of a transition.
-    pub(crate) lag: Option<Lag>,
+    pub lag: Option<Lag>,
     /// The last time that it held a transition up, if it did.
-    pub(crate) held: Option<Held>,
+    pub held: Option<Held>,
 }
 
 /// When a task held a transition up, and in which function.
 #[derive(Clone, Copy)]
-pub(crate) struct Held {
-    pub(crate) from: Moment,
-    pub(crate) to: Moment,
-    pub(crate) version: Version,
+pub struct Held {
+    /// The first sample in which it did so.
+    pub from: Moment,
+    /// The last of them.
+    pub to: Moment,
+    /// The function that it slept in.
+    pub version: Version,
 }
 
 /// What a sample shows of a task that it names.

@@ -1,6 +1,5 @@
 //! The functions that the patches of a log change: a catalog of what it names, and which of them a task is inside of.
-use crate::capture::{Capture, PatchRow, Span};
-use crate::line::{FrameLine, SymbolLine};
+use klp_capture::{Capture, FrameLine, PatchRow, Span, SymbolLine};
 use klp_types::{MAX_OBJECTS, MAX_PATCHES, MAX_SITES};
 use std::alloc::{AllocError, Global};
 
@@ -23,34 +22,37 @@ const PREFIXES: [&[u8]; 3] = [b"", b"livepatch_", b"klpp_"];
 
 /// A patch that the log names.
 #[derive(Clone, Copy)]
-pub(crate) struct SeenPatch<'a> {
-    pub(crate) name: &'a [u8],
+pub struct SeenPatch<'a> {
+    /// What it is called.
+    pub name: &'a [u8],
     /// Whether older patches left when its transition completed.
-    pub(crate) is_cumulative: bool,
+    pub is_cumulative: bool,
 }
 
 /// A function that a patch changes.
 #[derive(Clone, Copy)]
-pub(crate) struct SeenFunction<'a> {
+pub struct SeenFunction<'a> {
     /// The index of its patch.
-    pub(crate) patch: usize,
+    pub patch: usize,
     /// The index of its object.
-    pub(crate) object: usize,
-    pub(crate) name: &'a [u8],
+    pub object: usize,
+    /// What it is called.
+    pub name: &'a [u8],
     /// Its position among the symbols of this name, from 1.
-    pub(crate) position: u32,
+    pub position: u32,
     /// Which new function of its patch replaces it. None for a function that a cumulative patch gives back.
-    pub(crate) index: Option<u16>,
+    pub index: Option<u16>,
     /// The name of the new function, if the log has it.
-    pub(crate) new_name: Option<&'a [u8]>,
-    pub(crate) new_address: u64,
+    pub new_name: Option<&'a [u8]>,
+    /// Where the new function is, or what stands for that.
+    pub new_address: u64,
 }
 
 /// A symbol of an object.
 #[derive(Clone, Copy)]
 pub(crate) struct SeenSymbol<'a> {
-    pub(crate) object: usize,
-    pub(crate) name: &'a [u8],
+    pub object: usize,
+    pub name: &'a [u8],
     pub(crate) address: u64,
 }
 
@@ -64,10 +66,12 @@ pub(crate) struct Place {
 
 /// What the log names: patches, the oldest first, objects, and functions.
 #[derive(Drop)]
-pub(crate) struct Functions<'a> {
-    pub(crate) patches: Vec<SeenPatch<'a>>,
+pub struct Functions<'a> {
+    /// The patches, by their numbers in the catalog.
+    pub patches: Vec<SeenPatch<'a>>,
     pub(crate) objects: Vec<&'a [u8]>,
-    pub(crate) functions: Vec<SeenFunction<'a>>,
+    /// The functions that the patches change, patch by patch.
+    pub functions: Vec<SeenFunction<'a>>,
     pub(crate) symbols: Vec<SeenSymbol<'a>>,
     pub(crate) handler: u64,
     /// What stands for the next address that isn't known.
@@ -471,7 +475,7 @@ impl<'a> Functions<'a> {
     }
 
     /// The name of the symbol at a site of the catalog: sites count through all objects, in the order of their symbols.
-    pub(crate) fn name_at(&self, site: usize) -> &'a [u8] {
+    pub fn name_at(&self, site: usize) -> &'a [u8] {
         let mut left = site;
         for object in 0..self.objects.len() {
             for symbol in &self.symbols {

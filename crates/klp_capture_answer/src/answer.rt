@@ -1,10 +1,6 @@
 //! What a log comes to, in a few lines of words.
-use crate::capture::Capture;
-use crate::catalog::Text;
-use crate::explained::Explained;
-use crate::followed::{Followed, Held};
-use crate::run::{Moved, Run};
-use crate::time::{Elapsed, Moment};
+use klp_capture::{Capture, Elapsed, Text};
+use klp_capture_run::{Explained, Followed, Held, Moved, Run};
 use klp_core::Lag;
 use klp_types::{Mode, Version};
 use std::io::Write;
@@ -27,9 +23,17 @@ fn direction(target: bool) -> &'static str {
     if target { "enabled" } else { "disabled" }
 }
 
-impl<'a> Run<'a> {
+/// What a log comes to.
+#[derive(Clone, Copy)]
+struct Answer<'r, 'a> {
+    capture: &'r Capture<'a>,
+    found: &'r Explained<'a>,
+    run: &'r Run<'a>,
+}
+
+impl<'r, 'a> Answer<'r, 'a> {
     fn patch_name(&self, patch: usize) -> Text<'a> {
-        match self.functions.patches.get(patch) {
+        match self.run.functions.patches.get(patch) {
             Some(patch) => Text(patch.name),
             None => Text(b""),
         }
@@ -37,7 +41,7 @@ impl<'a> Run<'a> {
 
     /// The name of a function that holds a transition up.
     fn function_name(&self, version: Version) -> Text<'a> {
-        for function in &self.functions.functions {
+        for function in &self.run.functions.functions {
             if let Version::New(patch, index) = version
                 && usize::from(patch.0) == function.patch
                 && function.index == Some(index)
@@ -46,7 +50,7 @@ impl<'a> Run<'a> {
             }
         }
         match version {
-            Version::Original(site) => Text(self.functions.name_at(usize::from(site.0))),
+            Version::Original(site) => Text(self.run.functions.name_at(usize::from(site.0))),
             Version::New(_, _) => Text(b"a function of the patch"),
         }
     }
@@ -83,7 +87,7 @@ impl<'a> Run<'a> {
     }
 
     fn print_holders<W: Write>(&self, moved: &Moved, is_over: bool, out: &mut W) -> io::Result<()> {
-        for task in &self.tasks {
+        for task in &self.run.tasks {
             if let Some(held) = task.held
                 && held.to >= moved.from
             {
@@ -95,7 +99,7 @@ impl<'a> Run<'a> {
 
     /// Who lags and doesn't hold it up.
     fn print_waiting<W: Write>(&self, out: &mut W) -> io::Result<()> {
-        for task in &self.tasks {
+        for task in &self.run.tasks {
             let name = Called(task);
             match task.lag {
                 Some(Lag::Waits(Mode::Asleep)) => {
@@ -118,7 +122,7 @@ impl<'a> Run<'a> {
 
     /// What a force would leave behind.
     fn print_force<W: Write>(&self, is_forced: bool, out: &mut W) -> io::Result<()> {
-        for task in &self.tasks {
+        for task in &self.run.tasks {
             if let Some(Lag::Holds(version)) = task.lag {
                 let name = Called(task);
                 let function = self.function_name(version);
@@ -139,14 +143,9 @@ impl<'a> Run<'a> {
     }
 }
 
-impl<'a> Explained<'a> {
-    fn print_transition<W: Write>(
-        &self,
-        capture: &Capture<'a>,
-        moved: &Moved,
-        out: &mut W,
-    ) -> io::Result<()> {
-        let name = self.run.patch_name(moved.patch);
+impl<'r, 'a> Answer<'r, 'a> {
+    fn print_transition<W: Write>(&self, moved: &Moved, out: &mut W) -> io::Result<()> {
+        let name = self.patch_name(moved.patch);
         let way = direction(moved.target);
         let from = moved.from;
         let time = Elapsed(moved.from, moved.to);
@@ -162,29 +161,33 @@ impl<'a> Explained<'a> {
                 out,
                 "{name} was being {way} from {from} s, for {time} s, and {end}"
             )?;
-            return self.run.print_holders(moved, true, out);
+            return self.print_holders(moved, true, out);
         }
-        if let Some(at) = self.forced {
+        if let Some(at) = self.found.forced {
             writeln!(
                 out,
                 "{name} was being {way} from {from} s, until it was forced at {at} s"
             )?;
-            self.run.print_holders(moved, true, out)?;
-            return self.run.print_force(true, out);
+            self.print_holders(moved, true, out)?;
+            return self.print_force(true, out);
         }
         writeln!(
             out,
             "{name} is being {way} since {from} s, for {time} s so far"
         )?;
-        self.run.print_holders(moved, false, out)?;
-        self.run.print_waiting(out)?;
-        self.print_uncounted(capture, out)?;
-        self.run.print_force(self.forced.is_some(), out)
+        self.print_holders(moved, false, out)?;
+        self.print_waiting(out)?;
+        self.print_uncounted(out)?;
+        self.print_force(self.found.forced.is_some(), out)
     }
 
     /// The tasks that lag and aren't followed.
-    fn print_uncounted<W: Write>(&self, capture: &Capture<'a>, out: &mut W) -> io::Result<()> {
-        let Some(sample) = self.run.last.and_then(|last| capture.samples.get(last)) else {
+    fn print_uncounted<W: Write>(&self, out: &mut W) -> io::Result<()> {
+        let Some(sample) = self
+            .run
+            .last
+            .and_then(|last| self.capture.samples.get(last))
+        else {
             return Ok(());
         };
         let (running, sleeping, tasks) = (
@@ -208,18 +211,22 @@ impl<'a> Explained<'a> {
         Ok(())
     }
 
-    fn print_verdict<W: Write>(&self, capture: &Capture<'a>, out: &mut W) -> io::Result<()> {
+    fn print_verdict<W: Write>(&self, out: &mut W) -> io::Result<()> {
         let samples = self.run.shown;
-        if let Some(at) = self.forced {
+        if let Some(at) = self.found.forced {
             writeln!(
                 out,
                 "the transition was forced at {at} s: what came then isn't held against the rules"
             )?;
         }
-        if self.is_explained() {
+        if self.found.is_explained() {
             return writeln!(out, "a run of the rules shows each of {samples} samples");
         }
-        match self.failed.and_then(|failed| capture.samples.get(failed)) {
+        match self
+            .found
+            .failed
+            .and_then(|failed| self.capture.samples.get(failed))
+        {
             Some(sample) => {
                 let (from, to) = (sample.line.from, sample.line.to);
                 writeln!(
@@ -231,9 +238,8 @@ impl<'a> Explained<'a> {
         }
     }
 
-    /// Writes what moves since when, who holds it up, and whether the rules explain it.
-    pub fn print<W: Write>(&self, capture: &Capture<'a>, out: &mut W) -> io::Result<()> {
-        for file in &capture.missing {
+    fn print<W: Write>(&self, out: &mut W) -> io::Result<()> {
+        for file in &self.capture.missing {
             let file = Text(*file);
             writeln!(
                 out,
@@ -241,15 +247,29 @@ impl<'a> Explained<'a> {
             )?;
         }
         match self.run.moved {
-            Some(moved) => self.print_transition(capture, &moved, out)?,
+            Some(moved) => self.print_transition(&moved, out)?,
             None => writeln!(out, "no patch was in transition")?,
         }
-        if !capture.is_whole {
+        if !self.capture.is_whole {
             writeln!(
                 out,
                 "the log was cut off: what is told is as of its last whole sample"
             )?;
         }
-        self.print_verdict(capture, out)
+        self.print_verdict(out)
     }
+}
+
+/// Writes what moves since when, who holds it up, and whether the rules explain it.
+pub fn print_answer<W: Write>(
+    capture: &Capture<'_>,
+    found: &Explained<'_>,
+    out: &mut W,
+) -> io::Result<()> {
+    let answer = Answer {
+        capture,
+        found,
+        run: &found.run,
+    };
+    answer.print(out)
 }

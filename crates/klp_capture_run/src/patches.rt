@@ -1,9 +1,9 @@
 //! Lines of a trace about patches and modules: what happened to them between two samples.
-use crate::catalog::Text;
+use klp_capture::Text;
 use std::alloc::AllocError;
 
 /// What the files of a patch read, `enabled` and `transition`; none if it isn't there.
-pub(crate) type Files = Option<(bool, bool)>;
+pub type Files = Option<(bool, bool)>;
 
 /// Lines about one patch.
 #[derive(Drop)]

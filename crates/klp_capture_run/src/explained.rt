@@ -2,14 +2,12 @@
 ghost use Rattle.std.specs.Prelude.{◌≡◌, ◌≤◌, true, length, string_bytes, Ok, IfOk};
 ghost use Rattle.klp_catalog_text.specs.Within.{AreTargetsWithin};
 ghost use Rattle.klp_program.specs.Watches.{Watches};
-ghost use Rattle.klp_capture.specs.Explained.{is_honest};
+ghost use Rattle.klp_capture_run.specs.Explained.{is_honest};
 
-use crate::capture::Capture;
-use crate::catalog::Text;
 use crate::functions::Functions;
 use crate::run::Run;
-use crate::time::Moment;
 use klp_callback::Boxed;
+use klp_capture::{Capture, Moment, Text};
 use klp_catalog::Catalog;
 use klp_catalog_text::Plan;
 use klp_core::Manager;
@@ -22,13 +20,14 @@ const FORCED: &[u8] = b"forcing remaining tasks";
 /// What a log comes to.
 #[derive(Drop)]
 pub struct Explained<'a> {
-    pub(crate) run: Run<'a>,
+    /// The run that was found.
+    pub run: Run<'a>,
     /// The text of the catalog, whose patches, objects and functions are those that the log names.
     pub catalog: String,
     /// Which sample no run of the rules leads to, if there is one; the first counts as 0.
-    pub(crate) failed: Option<usize>,
+    pub failed: Option<usize>,
     /// When the transition was forced, if it was. What was seen later isn't looked at.
-    pub(crate) forced: Option<Moment>,
+    pub forced: Option<Moment>,
     /// What is said of the trace.
     pub verdict: Verdict,
 }

@@ -1,6 +1,6 @@
 use Rattle.std.proofs.Common.{ℕ, List, string_bytes, Ok, subst}
 use Rattle.klp_program.specs.Watches.{Watches}
-use Rattle.klp_capture.proofs.explained.explain.Goals as goal
+use Rattle.klp_capture_run.proofs.explained.explain.Goals as goal
 
 -- the catalog and the trace that were judged are those that were made
 pub returns : goal.returns

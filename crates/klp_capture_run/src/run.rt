@@ -1,0 +1,211 @@
+//! A run of the rules that shows what a log shows, sample by sample.
+//!
+//! A log says what was, not what happened. Between two samples this looks for events that the rules allow, and that lead
+//! from one to the next: it tries lines of a trace on a manager, compares what is shown then, and takes them back where it
+//! isn't as the log has it. It needs no trust: what it finds is a trace, which is held against the rules as any other.
+ghost use Rattle.klp_core.specs.Journaled.{IsWellFormed};
+
+use crate::fits::fits;
+use crate::followed::Followed;
+use crate::functions::{Functions, is_changing};
+use crate::patches::Files;
+use klp_capture::{Capture, Moment, PatchRow, Sample};
+use klp_core::Manager;
+use klp_types::{MAX_GROUPS, Transition};
+use std::alloc::{AllocError, Global};
+
+/// How many events the journal may have before a sample, so that it has room for those of the sample.
+const MAX_BEFORE_A_SAMPLE: u32 = MAX_GROUPS as u32 / 2;
+
+/// How far the run has come.
+#[derive(Drop)]
+pub struct Run<'a> {
+    /// What the log names.
+    pub functions: Functions<'a>,
+    /// The tasks that the log follows, by their numbers in the trace.
+    pub tasks: Vec<Followed<'a>>,
+    /// For each patch what its files read in the last sample; none if it wasn't there.
+    pub files: Vec<Files>,
+    /// For each object whether it is loaded.
+    pub(crate) loaded: Vec<bool>,
+    /// The trace so far.
+    pub trace: String,
+    /// How many tasks the log follows for which the rules have no number.
+    pub left_out: u64,
+    /// How many samples were left out, since a patch changed while they were taken.
+    pub torn: u64,
+    /// How many samples the run shows.
+    pub shown: u64,
+    /// The last transition that was seen.
+    pub moved: Option<Moved>,
+    /// The last sample that was come to.
+    pub last: Option<usize>,
+}
+
+/// A transition that was seen.
+#[derive(Clone, Copy)]
+pub struct Moved {
+    /// The index of its patch.
+    pub patch: usize,
+    /// Whether the patch is being enabled.
+    pub target: bool,
+    /// The first sample of it.
+    pub from: Moment,
+    /// The last sample of it.
+    pub to: Moment,
+}
+
+impl Moved {
+    /// Whether the transition that is under way is this one.
+    fn is_still(self, moving: Transition) -> bool {
+        self.patch == usize::from(moving.patch.0) && self.target == moving.target
+    }
+}
+
+impl<'a> Run<'a> {
+    pub(crate) fn new(alloc: Global, functions: Functions<'a>) -> Result<Run<'a>, AllocError> {
+        let mut files = Vec::new(alloc);
+        for _patch in &functions.patches {
+            files.push(None)?;
+        }
+        let mut loaded = Vec::new(alloc);
+        for object in 0..functions.objects.len() {
+            loaded.push(object == 0)?;
+        }
+        Ok(Run {
+            functions,
+            tasks: Vec::new(alloc),
+            files,
+            loaded,
+            trace: String::new(alloc),
+            left_out: 0,
+            torn: 0,
+            shown: 0,
+            moved: None,
+            last: None,
+        })
+    }
+
+    /// The objects that were loaded since the last sample.
+    fn loads_in(&self, alloc: Global, rows: &[PatchRow<'a>]) -> Result<Vec<usize>, AllocError> {
+        let mut loads = Vec::new(alloc);
+        let mut object = None;
+        for row in rows {
+            match row {
+                PatchRow::Object(name) => {
+                    object = self.functions.objects.iter().position(|own| own == name);
+                }
+                PatchRow::Loaded => {
+                    if let Some(number) = object
+                        && self.loaded.get(number) == Some(&false)
+                        && !loads.contains(&number)
+                    {
+                        loads.push(number)?;
+                    }
+                }
+                _ => {}
+            }
+        }
+        Ok(loads)
+    }
+
+    /// Goes on to a sample: looks for lines that lead to it, and takes their events. False if there are none; then the
+    /// trace has the lines that were tried first.
+    fn advance(
+        &mut self,
+        alloc: Global,
+        manager: &mut Manager,
+        capture: &Capture<'a>,
+        number: usize,
+        sample: &Sample,
+    ) -> Result<bool, AllocError>
+        requires { IsWellFormed manager.old }
+    {
+        let rows = sample.patches.of(&capture.rows);
+        let after = self.files_at(alloc, rows)?;
+        let loads = self.loads_in(alloc, rows)?;
+        if self.last.is_none() {
+            self.stand(&after);
+        }
+        let step = self.step(alloc, capture, number, sample, &after)?;
+        if manager.mark() > MAX_BEFORE_A_SAMPLE {
+            manager.seal();
+        }
+        let mark = manager.mark();
+        let first = self.lines(alloc, &step, &after, &loads, None)?;
+        let mut found = None;
+        if fits(alloc, manager, &first) {
+            self.trace.push_str(&first)?;
+            found = Some(());
+        }
+        for place in 0..step.places() {
+            if found.is_some() {
+                break;
+            }
+            let _ = manager.rewind(mark);
+            let lines = self.lines(alloc, &step, &after, &loads, Some(place))?;
+            if fits(alloc, manager, &lines) {
+                self.trace.push_str(&lines)?;
+                found = Some(());
+            }
+        }
+        if found.is_none() {
+            let _ = manager.rewind(mark);
+            self.trace.push_str(&first)?;
+            return Ok(false);
+        }
+        self.settle(step, after, &loads);
+        Ok(true)
+    }
+
+    /// Notes who lags behind the transition that is under way, if there is one.
+    fn note_lags(&mut self, manager: &Manager, moment: Moment) {
+        let Some(moving) = manager.moving() else {
+            return;
+        };
+        self.moved = Some(Moved {
+            patch: usize::from(moving.patch.0),
+            target: moving.target,
+            from: match self.moved {
+                Some(moved) if moved.is_still(moving) => moved.from,
+                _ => moment,
+            },
+            to: moment,
+        });
+        let lags = manager.holders();
+        for number in 0..self.tasks.len() {
+            let lag = lags.get(number).copied().unwrap_or(None);
+            if let Some(task) = self.tasks.get_mut(number) {
+                task.note_lag(lag, moment);
+            }
+        }
+    }
+
+    /// Goes on to each sample in turn, up to this moment. Returns the number of the first sample to which nothing leads.
+    pub(crate) fn explore(
+        &mut self,
+        alloc: Global,
+        manager: &mut Manager,
+        capture: &Capture<'a>,
+        until: Option<Moment>,
+    ) -> Result<Option<usize>, AllocError>
+        requires { IsWellFormed manager.old }
+    {
+        for (number, sample) in capture.samples.iter().enumerate() {
+            let _for_its_clause = manager.mark();
+            if until.is_some_and(|until| sample.line.to >= until) {
+                break;
+            }
+            if sample.line.is_torn || is_changing(sample.patches.of(&capture.rows)) {
+                self.torn = self.torn.saturating_add(1);
+            } else if !self.advance(alloc, manager, capture, number, sample)? {
+                return Ok(Some(number));
+            } else {
+                self.note_lags(manager, sample.line.from);
+                self.last = Some(number);
+                self.shown = self.shown.saturating_add(1);
+            }
+        }
+        Ok(None)
+    }
+}
