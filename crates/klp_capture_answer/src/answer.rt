@@ -1,6 +1,6 @@
 //! What a log comes to, in a few lines of words.
 use klp_capture::{Capture, Elapsed, Text};
-use klp_capture_run::{Explained, Followed, Held, Moved, Run};
+use klp_capture_run::{Explained, Followed, Moved, Run, Stay};
 use klp_core::Lag;
 use klp_types::{Mode, Version};
 use std::io::Write;
@@ -61,7 +61,7 @@ impl<'r, 'a> Answer<'r, 'a> {
         moved: &Moved,
         is_over: bool,
         task: &Followed<'a>,
-        held: Held,
+        held: Stay,
         out: &mut W,
     ) -> io::Result<()> {
         let name = Called(task);
@@ -88,10 +88,10 @@ impl<'r, 'a> Answer<'r, 'a> {
 
     fn print_holders<W: Write>(&self, moved: &Moved, is_over: bool, out: &mut W) -> io::Result<()> {
         for task in &self.run.tasks {
-            if let Some(held) = task.held
-                && held.to >= moved.from
+            if let Some(stay) = task.stays.last()
+                && stay.to >= moved.from
             {
-                self.print_holder(moved, is_over, task, held, out)?;
+                self.print_holder(moved, is_over, task, *stay, out)?;
             }
         }
         Ok(())
@@ -246,8 +246,8 @@ impl<'r, 'a> Answer<'r, 'a> {
                 "the kernel doesn't show {file}: is this root, and is it configured?"
             )?;
         }
-        match self.run.moved {
-            Some(moved) => self.print_transition(&moved, out)?,
+        match self.run.transitions.last() {
+            Some(moved) => self.print_transition(moved, out)?,
             None => writeln!(out, "no patch was in transition")?,
         }
         if !self.capture.is_whole {

@@ -27,13 +27,15 @@ pub struct Followed<'a> {
     pub(crate) has_ended: bool,
     /// Why it wasn't at the target in the last sample of a transition.
     pub lag: Option<Lag>,
-    /// The last time that it held a transition up, if it did.
-    pub held: Option<Held>,
+    /// The stays in which it held a transition up, in their order.
+    pub stays: Vec<Stay>,
 }
 
-/// When a task held a transition up, and in which function.
+/// How long a task held a transition up, in one function and without having run.
 #[derive(Clone, Copy)]
-pub struct Held {
+pub struct Stay {
+    /// The index of the transition.
+    pub transition: usize,
     /// The first sample in which it did so.
     pub from: Moment,
     /// The last of them.

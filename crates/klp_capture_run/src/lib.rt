@@ -15,9 +15,11 @@ mod patches;
 mod run;
 mod settle;
 mod step;
+mod transition;
 
 pub use explained::{Explained, explain};
-pub use followed::{Followed, Held};
+pub use followed::{Followed, Stay};
 pub use functions::{Functions, SeenFunction, SeenPatch};
 pub use patches::Files;
-pub use run::{Moved, Run};
+pub use run::Run;
+pub use transition::{End, Ending, Moved, Since};

@@ -9,9 +9,10 @@ use crate::fits::fits;
 use crate::followed::Followed;
 use crate::functions::{Functions, is_changing};
 use crate::patches::Files;
+use crate::transition::{End, Moved, since_when};
 use klp_capture::{Capture, Moment, PatchRow, Sample};
 use klp_core::Manager;
-use klp_types::{MAX_GROUPS, Transition};
+use klp_types::MAX_GROUPS;
 use std::alloc::{AllocError, Global};
 
 /// How many events the journal may have before a sample, so that it has room for those of the sample.
@@ -36,30 +37,10 @@ pub struct Run<'a> {
     pub torn: u64,
     /// How many samples the run shows.
     pub shown: u64,
-    /// The last transition that was seen.
-    pub moved: Option<Moved>,
+    /// The transitions that were seen, in their order.
+    pub transitions: Vec<Moved>,
     /// The last sample that was come to.
     pub last: Option<usize>,
-}
-
-/// A transition that was seen.
-#[derive(Clone, Copy)]
-pub struct Moved {
-    /// The index of its patch.
-    pub patch: usize,
-    /// Whether the patch is being enabled.
-    pub target: bool,
-    /// The first sample of it.
-    pub from: Moment,
-    /// The last sample of it.
-    pub to: Moment,
-}
-
-impl Moved {
-    /// Whether the transition that is under way is this one.
-    fn is_still(self, moving: Transition) -> bool {
-        self.patch == usize::from(moving.patch.0) && self.target == moving.target
-    }
 }
 
 impl<'a> Run<'a> {
@@ -81,7 +62,7 @@ impl<'a> Run<'a> {
             left_out: 0,
             torn: 0,
             shown: 0,
-            moved: None,
+            transitions: Vec::new(alloc),
             last: None,
         })
     }
@@ -158,27 +139,88 @@ impl<'a> Run<'a> {
         Ok(true)
     }
 
-    /// Notes who lags behind the transition that is under way, if there is one.
-    fn note_lags(&mut self, manager: &Manager, moment: Moment) {
-        let Some(moving) = manager.moving() else {
+    /// Whether the last transition that was seen goes on, as far as is known.
+    fn is_under_way(&self, patch: usize, target: bool) -> bool {
+        match self.transitions.last() {
+            Some(moved) => moved.end.is_none() && moved.is_of(patch, target),
+            None => false,
+        }
+    }
+
+    /// Notes that the last transition isn't under way any more, if it was.
+    fn note_end(&mut self, moment: Moment) {
+        let Some(moved) = self.transitions.last_mut() else {
             return;
         };
-        self.moved = Some(Moved {
-            patch: usize::from(moving.patch.0),
-            target: moving.target,
-            from: match self.moved {
-                Some(moved) if moved.is_still(moving) => moved.from,
-                _ => moment,
-            },
+        if moved.end.is_none() {
+            let files = self.files.get(moved.patch).copied().unwrap_or(None);
+            let ending = moved.ending_by(files);
+            moved.end = Some(End { at: moment, ending });
+        }
+    }
+
+    /// Notes the transition that is under way in a sample, or that the last one ended.
+    fn note_transition(
+        &mut self,
+        capture: &Capture<'a>,
+        sample: &Sample,
+        moving: Option<(usize, bool)>,
+    ) -> Result<(), AllocError> {
+        let moment = sample.line.from;
+        let Some((patch, target)) = moving else {
+            self.note_end(moment);
+            return Ok(());
+        };
+        if self.is_under_way(patch, target) {
+            if let Some(moved) = self.transitions.last_mut() {
+                moved.to = moment;
+            }
+            return Ok(());
+        }
+        self.note_end(moment);
+        let name = match self.functions.patches.get(patch) {
+            Some(patch) => patch.name,
+            None => b"",
+        };
+        let before = match self.last.and_then(|last| capture.samples.get(last)) {
+            Some(last) => Some(last.line.from),
+            None => None,
+        };
+        self.transitions.push(Moved {
+            patch,
+            target,
+            since: since_when(capture, name, target, sample, before),
+            from: moment,
             to: moment,
-        });
+            end: None,
+        })?;
+        Ok(())
+    }
+
+    /// Notes what is under way in a sample that was come to, and who lags behind it.
+    fn note(
+        &mut self,
+        manager: &Manager,
+        capture: &Capture<'a>,
+        sample: &Sample,
+    ) -> Result<(), AllocError> {
+        let moving = match manager.moving() {
+            Some(moving) => Some((usize::from(moving.patch.0), moving.target)),
+            None => None,
+        };
+        self.note_transition(capture, sample, moving)?;
+        if moving.is_none() {
+            return Ok(());
+        }
+        let transition = self.transitions.len().saturating_sub(1);
         let lags = manager.holders();
         for number in 0..self.tasks.len() {
             let lag = lags.get(number).copied().unwrap_or(None);
             if let Some(task) = self.tasks.get_mut(number) {
-                task.note_lag(lag, moment);
+                task.note_lag(lag, transition, sample.line.from)?;
             }
         }
+        Ok(())
     }
 
     /// Goes on to each sample in turn, up to this moment. Returns the number of the first sample to which nothing leads.
@@ -201,7 +243,7 @@ impl<'a> Run<'a> {
             } else if !self.advance(alloc, manager, capture, number, sample)? {
                 return Ok(Some(number));
             } else {
-                self.note_lags(manager, sample.line.from);
+                self.note(manager, capture, sample)?;
                 self.last = Some(number);
                 self.shown = self.shown.saturating_add(1);
             }

@@ -1,19 +1,12 @@
 //! What a run knows once it has come to a sample.
-use crate::followed::{Followed, Held, Sighting};
+use crate::followed::{Followed, Sighting, Stay};
 use crate::patches::Files;
 use crate::run::Run;
 use crate::step::{Facts, Named, Step, state_at};
 use klp_capture::{Activity, Moment};
 use klp_core::Lag;
 use klp_types::Mode;
-
-/// Since when a task holds the transition up: as it did before if that goes on.
-fn since(held: Option<Held>, goes_on: bool, moment: Moment) -> Moment {
-    match held {
-        Some(held) if goes_on => held.from,
-        _ => moment,
-    }
-}
+use std::alloc::AllocError;
 
 /// What a task is inside of, and how it is, once it was seen so.
 fn mode_of(seen: &Sighting) -> Mode {
@@ -25,19 +18,35 @@ fn mode_of(seen: &Sighting) -> Mode {
 }
 
 impl<'a> Followed<'a> {
-    /// It lags so in a sample of this moment, or doesn't. It holds the transition up since the first of the samples that
-    /// follow one another in which it does so in the same function.
-    pub(crate) fn note_lag(&mut self, lag: Option<Lag>, moment: Moment) {
+    /// It lags so in a sample of a transition, or doesn't. A stay goes on as long as it holds the transition up in the
+    /// same function in samples that follow one another, and doesn't run.
+    pub(crate) fn note_lag(
+        &mut self,
+        lag: Option<Lag>,
+        transition: usize,
+        moment: Moment,
+    ) -> Result<(), AllocError> {
         let is_same = self.lag == lag;
         self.lag = lag;
-        if let Some(Lag::Holds(version)) = lag {
-            let from = since(self.held, is_same, moment);
-            self.held = Some(Held {
-                from,
-                to: moment,
-                version,
-            });
+        let Some(Lag::Holds(version)) = lag else {
+            return Ok(());
+        };
+        let since = self.since;
+        if let Some(stay) = self.stays.last_mut()
+            && is_same
+            && stay.transition == transition
+            && since <= stay.to
+        {
+            stay.to = moment;
+            return Ok(());
         }
+        self.stays.push(Stay {
+            transition,
+            from: moment,
+            to: moment,
+            version,
+        })?;
+        Ok(())
     }
 
     /// It has begun, and is where it was seen first.

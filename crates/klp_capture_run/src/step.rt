@@ -119,7 +119,7 @@ impl<'a> Run<'a> {
                     since: sample.line.from,
                     has_ended: false,
                     lag: None,
-                    held: None,
+                    stays: Vec::new(alloc),
                 })?;
             }
         }
