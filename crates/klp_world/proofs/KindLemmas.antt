@@ -10,7 +10,7 @@ use Rattle.klp_types.specs.declared.edit.Edit.{Edit}
 use Rattle.klp_types.specs.declared.edit.Edit.TheVariants.{Alloc, Free, FreeAll, SetData, TakePrev}
 use Rattle.klp_types.specs.World.{World, variable, state_value, states_of, previous_value, ShadowValue}
 use Rattle.klp_types.specs.Script.{Script, edited, edits_made}
-use Rattle.klp_world.specs.StoredEvent.{row_if_added, row_if_removed, variable_row, row_if_set, state_row, place_of, rows_of_alloc, rows_of_free, rows_of_free_all, rows_of_add, rows_if_dropped, rows_of_drop, rows_of_take, rows_of_edit, rows_of_edits, rows_of_script}
+use Rattle.klp_world.specs.StoredEvent.{row_if_added, row_if_removed, variable_row, row_if_set, state_row, place_of, rows_of_free_all, rows_of_add, rows_if_dropped, rows_of_drop, rows_of_take, rows_of_edit, rows_of_edits, rows_of_script}
 use Rattle.klp_world.specs.Undo.{is_of_world}
 
 -- a row of the world
