@@ -1,8 +1,16 @@
-//! What a log comes to, in a few lines of words: what moves since when, who holds it up, and what a force would leave.
+//! What a log comes to: what moves since when, who holds it up, and what a force would leave.
+//!
+//! [`report_of`] gathers it as data ([`Report`]), which [`print_report`] writes in words and [`print_json`] for programs.
+//! Names are shown as they are, but for what would drive a terminal. [`print_preflight`] is for a log from before a patch:
+//! who is inside of the functions that it would change.
 #![tactic(auto)]
 
-mod answer;
-mod preflight;
+mod gather;
+mod inside;
+mod refused;
+mod report;
+mod words;
 
-pub use answer::print_answer;
-pub use preflight::print_preflight;
+pub use gather::report_of;
+pub use report::{Report, print_json};
+pub use words::print_report;

@@ -7,7 +7,7 @@ const SHOWN: usize = 64;
 
 /// Writes bytes as they are, except those that drive a terminal, can't be seen or are no text: these it escapes.
 #[derive(Clone, Copy)]
-pub(crate) struct Escaped<'a>(pub(crate) &'a [u8]);
+pub struct Escaped<'a>(pub &'a [u8]);
 
 /// Writes bytes as [`Escaped`] does, between quotes. Cuts them off behind the first [`SHOWN`], and writes `..` then.
 #[derive(Clone, Copy)]

@@ -35,4 +35,7 @@ mod stray;
 mod unpicked;
 mod wrong;
 
+pub use escaped::Escaped;
 pub use inputs::{FileText, Inputs, Kind, file_in};
+pub use lines::line_at;
+pub use replay::rules_of;

@@ -4,7 +4,7 @@ use klp_catalog_text::Lines;
 use klp_words::LineWords;
 
 /// Returns the line of this number, counted from 1, of a catalog or a trace. A line that isn't there is empty.
-pub(crate) fn line_at(text: &[u8], number: u64) -> &[u8] {
+pub fn line_at(text: &[u8], number: u64) -> &[u8] {
     let mut lines = Lines::new(text);
     for _ in 1..number {
         lines.next();

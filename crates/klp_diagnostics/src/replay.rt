@@ -320,7 +320,7 @@ pub(crate) fn replay_of(alloc: Global, catalog: &[u8], trace: &[u8], lines: u64)
 
 /// Returns what the rules have at the line of this number, counted from 1, at which the kernel differs from them.
 /// `None` if there is no memory to find out.
-pub(crate) fn rules_of(alloc: Global, catalog: &[u8], trace: &[u8], line: u64) -> Option<String> {
+pub fn rules_of(alloc: Global, catalog: &[u8], trace: &[u8], line: u64) -> Option<String> {
     let replay = replayed(alloc, catalog, trace, Question::Rules(line))?;
     replay.rules
 }

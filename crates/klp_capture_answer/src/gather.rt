@@ -1,0 +1,244 @@
+//! A report, gathered from a log and the run that shows it.
+use crate::inside::inside_of;
+use crate::refused::refused_of;
+use crate::report::{Becomes, Counts, EndReport, Holder, How, Lagging, Left, Report, Samples};
+use crate::report::{TaskReport, TransitionReport, Why};
+use klp_capture::{Capture, Text};
+use klp_capture_run::{Ending, Explained, Followed, Moved, Run, Since, Stay};
+use klp_core::Lag;
+use klp_types::{Mode, Version};
+use std::alloc::{AllocError, Global};
+
+/// Bytes of a log as text.
+pub(crate) fn text_of(alloc: Global, bytes: &[u8]) -> Result<String, AllocError> {
+    format!(in alloc; "{}", Text(bytes))
+}
+
+/// A task of the run.
+fn task_of(alloc: Global, task: &Followed<'_>) -> Result<TaskReport, AllocError> {
+    Ok(TaskReport {
+        name: text_of(alloc, task.name)?,
+        thread: task.thread,
+        is_kernel_thread: task.is_kernel_thread,
+    })
+}
+
+/// The name of a version of a function that the log has, or none.
+fn name_of<'a>(run: &Run<'a>, version: Version) -> Option<&'a [u8]> {
+    let Version::New(patch, index) = version else {
+        return None;
+    };
+    let found = run.functions.functions.iter().find(|function|
+        usize::from(patch.0) == function.patch && function.index == Some(index))?;
+    Some(found.new_name.unwrap_or(found.name))
+}
+
+/// The name of a function that holds a transition up.
+fn function_name(
+    alloc: Global,
+    run: &Run<'_>,
+    version: Version,
+) -> Result<String, AllocError> {
+    match (version, name_of(run, version)) {
+        (_, Some(name)) => text_of(alloc, name),
+        (Version::Original(site), None) => {
+            text_of(alloc, run.functions.name_at(usize::from(site.0)))
+        }
+        (Version::New(_, _), None) => text_of(alloc, b"a function of the patch"),
+    }
+}
+
+fn patch_name(alloc: Global, run: &Run<'_>, patch: usize) -> Result<String, AllocError> {
+    match run.functions.patches.get(patch) {
+        Some(patch) => text_of(alloc, patch.name),
+        None => text_of(alloc, b""),
+    }
+}
+
+/// A stay of a task, in a transition that ended or didn't.
+fn holder_of(
+    alloc: Global,
+    run: &Run<'_>,
+    task: &Followed<'_>,
+    stay: Stay,
+    holds_still: bool,
+) -> Result<Holder, AllocError> {
+    Ok(Holder {
+        task: task_of(alloc, task)?,
+        function: function_name(alloc, run, stay.version)?,
+        from_us: stay.from.0,
+        to_us: stay.to.0,
+        holds_still,
+    })
+}
+
+/// The stays in which tasks held a transition up.
+fn holders_of(
+    alloc: Global,
+    run: &Run<'_>,
+    number: usize,
+    moved: &Moved,
+    is_over: bool,
+) -> Result<Vec<Holder>, AllocError> {
+    let mut holders = Vec::new(alloc);
+    for task in &run.tasks {
+        for stay in &task.stays {
+            if stay.transition == number {
+                let holds_still = !is_over && stay.to == moved.to;
+                holders.push(holder_of(alloc, run, task, *stay, holds_still)?)?;
+            }
+        }
+    }
+    Ok(holders)
+}
+
+/// Who lags in the last sample, and doesn't hold the transition up.
+fn lagging_of(alloc: Global, run: &Run<'_>) -> Result<Vec<Lagging>, AllocError> {
+    let mut lagging = Vec::new(alloc);
+    for task in &run.tasks {
+        let why = match task.lag {
+            Some(Lag::Waits(Mode::Asleep)) => Why::AsleepElsewhere,
+            Some(Lag::Waits(_)) => Why::Runs,
+            _ => continue,
+        };
+        let task = task_of(alloc, task)?;
+        lagging.push(Lagging { task, why })?;
+    }
+    Ok(lagging)
+}
+
+/// Whom a force leaves, or would leave, asleep in a function that isn't called any more.
+fn left_of(alloc: Global, run: &Run<'_>) -> Result<Vec<Left>, AllocError> {
+    let mut left = Vec::new(alloc);
+    for task in &run.tasks {
+        if let Some(Lag::Holds(version)) = task.lag {
+            left.push(Left {
+                task: task_of(alloc, task)?,
+                function: function_name(alloc, run, version)?,
+            })?;
+        }
+    }
+    Ok(left)
+}
+
+/// How a transition ended, if it did. The last one of a log that has a force ended by it.
+fn end_of(found: &Explained<'_>, moved: &Moved, is_last: bool) -> Option<EndReport> {
+    if let Some(end) = moved.end {
+        let how = match end.ending {
+            Ending::Complete => How::Complete,
+            Ending::Reversed => How::Reversed,
+        };
+        return Some(EndReport { at_us: end.at.0, how });
+    }
+    match found.forced {
+        Some(at) if is_last => Some(EndReport {
+            at_us: at.0,
+            how: How::Forced,
+        }),
+        _ => None,
+    }
+}
+
+fn transition_of(
+    alloc: Global,
+    found: &Explained<'_>,
+    number: usize,
+    moved: &Moved,
+) -> Result<TransitionReport, AllocError> {
+    let run = &found.run;
+    let is_last = number.saturating_add(1) == run.transitions.len();
+    let end = end_of(found, moved, is_last);
+    let (since, is_start_known) = match moved.since {
+        Since::Logged(at) => (at, true),
+        Since::AtOrBefore(at) => (at, false),
+    };
+    let becomes = if moved.target {
+        Becomes::Enabled
+    } else {
+        Becomes::Disabled
+    };
+    let lagging = if is_last && end.is_none() {
+        lagging_of(alloc, run)?
+    } else {
+        Vec::new(alloc)
+    };
+    Ok(TransitionReport {
+        patch: patch_name(alloc, run, moved.patch)?,
+        becomes,
+        since_us: since.0,
+        is_start_known,
+        first_sample_us: moved.from.0,
+        last_sample_us: moved.to.0,
+        end,
+        holders: holders_of(alloc, run, number, moved, end.is_some())?,
+        lagging,
+    })
+}
+
+fn transitions_of(
+    alloc: Global,
+    found: &Explained<'_>,
+) -> Result<Vec<TransitionReport>, AllocError> {
+    let mut transitions = Vec::new(alloc);
+    for (number, moved) in found.run.transitions.iter().enumerate() {
+        transitions.push(transition_of(alloc, found, number, moved)?)?;
+    }
+    Ok(transitions)
+}
+
+/// The tasks that lag and aren't followed.
+fn others_of(capture: &Capture<'_>, run: &Run<'_>) -> Counts {
+    let left_out = run.left_out;
+    match run.last.and_then(|last| capture.samples.get(last)) {
+        Some(sample) => Counts {
+            tasks: sample.line.tasks,
+            running: sample.line.running,
+            sleeping: sample.line.sleeping,
+            left_out,
+        },
+        None => Counts {
+            tasks: 0,
+            running: 0,
+            sleeping: 0,
+            left_out,
+        },
+    }
+}
+
+/// The files that the kernel didn't show.
+fn missing_of(alloc: Global, capture: &Capture<'_>) -> Result<Vec<String>, AllocError> {
+    let mut missing = Vec::new(alloc);
+    for file in &capture.missing {
+        missing.push(text_of(alloc, file)?)?;
+    }
+    Ok(missing)
+}
+
+/// Gathers what a log comes to.
+pub fn report_of(
+    alloc: Global,
+    capture: &Capture<'_>,
+    found: &Explained<'_>,
+) -> Result<Report, AllocError> {
+    let run = &found.run;
+    Ok(Report {
+        kernel: text_of(alloc, capture.kernel)?,
+        missing: missing_of(alloc, capture)?,
+        is_preflight: !capture.asked.is_empty(),
+        inside: inside_of(alloc, capture)?,
+        transitions: transitions_of(alloc, found)?,
+        left_by_force: left_of(alloc, run)?,
+        forced_at_us: match found.forced {
+            Some(at) => Some(at.0),
+            None => None,
+        },
+        others: others_of(capture, run),
+        samples: Samples {
+            shown: run.shown,
+            left_out: run.torn,
+        },
+        is_cut_off: !capture.is_whole,
+        is_explained: found.is_explained(),
+        refused: refused_of(alloc, capture, found)?,
+    })
+}
