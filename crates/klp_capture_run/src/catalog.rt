@@ -1,10 +1,17 @@
 //! The catalog of what a log names, as text.
 use crate::functions::{Functions, Place};
 use klp_capture::Text;
+use klp_types::MAX_SYMBOL_NAME;
+use klp_words::is_name;
 use std::alloc::{AllocError, Global};
 
 /// The first five bytes of a function that can be patched: a NOP.
 const NOP: &str = "0f1f440000";
+
+/// As much of a symbol's name as a catalog has room for.
+fn cut_name(name: &[u8]) -> Text<'_> {
+    Text(name.get(..MAX_SYMBOL_NAME).unwrap_or(name))
+}
 
 impl Functions<'_> {
     /// Writes the symbol of a function, as the console spells it.
@@ -17,7 +24,7 @@ impl Functions<'_> {
             return Ok(());
         };
         let object = Text(self.objects.get(function.object).copied().unwrap_or(b""));
-        let name = Text(function.name);
+        let name = cut_name(function.name);
         let position = function.position;
         write!(text, ".klp.sym.{object}.{name},{position}")
     }
@@ -44,7 +51,7 @@ impl Functions<'_> {
             writeln!(text, "object {object}")?;
             for symbol in &self.symbols {
                 if symbol.object == number {
-                    let name = Text(symbol.name);
+                    let name = cut_name(symbol.name);
                     let address = symbol.address;
                     writeln!(text, "symbol {name} {address:x} {NOP}")?;
                 }
@@ -68,11 +75,11 @@ impl Functions<'_> {
             self.write_symbol(text, number)?;
             let address = function.new_address;
             match function.new_name {
-                Some(name) => {
+                Some(name) if is_name(name) => {
                     let name = Text(name);
                     writeln!(text, " {name} {address:x}")?;
                 }
-                None => writeln!(text, " new_function_{number} {address:x}")?,
+                _ => writeln!(text, " new_function_{number} {address:x}")?,
             }
         }
         Ok(())

@@ -1,5 +1,5 @@
 //! A log explained: a catalog of what it names, a run of the rules that shows it, and whether that is one.
-ghost use Rattle.std.specs.Prelude.{◌≡◌, ◌≤◌, true, length, string_bytes, Ok, IfOk};
+ghost use Rattle.std.specs.Prelude.{◌≡◌, ◌≤◌, ◌<◌, ◌↔◌, true, false, length, string_bytes, None, Ok, IfOk};
 ghost use Rattle.klp_catalog_text.specs.Within.{AreTargetsWithin};
 ghost use Rattle.klp_program.specs.Watches.{Watches};
 ghost use Rattle.klp_capture_run.specs.Explained.{is_honest};
@@ -26,6 +26,11 @@ pub struct Explained<'a> {
     pub catalog: String,
     /// Which sample no run of the rules leads to, if there is one; the first counts as 0.
     pub failed: Option<usize>,
+    /// The same in a log that was cut off. A force may lead to that sample, whose line such a log lacks. So neither it nor
+    /// what comes later is judged.
+    pub unjudged: Option<usize>,
+    /// How many samples weren't come to: those behind a force, and those from the first on that nothing leads to.
+    pub later: u64,
     /// When the transition was forced, if it was. What was seen later isn't looked at.
     pub forced: Option<Moment>,
     /// What is said of the trace.
@@ -33,13 +38,26 @@ pub struct Explained<'a> {
 }
 
 impl<'a> Explained<'a> {
-    /// Whether a run of the rules shows all that was recorded: each sample is in the trace, and the trace is honest.
+    /// Whether a run of the rules shows what was recorded: some sample is in the trace, nothing leads to none of them, and
+    /// the trace is honest.
     pub fn is_explained(&self) -> bool
-        ensures { result ≡ true → is_honest self.now.verdict ≡ true }
+        ensures { (result ≡ true) ↔
+            ((is_honest self.now.verdict ≡ true) × (self.now.failed ≡ None) × (0 < self.now.run.shown)) }
     {
         match self.verdict {
-            Verdict::Honest(_) => self.failed.is_none(),
+            Verdict::Honest(_) => self.failed.is_none() && self.run.shown > 0,
             _ => false,
+        }
+    }
+
+    /// Whether no run of the rules shows what was recorded. A log that shows no sample at all is neither explained nor
+    /// refuted.
+    pub fn is_refuted(&self) -> bool
+        ensures { (result ≡ false) ↔ ((is_honest self.now.verdict ≡ true) × (self.now.failed ≡ None)) }
+    {
+        match self.verdict {
+            Verdict::Honest(_) => self.failed.is_some(),
+            _ => true,
         }
     }
 
@@ -114,23 +132,84 @@ fn explore_over_plan<'a>(
     Ok(explore_by(alloc, manager, run, capture, forced)?)
 }
 
-/// Explains a log: makes a catalog of what it names, and looks for a run of the rules that shows each sample. The verdict
-/// is that of `klpwatch` on the trace that was found, over that catalog.
+/// A run, and the first sample that it doesn't lead to.
+#[derive(Drop)]
+struct Explored<'a> {
+    run: Run<'a>,
+    catalog: String,
+    stopped: Option<usize>,
+}
+
+/// Makes a catalog of what a log names, and looks for a run over it.
+fn explored<'a>(
+    alloc: Global,
+    capture: &Capture<'a>,
+    forced: Option<Moment>,
+    guesses: bool,
+) -> Result<Explored<'a>, Fault> {
+    let functions = Functions::of(alloc, capture, guesses)?;
+    let catalog = functions.catalog(alloc)?;
+    let mut run = Run::new(alloc, functions)?;
+    let plan = Catalog::read(alloc, catalog.as_bytes())?;
+    let stopped = explore_over_plan(alloc, plan, &mut run, capture, forced)?;
+    Ok(Explored {
+        run,
+        catalog,
+        stopped,
+    })
+}
+
+/// How far a run comes: the first sample that it doesn't lead to.
+fn reached(
+    alloc: Global,
+    capture: &Capture<'_>,
+    forced: Option<Moment>,
+    guesses: bool,
+) -> Result<Option<usize>, Fault> {
+    let found = explored(alloc, capture, forced, guesses)?;
+    Ok(found.stopped)
+}
+
+/// Whether a run comes further if the patch that is in transition last is taken for a cumulative one. A log shows that
+/// only once its transition is complete, or by the symbols at its end. One that was cut off may lack both.
+fn is_better_guessed(
+    alloc: Global,
+    capture: &Capture<'_>,
+    forced: Option<Moment>,
+) -> Result<bool, Fault> {
+    if capture.is_whole {
+        return Ok(false);
+    }
+    let Some(stopped) = reached(alloc, capture, forced, false)? else {
+        return Ok(false);
+    };
+    match reached(alloc, capture, forced, true)? {
+        Some(later) => Ok(later > stopped),
+        None => Ok(true),
+    }
+}
+
+/// Explains a log: makes a catalog of what it names, and looks for a run of the rules that shows each sample. The
+/// verdict is that of `klpwatch` on the trace that was found, over that catalog.
 pub fn explain<'a>(alloc: Global, capture: &Capture<'a>) -> Result<Explained<'a>, Fault>
     ensures judged { IfOk result
         (λ found. Watches (string_bytes found.catalog) (string_bytes found.run.trace) (Ok found.verdict)) }
 {
-    let functions = Functions::of(alloc, capture)?;
-    let catalog = functions.catalog(alloc)?;
-    let mut run = Run::new(alloc, functions)?;
     let forced = forced_in(capture);
-    let plan = Catalog::read(alloc, catalog.as_bytes())?;
-    let failed = explore_over_plan(alloc, plan, &mut run, capture, forced)?;
-    let verdict = watch_over_text(alloc, catalog.as_bytes(), run.trace.as_bytes())?;
-    Ok(Explained {
+    let guesses = is_better_guessed(alloc, capture, forced)?;
+    let Explored {
         run,
         catalog,
-        failed,
+        stopped,
+    } = explored(alloc, capture, forced, guesses)?;
+    let verdict = watch_over_text(alloc, catalog.as_bytes(), run.trace.as_bytes())?;
+    let seen = run.shown.saturating_add(run.torn);
+    Ok(Explained {
+        later: (capture.samples.len() as u64).saturating_sub(seen),
+        failed: if capture.is_whole { stopped } else { None },
+        unjudged: if capture.is_whole { None } else { stopped },
+        run,
+        catalog,
         forced,
         verdict,
     })

@@ -1,6 +1,7 @@
 //! The functions that the patches of a log change: a catalog of what it names, and which of them a task is inside of.
+use crate::found::{FoundFunction, found_in, is_cumulative, is_shared};
 use klp_capture::{Capture, FrameLine, PatchRow, Span, SymbolLine};
-use klp_types::{MAX_OBJECTS, MAX_PATCHES, MAX_SITES};
+use klp_types::{MAX_PATCHES, MAX_SITES, MAX_SYMBOL_NAME};
 use std::alloc::{AllocError, Global};
 
 /// The object of functions that are in no module.
@@ -74,6 +75,10 @@ pub struct Functions<'a> {
     pub functions: Vec<SeenFunction<'a>>,
     pub(crate) symbols: Vec<SeenSymbol<'a>>,
     pub(crate) handler: u64,
+    /// The functions whose names are longer than `MAX_SYMBOL_NAME` bytes: the catalog has the first so many of them.
+    pub cut: Vec<&'a [u8]>,
+    /// How many functions the catalog has no room for. At most 4,096 are counted.
+    pub left_out: usize,
     /// What stands for the next address that isn't known.
     spare: u64,
 }
@@ -134,7 +139,7 @@ fn age_of(modules: &[&[u8]], name: &[u8]) -> usize {
 }
 
 /// The index of this name, which is added if it isn't there. None if there is no room.
-fn index_of<'a>(
+pub(crate) fn index_of<'a>(
     names: &mut Vec<&'a [u8]>,
     name: &'a [u8],
     most: usize,
@@ -181,48 +186,6 @@ fn patches_of<'a>(alloc: Global, capture: &Capture<'a>) -> Result<Vec<&'a [u8]>,
     Ok(names)
 }
 
-/// A function that a patch changes, as the rows have it.
-#[derive(Clone, Copy, PartialEq, Eq)]
-struct FoundFunction<'a> {
-    patch: usize,
-    object: usize,
-    name: &'a [u8],
-    position: u32,
-}
-
-/// The functions of all rows, each once, and their objects.
-fn found_in<'a>(
-    alloc: Global,
-    rows: &[PatchRow<'a>],
-    patches: &[&'a [u8]],
-    objects: &mut Vec<&'a [u8]>,
-) -> Result<Vec<FoundFunction<'a>>, AllocError> {
-    let mut found: Vec<FoundFunction<'a>> = Vec::new(alloc);
-    let mut patch = None;
-    let mut object = None;
-    for row in rows {
-        match row {
-            PatchRow::Patch { name, .. } => patch = patches.iter().position(|own| own == name),
-            PatchRow::Object(name) => object = index_of(objects, *name, MAX_OBJECTS)?,
-            PatchRow::Loaded => {}
-            PatchRow::Function { name, position } => {
-                if let (Some(patch), Some(object)) = (patch, object) {
-                    let function = FoundFunction {
-                        patch,
-                        object,
-                        name: *name,
-                        position: *position,
-                    };
-                    if found.len() < MAX_SITES && !found.contains(&function) {
-                        found.push(function)?;
-                    }
-                }
-            }
-        }
-    }
-    Ok(found)
-}
-
 /// Whether a patch is just being made or taken away: then its folder is half there, and both of its files read 0.
 pub(crate) fn is_changing(rows: &[PatchRow<'_>]) -> bool {
     rows.iter().any(|row| {
@@ -237,42 +200,23 @@ pub(crate) fn is_changing(rows: &[PatchRow<'_>]) -> bool {
     })
 }
 
-/// Whether older patches left when the transition of this one completed.
-fn is_cumulative(capture: &Capture<'_>, patch: &[u8]) -> bool {
-    let mut last: Option<usize> = None;
-    for (number, sample) in capture.samples.iter().enumerate() {
-        let after = sample.patches.of(&capture.rows);
-        if is_changing(after) {
-            continue;
-        }
-        if let Some(sample) = last.and_then(|last| capture.samples.get(last)) {
-            let before = sample.patches.of(&capture.rows);
-            let completes = files_in(before, patch) == Some((true, true))
-                && files_in(after, patch) == Some((true, false));
-            if completes && has_lost_another(before, after, patch) {
-                return true;
-            }
-        }
-        last = Some(number);
-    }
-    false
+/// The patch that is in transition in the last sample.
+fn last_moving<'a>(capture: &Capture<'a>) -> Option<&'a [u8]> {
+    let (name, _target) = moving_in(capture.samples.last()?.patches.of(&capture.rows))?;
+    Some(name)
 }
 
-fn has_lost_another(before: &[PatchRow<'_>], after: &[PatchRow<'_>], patch: &[u8]) -> bool {
-    for row in before {
-        if let PatchRow::Patch { name, .. } = row
-            && *name != patch
-            && files_in(before, name) == Some((true, false))
-            && files_in(after, name).is_none()
-        {
-            return true;
-        }
-    }
-    false
+/// Whether the symbols of a patch's module are known: a log that was cut off may lack them.
+fn has_symbols(capture: &Capture<'_>, patch: &[u8]) -> bool {
+    capture.is_whole
+        || capture
+            .symbols
+            .iter()
+            .any(|symbol| symbol.module == Some(patch))
 }
 
 /// The symbol of the new function that replaces a function of this name, if the patch's module has one.
-fn new_symbol_of<'a>(
+pub(crate) fn new_symbol_of<'a>(
     symbols: &[SymbolLine<'a>],
     patch: &[u8],
     name: &[u8],
@@ -288,38 +232,14 @@ fn new_symbol_of<'a>(
     None
 }
 
-/// Whether another patch changes this function too.
-fn is_shared(found: &[FoundFunction<'_>], function: &FoundFunction<'_>) -> bool {
-    found.iter().any(|other| {
-        other.patch != function.patch
-            && other.object == function.object
-            && other.name == function.name
-    })
-}
-
-/// Whether a patch has new functions, but none for one that another patch changes: only a cumulative patch gives a
-/// function back. So it is known as one before its transition completes.
-fn gives_back(
-    capture: &Capture<'_>,
-    found: &[FoundFunction<'_>],
-    patch: usize,
-    name: &[u8],
-) -> bool {
-    let mut has_new = false;
-    let mut has_nop = false;
-    for function in found {
-        if function.patch == patch {
-            let is_new = new_symbol_of(&capture.symbols, name, function.name).is_some();
-            has_new = has_new || is_new;
-            has_nop = has_nop || (!is_new && is_shared(found, function));
-        }
-    }
-    has_new && has_nop
-}
-
 impl<'a> Functions<'a> {
-    /// What a log names.
-    pub(crate) fn of(alloc: Global, capture: &Capture<'a>) -> Result<Functions<'a>, AllocError> {
+    /// What a log names. `guesses` has the patch that is in transition last taken for a cumulative one: a log that was cut
+    /// off doesn't show that of it.
+    pub(crate) fn of(
+        alloc: Global,
+        capture: &Capture<'a>,
+        guesses: bool,
+    ) -> Result<Functions<'a>, AllocError> {
         let names = patches_of(alloc, capture)?;
         let mut objects: Vec<&'a [u8]> = Vec::new(alloc);
         objects.push(KERNEL)?;
@@ -330,17 +250,20 @@ impl<'a> Functions<'a> {
             functions: Vec::new(alloc),
             symbols: Vec::new(alloc),
             handler: handler_in(&capture.symbols),
+            cut: Vec::new(alloc),
+            left_out: found.left_out.len(),
             spare: FIRST_ADDRESS,
         };
         for name in &names {
-            let is_cumulative = is_cumulative(capture, name)
-                || gives_back(capture, &found, functions.patches.len(), name);
+            let patch = functions.patches.len();
+            let is_cumulative = is_cumulative(capture, &found.functions, patch, name)
+                || (guesses && last_moving(capture) == Some(*name));
             functions.patches.push(SeenPatch {
                 name: *name,
                 is_cumulative,
             })?;
         }
-        functions.add_all(capture, &found)?;
+        functions.add_all(capture, &found.functions)?;
         functions.add_symbols(capture)?;
         Ok(functions)
     }
@@ -380,8 +303,14 @@ impl<'a> Functions<'a> {
         let Some(patch) = self.patches.get(function.patch).copied() else {
             return Ok(());
         };
+        if function.name.len() > MAX_SYMBOL_NAME && !self.cut.contains(&function.name) {
+            self.cut.push(function.name)?;
+        }
         let symbol = new_symbol_of(&capture.symbols, patch.name, function.name);
-        let is_nop = patch.is_cumulative && is_shared(found, function) && symbol.is_none();
+        let is_nop = patch.is_cumulative
+            && is_shared(found, function)
+            && symbol.is_none()
+            && has_symbols(capture, patch.name);
         let (new_name, new_address) = match symbol {
             Some(symbol) => (Some(symbol.name), symbol.address),
             None => (None, self.spare_address()),

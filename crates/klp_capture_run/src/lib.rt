@@ -9,6 +9,7 @@ mod catalog;
 mod explained;
 mod fits;
 mod followed;
+mod found;
 mod functions;
 mod lines;
 mod patches;

@@ -91,7 +91,8 @@ impl<'a> Run<'a> {
     }
 
     /// Goes on to a sample: looks for lines that lead to it, and takes their events. False if there are none; then the
-    /// trace has the lines that were tried first.
+    /// trace has the lines that were tried first. But a log that was cut off may lack the line of a force that leads to it,
+    /// so such lines aren't to be judged.
     fn advance(
         &mut self,
         alloc: Global,
@@ -132,7 +133,9 @@ impl<'a> Run<'a> {
         }
         if found.is_none() {
             let _ = manager.rewind(mark);
-            self.trace.push_str(&first)?;
+            if capture.is_whole {
+                self.trace.push_str(&first)?;
+            }
             return Ok(false);
         }
         self.settle(step, after, &loads);
