@@ -188,20 +188,21 @@ fn transitions_of(
 
 /// The tasks that lag and aren't followed.
 fn others_of(capture: &Capture<'_>, run: &Run<'_>) -> Counts {
-    let left_out = run.left_out;
-    match run.last.and_then(|last| capture.samples.get(last)) {
-        Some(sample) => Counts {
-            tasks: sample.line.tasks,
-            running: sample.line.running,
-            sleeping: sample.line.sleeping,
-            left_out,
-        },
-        None => Counts {
-            tasks: 0,
-            running: 0,
-            sleeping: 0,
-            left_out,
-        },
+    let (tasks, running, sleeping) = match run.last.and_then(|last| capture.samples.get(last)) {
+        Some(sample) => (
+            sample.line.tasks,
+            sample.line.running,
+            sample.line.sleeping,
+        ),
+        None => (0, 0, 0),
+    };
+    Counts {
+        tasks,
+        running,
+        sleeping,
+        left_out: run.left_out,
+        functions_left_out: run.functions.left_out as u64,
+        names_cut: run.functions.cut.len() as u64,
     }
 }
 
@@ -236,9 +237,11 @@ pub fn report_of(
         samples: Samples {
             shown: run.shown,
             left_out: run.torn,
+            later: found.later,
         },
         is_cut_off: !capture.is_whole,
         is_explained: found.is_explained(),
+        is_refuted: found.is_refuted(),
         refused: refused_of(alloc, capture, found)?,
     })
 }

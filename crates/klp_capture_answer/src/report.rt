@@ -119,6 +119,10 @@ pub struct Counts {
     pub(crate) sleeping: u64,
     /// How many tasks the log follows that aren't told, since at most 64 are.
     pub(crate) left_out: u64,
+    /// How many functions of the log's patches the catalog has no room for.
+    pub(crate) functions_left_out: u64,
+    /// How many names of functions were cut off, since they are too long.
+    pub(crate) names_cut: u64,
 }
 
 /// How many samples a run of the rules shows, and how many were left out, since a patch changed while they were taken.
@@ -126,6 +130,8 @@ pub struct Counts {
 pub struct Samples {
     pub(crate) shown: u64,
     pub(crate) left_out: u64,
+    /// How many weren't come to: those behind a force, or behind the one that no run shows.
+    pub(crate) later: u64,
 }
 
 /// What a log comes to.
@@ -145,6 +151,7 @@ pub struct Report {
     pub(crate) samples: Samples,
     pub(crate) is_cut_off: bool,
     pub(crate) is_explained: bool,
+    pub(crate) is_refuted: bool,
     pub(crate) refused: Option<Refused>,
 }
 

@@ -184,6 +184,18 @@ impl Report {
         Ok(())
     }
 
+    /// What a catalog has no room for.
+    fn print_limits<W: Write>(&self, out: &mut W) -> io::Result<()> {
+        let (left_out, cut) = (self.others.functions_left_out, self.others.names_cut);
+        if left_out > 0 {
+            writeln!(out, "{left_out} functions of the patches were left out: a catalog has no room for them")?;
+        }
+        if cut > 0 {
+            writeln!(out, "{cut} names of functions were cut off: a catalog's are shorter")?;
+        }
+        Ok(())
+    }
+
     fn print_transitions<W: Write>(&self, out: &mut W) -> io::Result<()> {
         for transition in &self.transitions {
             print_transition(transition, out)?;
@@ -219,11 +231,12 @@ impl Report {
     }
 
     fn print_verdict<W: Write>(&self, out: &mut W) -> io::Result<()> {
+        self.print_limits(out)?;
         if let Some(at) = self.forced_at_us {
             let at = seconds(at);
             writeln!(
                 out,
-                "the transition was forced at {at} s: what came then isn't held against the rules"
+                "the transition was forced at {at} s, which breaks a premise of the consistency model: what came then isn't judged"
             )?;
         }
         if self.is_cut_off {
@@ -236,17 +249,24 @@ impl Report {
         match &self.refused {
             Some(refused) => return print_refused(refused, out),
             None if shown == 0 => return writeln!(out, "the log has no sample to explain"),
-            None if !self.is_explained => {
+            None if self.is_refuted => {
                 return writeln!(out, "no run of the rules shows the samples");
             }
             None => write!(out, "a run of the rules shows each of {shown} samples")?,
         }
         match left_out {
-            0 => writeln!(out),
+            0 => writeln!(out)?,
             _ => writeln!(
                 out,
-                "; {left_out} more were left out, since a patch changed while they were taken"
+                "; {left_out} more left out, since a patch changed meanwhile"
+            )?,
+        }
+        match self.forced_at_us {
+            None => writeln!(
+                out,
+                "as far as was seen, the premises of the consistency model hold"
             ),
+            Some(_) => Ok(()),
         }
     }
 }

@@ -54,8 +54,8 @@ fn answer<W: Write>(
     };
     match print(alloc, words, &report, out) {
         Err(_) => FAULTY,
-        Ok(()) if found.is_explained() || report.is_preflight_alone() => 0,
-        Ok(()) => REFUTED,
+        Ok(()) if found.is_refuted() => REFUTED,
+        Ok(()) => 0,
     }
 }
 
