@@ -1,8 +1,10 @@
 //! A report, gathered from a log and the run that shows it.
 use crate::inside::inside_of;
 use crate::refused::refused_of;
-use crate::report::{Becomes, Counts, EndReport, Holder, How, Lagging, Left, Report, Samples};
-use crate::report::{TaskReport, TransitionReport, Why};
+use crate::report::{
+    Becomes, Counts, EndReport, Holder, How, Lagging, Left, Report, Samples, TaskReport,
+    TransitionReport, Why,
+};
 use klp_capture::{Capture, Text};
 use klp_capture_run::{Ending, Explained, Followed, Moved, Run, Since, Stay};
 use klp_core::Lag;
@@ -28,17 +30,14 @@ fn name_of<'a>(run: &Run<'a>, version: Version) -> Option<&'a [u8]> {
     let Version::New(patch, index) = version else {
         return None;
     };
-    let found = run.functions.functions.iter().find(|function|
-        usize::from(patch.0) == function.patch && function.index == Some(index))?;
+    let found = run.functions.functions.iter().find(|function| usize::from(patch.0)
+        == function.patch
+        && function.index == Some(index))?;
     Some(found.new_name.unwrap_or(found.name))
 }
 
 /// The name of a function that holds a transition up.
-fn function_name(
-    alloc: Global,
-    run: &Run<'_>,
-    version: Version,
-) -> Result<String, AllocError> {
+fn function_name(alloc: Global, run: &Run<'_>, version: Version) -> Result<String, AllocError> {
     match (version, name_of(run, version)) {
         (_, Some(name)) => text_of(alloc, name),
         (Version::Original(site), None) => {
@@ -128,7 +127,10 @@ fn end_of(found: &Explained<'_>, moved: &Moved, is_last: bool) -> Option<EndRepo
             Ending::Complete => How::Complete,
             Ending::Reversed => How::Reversed,
         };
-        return Some(EndReport { at_us: end.at.0, how });
+        return Some(EndReport {
+            at_us: end.at.0,
+            how,
+        });
     }
     match found.forced {
         Some(at) if is_last => Some(EndReport {
@@ -189,11 +191,7 @@ fn transitions_of(
 /// The tasks that lag and aren't followed.
 fn others_of(capture: &Capture<'_>, run: &Run<'_>) -> Counts {
     let (tasks, running, sleeping) = match run.last.and_then(|last| capture.samples.get(last)) {
-        Some(sample) => (
-            sample.line.tasks,
-            sample.line.running,
-            sample.line.sleeping,
-        ),
+        Some(sample) => (sample.line.tasks, sample.line.running, sample.line.sleeping),
         None => (0, 0, 0),
     };
     Counts {

@@ -45,7 +45,11 @@ fn take_sample<'a>(
         }
     }
     for own in all.iter_mut() {
-        if sample.gone.of(&capture.gone).contains(&own.task.task.thread) {
+        if sample
+            .gone
+            .of(&capture.gone)
+            .contains(&own.task.task.thread)
+        {
             own.function = None;
         }
         if own.function.is_some() {

@@ -16,7 +16,10 @@ struct WithNames<'r, 'a> {
 
 /// A number at the front of a text, and what is behind it.
 fn number_at_front(text: &str) -> Option<(usize, &str)> {
-    let length = text.bytes().take_while(|byte| byte.is_ascii_digit()).count();
+    let length = text
+        .bytes()
+        .take_while(|byte| byte.is_ascii_digit())
+        .count();
     let (digits, behind) = (text.get(..length)?, text.get(length..)?);
     match digits.parse::<usize>() {
         Ok(number) => Some((number, behind)),
@@ -51,11 +54,7 @@ impl fmt::Display for WithNames<'_, '_> {
 }
 
 /// What a line of the trace says that was seen, in words.
-fn seen_at(
-    alloc: Global,
-    tasks: &[Followed<'_>],
-    line: &str,
-) -> Result<String, AllocError> {
+fn seen_at(alloc: Global, tasks: &[Followed<'_>], line: &str) -> Result<String, AllocError> {
     let words = line.split_once(' ');
     let shown = match words {
         Some(("saw", rest)) => match number_at_front(rest) {

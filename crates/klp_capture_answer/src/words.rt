@@ -1,6 +1,8 @@
 //! A report in words.
-use crate::report::{Becomes, EndReport, Holder, How, Inside, Lagging, Left, Refused, Report};
-use crate::report::{TaskReport, TransitionReport, Why, seconds};
+use crate::report::{
+    Becomes, EndReport, Holder, How, Inside, Lagging, Left, Refused, Report, TaskReport,
+    TransitionReport, Why, seconds,
+};
 use klp_capture::Elapsed;
 use klp_diagnostics::Escaped;
 use std::io::Write;
@@ -96,7 +98,8 @@ fn print_lagging<W: Write>(lagging: &Lagging, out: &mut W) -> io::Result<()> {
     match lagging.why {
         Why::AsleepElsewhere => writeln!(
             out,
-            "  {task} lags, asleep in no function that the log has of the patch: a try switches it, unless its stack can't be read"
+            "  {task} lags, asleep in no function that the log has of the patch: a try switches it, \
+            unless its stack can't be read"
         ),
         Why::Runs if task.is_kernel_thread => writeln!(
             out,
@@ -179,7 +182,10 @@ impl Report {
         }
         if others.left_out > 0 {
             let left_out = others.left_out;
-            writeln!(out, "  {left_out} followed tasks were left out: at most 64 are told")?;
+            writeln!(
+                out,
+                "  {left_out} followed tasks were left out: at most 64 are told"
+            )?;
         }
         Ok(())
     }
@@ -188,10 +194,16 @@ impl Report {
     fn print_limits<W: Write>(&self, out: &mut W) -> io::Result<()> {
         let (left_out, cut) = (self.others.functions_left_out, self.others.names_cut);
         if left_out > 0 {
-            writeln!(out, "{left_out} functions of the patches were left out: a catalog has no room for them")?;
+            writeln!(
+                out,
+                "{left_out} functions of the patches were left out: a catalog has no room for them"
+            )?;
         }
         if cut > 0 {
-            writeln!(out, "{cut} names of functions were cut off: a catalog's are shorter")?;
+            writeln!(
+                out,
+                "{cut} names of functions were cut off: a catalog's are shorter"
+            )?;
         }
         Ok(())
     }
@@ -209,9 +221,14 @@ impl Report {
                     Some(_) => Ok(()),
                 }
             }
-            Some(last) if matches!(last.end, Some(EndReport { how: How::Forced, .. })) => {
-                print_left(&self.left_by_force, "the force left ", out)
-            }
+            Some(last)
+                if matches!(
+                    last.end,
+                    Some(EndReport {
+                        how: How::Forced,
+                        ..
+                    })
+                ) => { print_left(&self.left_by_force, "the force left ", out) }
             Some(_) => Ok(()),
         }
     }
@@ -236,7 +253,8 @@ impl Report {
             let at = seconds(at);
             writeln!(
                 out,
-                "the transition was forced at {at} s, which breaks a premise of the consistency model: what came then isn't judged"
+                "the transition was forced at {at} s, which breaks a premise of the consistency model: \
+                what came then isn't judged"
             )?;
         }
         if self.is_cut_off {
@@ -277,7 +295,10 @@ fn print_inside<W: Write>(inside: &Inside, out: &mut W) -> io::Result<()> {
     if inside.is_asleep {
         write!(out, "{task} would hold it up: it is asleep in {function}")?;
     } else {
-        write!(out, "{task} runs, and was seen in {function}: it may hold it up")?;
+        write!(
+            out,
+            "{task} runs, and was seen in {function}: it may hold it up"
+        )?;
     }
     match inside.samples {
         0 | 1 => writeln!(out),
@@ -288,7 +309,10 @@ fn print_inside<W: Write>(inside: &Inside, out: &mut W) -> io::Result<()> {
 /// The sample that no run of the rules shows, and both sides.
 fn print_refused<W: Write>(refused: &Refused, out: &mut W) -> io::Result<()> {
     let (from, to) = (seconds(refused.from_us), seconds(refused.to_us));
-    writeln!(out, "no run of the rules shows the sample from {from} s to {to} s:")?;
+    writeln!(
+        out,
+        "no run of the rules shows the sample from {from} s to {to} s:"
+    )?;
     if let Some(log) = &refused.log {
         writeln!(out, "  the log has {}", shown(log))?;
     }

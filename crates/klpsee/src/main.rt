@@ -1,6 +1,6 @@
-//! The program: it reads a log of `klpcap`, and tells what moves since when, who holds it up, and whether some run of the
-//! rules shows what was recorded: in words, or for programs. With a folder it writes a catalog, a trace, the names of the
-//! tasks and a page there too.
+//! The program: it reads a log of `klpcap`, and says what moves since when, who holds it up, and whether some run of
+//! the rules shows what was recorded: in words, or for programs. With a folder it writes a catalog, a trace, the names of
+//! the tasks and a page there too.
 #![tactic(auto)]
 
 mod files;
@@ -20,7 +20,7 @@ use std::process::ExitCode;
 
 const NAME: &str = "klpsee";
 
-/// The exit status of faults of files and lines, of words that are refused, and of a log that no run of the rules shows.
+/// The exit status of faults of files and lines, of refused words, and of a log that no run of the rules shows.
 const FAULTY: u8 = 1;
 
 const REFUSED: u8 = 2;
@@ -98,7 +98,10 @@ fn run(rt: &HostRuntime) -> Result<u8, u8> {
     let mut err = rt.stderr();
     let given = program_arguments(rt, NAME, &mut err)?;
     let Some(words) = words_of(&given) else {
-        let _ = writeln!(err, "{NAME}: usage: klpsee LOG [-o FOLDER] [--json] (man klpsee)");
+        let _ = writeln!(
+            err,
+            "{NAME}: usage: klpsee LOG [-o FOLDER] [--json] (man klpsee)"
+        );
         return Err(REFUSED);
     };
     let log = file_in(rt, NAME, words.log, &mut err)?;
