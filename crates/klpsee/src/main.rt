@@ -1,6 +1,6 @@
 //! The program: it reads a log of `klpcap`, and says what moves since when, who holds it up, and whether some run of
-//! the rules shows what was recorded: in words, or for programs. With a folder it writes a catalog, a trace, the names of
-//! the tasks and a page there too.
+//! the rules shows what was recorded: in words, or for programs. With a folder it writes a catalog, a trace, the names
+//! of the tasks and a page there too.
 #![tactic(auto)]
 
 mod files;
