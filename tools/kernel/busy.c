@@ -5,10 +5,13 @@
 #include <linux/module.h>
 
 static struct task_struct *thread;
+static uint step_ms = 3000;
+module_param(step_ms, uint, 0);
+MODULE_PARM_DESC(step_ms, "how long busy_step() sleeps");
 
 static noinline void busy_step(void)
 {
-	msleep(3000);
+	msleep(step_ms);
 	barrier();
 }
 

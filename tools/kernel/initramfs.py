@@ -1,4 +1,5 @@
-"""initramfs.py OUT NAME=FILE ..: writes an initramfs (newc, gzip) with these files, busybox as /bin/sh, and kmod's commands."""
+"""initramfs.py OUT NAME=FILE ..: writes an initramfs (newc, gzip) with these files and their libraries, busybox as /bin/sh,
+and kmod's commands."""
 import gzip
 import os
 import subprocess
@@ -50,7 +51,7 @@ def main(out, *files):
         archive.add(f"sbin/{name}", LINK, b"../bin/kmod")
     for file in files:
         name, path = file.split("=", 1)
-        archive.file(name, path)
+        archive.program(name, path)
     archive.add("TRAILER!!!", 0)
     with gzip.open(out, "wb", 1) as it:
         it.write(b"".join(archive.rows))

@@ -154,7 +154,8 @@ impl Runs for Manager {
     }
 }
 
-/// Runs the steps of both tasks, and writes what is shown of them. The machine is dropped at the end.
+/// Runs the steps of both tasks, and takes back all accepted events. Only then writes how many steps of each task are
+/// done, and the text of each loaded object. The machine is dropped at the end.
 fn race<M: Runs + Drop + Send, W: Write, R: Threads + Wait + Sync>(
     rt: &R,
     alloc: Global,
@@ -181,7 +182,7 @@ fn race<M: Runs + Drop + Send, W: Write, R: Threads + Wait + Sync>(
     }
 }
 
-/// Reads the steps from a text, runs the steps of both tasks, and writes what is shown of them.
+/// Reads the steps from a text, runs them, takes all back, and writes how many were done and the text of the objects.
 fn live_over_manager<M: Runs + Drop + Send, W: Write, R: Threads + Wait + Sync>(
     rt: &R,
     alloc: Global,

@@ -75,7 +75,8 @@ pub(crate) fn frames_of(words: &mut LineWords<'_>, manager: &Manager) -> Option<
     Some(frames)
 }
 
-/// Returns the site at which a version is called. `None` for a new function that its patch doesn't have.
+/// Returns the site at which a version is called. `None` for a new function that its patch doesn't have, or that has no
+/// site.
 pub(crate) fn site_of_version(version: Version, manager: &Manager) -> Option<Site>
     ensures { result ≡ site_of_version manager.now version }
 {

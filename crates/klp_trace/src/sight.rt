@@ -59,8 +59,8 @@ pub(crate) fn saw_of(words: &mut LineWords<'_>, manager: &Manager) -> Option<Sig
     }
 }
 
-/// Returns that a task ran this version when it called the function of the version's site. `None` if the version is a
-/// new function that its patch doesn't have.
+/// Returns that a task called the site of this version and ran the version there. `None` if the version is a new
+/// function that its patch doesn't have, or that has no site, as its object has no such symbol.
 fn version_seen(task: TaskId, version: Version, manager: &Manager) -> Option<Sight>
     ensures { result ≡ version_seen manager.now task version }
 {

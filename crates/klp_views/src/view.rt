@@ -28,7 +28,7 @@ fn is_same(own: &Version, other: &Version) -> bool
     }
 }
 
-/// Returns the site at which a version is called. None for a function of a patch that has no site.
+/// Returns the site at which a version is called. None for a new function that has no site.
 fn site_of(manager: &Manager, version: &Version) -> Option<Site>
     ensures { result ≡ site_of (setting_of manager.now.managed) version.now }
 {
