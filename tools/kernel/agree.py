@@ -16,6 +16,8 @@ KLPSEE = os.environ.get("KLPSEE", os.path.join(os.path.dirname(os.path.abspath(_
 TRY = re.compile(r"\[ *([\d.]+)\] livepatch: klp_try_switch_task: .*?:(\d+) is sleeping on function (\S+)")
 # How far a sample may be from a try that it is held against, in seconds.
 NEAR = 0.6
+# How far the clock of the kernel's log may be from that of /proc/uptime.
+APART = 0.1
 
 
 def samples(path):
@@ -48,16 +50,24 @@ def judged(near, thread, function):
 def is_of(stay, time, thread, function):
     """Whether this stay is what the kernel found at a try."""
     task, version, begun, ended = stay
-    return task == thread and version in (function, f"livepatch_{function}") and begun - NEAR <= time <= ended + NEAR
+    return task == thread and version in (function, f"livepatch_{function}") and begun <= time <= ended
+
+
+def widened(times, begun, ended):
+    """A stay is told by samples: it may have begun after the sample before its first one, and end before the one after its last."""
+    before = max((first for first, _ in times if first < begun - 0.005), default=begun)
+    after = min((last for first, last in times if first > ended + 0.005), default=ended + 1)
+    return before - APART, after + APART
 
 
 def explained(path, tries):
     """What klpsee says of the holders, and the kernel doesn't, or the other way round; the number of its stays."""
+    times = [(first, last) for first, last, _ in samples(path)]
     ran = subprocess.run([KLPSEE, "--json", path], stdout=subprocess.PIPE, stderr=subprocess.DEVNULL, check=False)
     if ran.returncode:
         return 0, [f"klpsee ends with {ran.returncode}"]
     holders = [it for moved in json.loads(ran.stdout)["transitions"] for it in moved["holders"]]
-    stays = [(it["task"]["thread"], it["function"], it["from_us"] / 1e6, it["to_us"] / 1e6) for it in holders]
+    stays = [(it["task"]["thread"], it["function"], *widened(times, it["from_us"] / 1e6, it["to_us"] / 1e6)) for it in holders]
     wrong = [f"klpsee lacks {what}" for what in tries if not any(is_of(stay, *what) for stay in stays)]
     wrong += [f"the kernel lacks {stay}" for stay in stays if not any(is_of(stay, *what) for what in tries)]
     return len(stays), wrong

@@ -213,6 +213,10 @@ impl Report {
             print_transition(transition, out)?;
         }
         match self.transitions.last() {
+            None if self.samples.left_out > 0 => writeln!(
+                out,
+                "no whole sample shows a transition: a patch changed while they were taken"
+            ),
             None => writeln!(out, "no patch was in transition"),
             Some(last) if last.end.is_none() => {
                 self.print_others(out)?;
