@@ -1,4 +1,7 @@
 //! A log, sample by sample.
+ghost use Rattle.std.specs.Prelude.{◌≡◌};
+ghost use Rattle.klp_capture.specs.Shown.{span_of};
+
 use crate::fault::{CaptureFault, CaptureFaultKind};
 use crate::line::{FrameLine, Line, SampleLine, SymbolLine, TaskLine};
 use crate::time::Moment;
@@ -8,8 +11,10 @@ use std::alloc::Global;
 /// Some of the items of a list that follow one another.
 #[derive(Clone, Copy)]
 pub struct Span {
-    from: usize,
-    to: usize,
+    /// The first of them.
+    pub from: usize,
+    /// The one behind the last.
+    pub to: usize,
 }
 
 impl Span {
@@ -17,7 +22,9 @@ impl Span {
     pub const EMPTY: Span = Span { from: 0, to: 0 };
 
     /// These items. None of them if the list has fewer.
-    pub fn of<T>(self, items: &[T]) -> &[T] {
+    pub fn of<T>(self, items: &[T]) -> &[T]
+        ensures { result.now ≡ span_of self items.now }
+    {
         items.get(self.from..self.to).unwrap_or(&[])
     }
 }
@@ -274,8 +281,11 @@ impl<'a> Capture<'a> {
     }
 
     fn add(&mut self, line: Line<'a>) -> Result<(), CaptureFaultKind> {
+        if self.is_whole {
+            return Err(CaptureFaultKind::Stray);
+        }
         match line {
-            Line::Heading => {}
+            Line::Heading => return Err(CaptureFaultKind::Stray),
             Line::Kernel(name) => self.kernel = name,
             Line::Missing(file) => self.missing.push(file)?,
             Line::Find(function) => self.asked.push(function)?,

@@ -8,11 +8,15 @@
 mod capture;
 mod fault;
 mod line;
+mod shown;
 mod text;
+mod thread;
 mod time;
 
 pub use capture::{Capture, LogLine, PatchRow, Sample, SeenTask, Span};
 pub use fault::{CaptureFault, CaptureFaultKind};
 pub use line::{Activity, FrameLine, PatchedState, SampleLine, SymbolLine, TaskLine};
+pub use shown::patch_in;
 pub use text::Text;
+pub use thread::{PatchName, Thread};
 pub use time::{Elapsed, Moment};

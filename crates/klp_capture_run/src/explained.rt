@@ -1,13 +1,17 @@
 //! A log explained: a catalog of what it names, a run of the rules that shows it, and whether that is one.
-ghost use Rattle.std.specs.Prelude.{◌≡◌, ◌≤◌, ◌<◌, ◌↔◌, true, false, length, string_bytes, None, Ok, IfOk};
+ghost use Rattle.std.specs.Prelude.{◌≡◌, ◌≤◌, ◌<◌, ◌↔◌, true, false, length, string_bytes, None, Ok, IfOk, IfSome};
+ghost use Rattle.std.specs.Str.Lines.{lines};
 ghost use Rattle.klp_catalog_text.specs.Within.{AreTargetsWithin};
 ghost use Rattle.klp_program.specs.Watches.{Watches};
+ghost use Rattle.klp_capture.specs.Shown.{ShowSamples, samples_before};
 ghost use Rattle.klp_capture_run.specs.Explained.{is_honest};
+ghost use Rattle.klp_capture_run.specs.Holders.{LagOver, holders_in};
 
 use crate::functions::Functions;
+use crate::holders::{Holder, Lags, holders_of, lags_over};
 use crate::run::Run;
 use klp_callback::Boxed;
-use klp_capture::{Capture, Moment, Text};
+use klp_capture::{Capture, Moment, PatchName, Sample, Text, Thread};
 use klp_catalog::Catalog;
 use klp_catalog_text::Plan;
 use klp_core::Manager;
@@ -22,6 +26,10 @@ const FORCED: &[u8] = b"forcing remaining tasks";
 pub struct Explained<'a> {
     /// The run that was found.
     pub run: Run<'a>,
+    /// What the patches are called in the trace.
+    pub names: Vec<PatchName<'a>>,
+    /// The threads that have a number in the trace.
+    pub threads: Vec<Thread>,
     /// The text of the catalog, whose patches, objects and functions are those that the log names.
     pub catalog: String,
     /// Which sample no run of the rules leads to, if there is one; the first counts as 0.
@@ -29,12 +37,16 @@ pub struct Explained<'a> {
     /// The same in a log that was cut off. A force may lead to that sample, whose line such a log lacks. So neither it nor
     /// what comes later is judged.
     pub unjudged: Option<usize>,
+    /// The first sample that the trace lacks, though something led to it. There is none unless the search is at fault.
+    pub unshown: Option<usize>,
     /// How many samples weren't come to: those behind a force, and those from the first on that nothing leads to.
     pub later: u64,
     /// When the transition was forced, if it was. What was seen later isn't looked at.
     pub forced: Option<Moment>,
     /// What is said of the trace.
     pub verdict: Verdict,
+    /// Who lags at the end of the trace, by the numbers of the tasks. None if the trace isn't as the rules say.
+    pub lags: Option<Lags>,
 }
 
 impl<'a> Explained<'a> {
@@ -42,10 +54,13 @@ impl<'a> Explained<'a> {
     /// the trace is honest.
     pub fn is_explained(&self) -> bool
         ensures { (result ≡ true) ↔
-            ((is_honest self.now.verdict ≡ true) × (self.now.failed ≡ None) × (0 < self.now.run.shown)) }
+            ((is_honest self.now.verdict ≡ true) × (self.now.failed ≡ None) × (self.now.unshown ≡ None)
+            × (0 < self.now.run.shown)) }
     {
         match self.verdict {
-            Verdict::Honest(_) => self.failed.is_none() && self.run.shown > 0,
+            Verdict::Honest(_) => {
+                self.failed.is_none() && self.unshown.is_none() && self.run.shown > 0
+            }
             _ => false,
         }
     }
@@ -53,10 +68,11 @@ impl<'a> Explained<'a> {
     /// Whether no run of the rules shows what was recorded. A log that shows no sample at all is neither explained nor
     /// refuted.
     pub fn is_refuted(&self) -> bool
-        ensures { (result ≡ false) ↔ ((is_honest self.now.verdict ≡ true) × (self.now.failed ≡ None)) }
+        ensures { (result ≡ false) ↔
+            ((is_honest self.now.verdict ≡ true) × (self.now.failed ≡ None) × (self.now.unshown ≡ None)) }
     {
         match self.verdict {
-            Verdict::Honest(_) => self.failed.is_some(),
+            Verdict::Honest(_) => self.failed.is_some() || self.unshown.is_some(),
             _ => true,
         }
     }
@@ -70,6 +86,14 @@ impl<'a> Explained<'a> {
 }
 
 impl<'a> Explained<'a> {
+    /// The tasks that hold the transition up at the end of the trace, which is the last settled sample. None does if no
+    /// transition is under way there.
+    pub fn holders(&self, alloc: Global) -> Result<Vec<Holder>, AllocError>
+        ensures { IfOk result (λ list. list.items ≡ holders_in self.now.lags) }
+    {
+        holders_of(alloc, &self.lags)
+    }
+
     /// A text of names (`klppage CATALOG SCRIPT NAMES`): what each task of the trace is called.
     pub fn names(&self, alloc: Global) -> Result<String, AllocError> {
         let mut text = String::new(alloc);
@@ -189,11 +213,28 @@ fn is_better_guessed(
     }
 }
 
+/// The samples before one of this number, or all.
+fn samples_before(number: Option<usize>, samples: &[Sample]) -> &[Sample]
+    ensures { result.now ≡ samples_before number samples.now }
+{
+    match number {
+        Some(number) => samples.get(..number).unwrap_or(samples),
+        None => samples,
+    }
+}
 /// Explains a log: makes a catalog of what it names, and looks for a run of the rules that shows each sample. The
-/// verdict is that of `klpwatch` on the trace that was found, over that catalog.
+/// verdict is that of `klpwatch` on the trace that was found, over that catalog. Up to the first sample to which nothing
+/// leads, the trace has each that is settled and before a force: the states of the tasks that it names, and the files of
+/// the patches. Who lags at the end is what the rules say of the state that the trace leads to.
 pub fn explain<'a>(alloc: Global, capture: &Capture<'a>) -> Result<Explained<'a>, Fault>
     ensures judged { IfOk result
         (λ found. Watches (string_bytes found.catalog) (string_bytes found.run.trace) (Ok found.verdict)) }
+    ensures shown { IfOk result
+        (λ found. ShowSamples capture.now found.forced found.names.items found.threads.items
+        (samples_before found.unshown (samples_before found.failed (samples_before found.unjudged capture.now.samples.items)))
+        (lines (string_bytes found.run.trace))) }
+    ensures lags { IfOk result
+        (λ found. IfSome found.lags (λ lags. LagOver (string_bytes found.catalog) (string_bytes found.run.trace) lags)) }
 {
     let forced = forced_in(capture);
     let guesses = is_better_guessed(alloc, capture, forced)?;
@@ -203,14 +244,26 @@ pub fn explain<'a>(alloc: Global, capture: &Capture<'a>) -> Result<Explained<'a>
         stopped,
     } = explored(alloc, capture, forced, guesses)?;
     let verdict = watch_over_text(alloc, catalog.as_bytes(), run.trace.as_bytes())?;
+    let lags = lags_over(alloc, catalog.as_bytes(), run.trace.as_bytes())?;
+    let names = run.functions.names(alloc)?;
+    let threads = run.threads(alloc)?;
+    let failed = if capture.is_whole { stopped } else { None };
+    let unjudged = if capture.is_whole { None } else { stopped };
+    let reached = samples_before(failed, samples_before(unjudged, &capture.samples));
+    let trace = run.trace.as_bytes();
+    let unshown = capture.first_not_shown(alloc, trace, forced, &names, &threads, reached)?;
     let seen = run.shown.saturating_add(run.torn);
     Ok(Explained {
         later: (capture.samples.len() as u64).saturating_sub(seen),
-        failed: if capture.is_whole { stopped } else { None },
-        unjudged: if capture.is_whole { None } else { stopped },
         run,
+        names,
+        threads,
         catalog,
+        failed,
+        unjudged,
+        unshown,
         forced,
         verdict,
+        lags,
     })
 }

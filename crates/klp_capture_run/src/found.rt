@@ -1,5 +1,5 @@
 //! The functions that the patches of a log change, and which patches are cumulative.
-use crate::functions::{files_in, index_of, is_changing, new_symbol_of};
+use crate::functions::{files_in, index_of, new_symbol_of};
 use klp_capture::{Capture, PatchRow};
 use klp_types::{MAX_FUNCTIONS, MAX_OBJECTS, MAX_SITES, MAX_TARGETS};
 use std::alloc::{AllocError, Global};
@@ -105,7 +105,7 @@ fn has_replaced(capture: &Capture<'_>, patch: &[u8]) -> bool {
     let mut last: Option<usize> = None;
     for (number, sample) in capture.samples.iter().enumerate() {
         let after = sample.patches.of(&capture.rows);
-        if is_changing(after) {
+        if !capture.is_settled(sample) {
             continue;
         }
         if let Some(sample) = last.and_then(|last| capture.samples.get(last)) {

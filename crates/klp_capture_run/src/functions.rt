@@ -1,6 +1,7 @@
 //! The functions that the patches of a log change: a catalog of what it names, and which of them a task is inside of.
 use crate::found::{FoundFunction, found_in, is_cumulative, is_shared};
-use klp_capture::{Capture, FrameLine, PatchRow, Span, SymbolLine};
+use crate::patches::Files;
+use klp_capture::{Capture, FrameLine, PatchName, PatchRow, Span, SymbolLine, patch_in};
 use klp_types::{MAX_PATCHES, MAX_SITES, MAX_SYMBOL_NAME};
 use std::alloc::{AllocError, Global};
 
@@ -83,21 +84,18 @@ pub struct Functions<'a> {
     spare: u64,
 }
 
-/// What the files of a patch read in these rows, if it is there. Both are 0 while its folder is made or taken away.
-pub(crate) fn files_in(rows: &[PatchRow<'_>], wanted: &[u8]) -> Option<(bool, bool)> {
-    for row in rows {
-        if let PatchRow::Patch {
-            name,
-            is_enabled,
-            is_moving,
-        } = row
-            && *name == wanted
-            && (*is_enabled || *is_moving)
-        {
-            return Some((*is_enabled, *is_moving));
-        }
+/// What the files of a patch read in these rows, if it is there.
+pub(crate) fn files_in(rows: &[PatchRow<'_>], name: &[u8]) -> Files {
+    match patch_in(rows, name) {
+        Some(
+            PatchRow::Patch {
+                name: _,
+                is_enabled,
+                is_moving,
+            },
+        ) => Some((is_enabled, is_moving)),
+        _ => None,
     }
-    None
 }
 
 /// The patch in these rows that is in transition, with its target.
@@ -186,20 +184,6 @@ fn patches_of<'a>(alloc: Global, capture: &Capture<'a>) -> Result<Vec<&'a [u8]>,
     Ok(names)
 }
 
-/// Whether a patch is just being made or taken away: then its folder is half there, and both of its files read 0.
-pub(crate) fn is_changing(rows: &[PatchRow<'_>]) -> bool {
-    rows.iter().any(|row| {
-        matches!(
-            row,
-            PatchRow::Patch {
-                is_enabled: false,
-                is_moving: false,
-                ..
-            }
-        )
-    })
-}
-
 /// The patch that is in transition in the last sample.
 fn last_moving<'a>(capture: &Capture<'a>) -> Option<&'a [u8]> {
     let (name, _target) = moving_in(capture.samples.last()?.patches.of(&capture.rows))?;
@@ -266,6 +250,15 @@ impl<'a> Functions<'a> {
         functions.add_all(capture, &found.functions)?;
         functions.add_symbols(capture)?;
         Ok(functions)
+    }
+
+    /// What the patches are called in a trace.
+    pub(crate) fn names(&self, alloc: Global) -> Result<Vec<PatchName<'a>>, AllocError> {
+        let mut names = Vec::new(alloc);
+        for patch in &self.patches {
+            names.push(PatchName { name: patch.name })?;
+        }
+        Ok(names)
     }
 
     /// An address that stands for one that the log doesn't have.

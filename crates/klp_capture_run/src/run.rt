@@ -7,10 +7,10 @@ ghost use Rattle.klp_core.specs.Journaled.{IsWellFormed};
 
 use crate::fits::fits;
 use crate::followed::Followed;
-use crate::functions::{Functions, is_changing};
+use crate::functions::Functions;
 use crate::patches::Files;
 use crate::transition::{End, Moved, since_when};
-use klp_capture::{Capture, Moment, PatchRow, Sample};
+use klp_capture::{Capture, Moment, PatchRow, Sample, Thread};
 use klp_core::Manager;
 use klp_types::MAX_GROUPS;
 use std::alloc::{AllocError, Global};
@@ -65,6 +65,19 @@ impl<'a> Run<'a> {
             transitions: Vec::new(alloc),
             last: None,
         })
+    }
+
+    /// The threads that have a number in the trace.
+    pub(crate) fn threads(&self, alloc: Global) -> Result<Vec<Thread>, AllocError> {
+        let mut threads = Vec::new(alloc);
+        for (number, task) in self.tasks.iter().enumerate() {
+            threads.push(Thread {
+                number,
+                thread: task.thread,
+                start: task.start,
+            })?;
+        }
+        Ok(threads)
     }
 
     /// The objects that were loaded since the last sample.
@@ -241,7 +254,7 @@ impl<'a> Run<'a> {
             if until.is_some_and(|until| sample.line.to >= until) {
                 break;
             }
-            if sample.line.is_torn || is_changing(sample.patches.of(&capture.rows)) {
+            if !capture.is_settled(sample) {
                 self.torn = self.torn.saturating_add(1);
             } else if !self.advance(alloc, manager, capture, number, sample)? {
                 return Ok(Some(number));
