@@ -6,7 +6,7 @@ use crate::report::{
     TransitionReport, Why,
 };
 use klp_capture::{Capture, Text};
-use klp_capture_run::{Ending, Explained, Followed, Moved, Run, Since, Stay};
+use klp_capture_run::{Ending, Explained, Followed, Holder as Holding, Moved, Run, Since, Stay};
 use klp_core::Lag;
 use klp_types::{Mode, Version};
 use std::alloc::{AllocError, Global};
@@ -71,24 +71,43 @@ fn holder_of(
     })
 }
 
-/// The stays in which tasks held a transition up.
+/// The stays in which tasks held a transition up. `holding` are those that hold it up in the last sample, if it goes on.
 fn holders_of(
     alloc: Global,
     run: &Run<'_>,
-    number: usize,
+    transition: usize,
     moved: &Moved,
-    is_over: bool,
+    holding: &[Holding],
 ) -> Result<Vec<Holder>, AllocError> {
     let mut holders = Vec::new(alloc);
-    for task in &run.tasks {
+    for (number, task) in run.tasks.iter().enumerate() {
+        let holds = holding.iter().find(|holder| holder.number == number);
         for stay in &task.stays {
-            if stay.transition == number {
-                let holds_still = !is_over && stay.to == moved.to;
-                holders.push(holder_of(alloc, run, task, *stay, holds_still)?)?;
+            let holds_still = holds.is_some() && stay.to == moved.to;
+            if stay.transition == transition && !holds_still {
+                holders.push(holder_of(alloc, run, task, *stay, false)?)?;
             }
+        }
+        if let Some(holder) = holds {
+            let stay = stay_of(task, transition, moved, holder.version);
+            holders.push(holder_of(alloc, run, task, stay, true)?)?;
         }
     }
     Ok(holders)
+}
+
+/// The stay in which a task holds a transition up in its last sample: since when, as far as was seen.
+fn stay_of(task: &Followed<'_>, transition: usize, moved: &Moved, version: Version) -> Stay {
+    let from = match task.stays.last() {
+        Some(stay) if stay.transition == transition && stay.to == moved.to => stay.from,
+        _ => moved.to,
+    };
+    Stay {
+        transition,
+        from,
+        to: moved.to,
+        version,
+    }
 }
 
 /// Who lags in the last sample, and doesn't hold the transition up.
@@ -107,13 +126,13 @@ fn lagging_of(alloc: Global, run: &Run<'_>) -> Result<Vec<Lagging>, AllocError> 
 }
 
 /// Whom a force leaves, or would leave, asleep in a function that isn't called any more.
-fn left_of(alloc: Global, run: &Run<'_>) -> Result<Vec<Left>, AllocError> {
+fn left_of(alloc: Global, run: &Run<'_>, holding: &[Holding]) -> Result<Vec<Left>, AllocError> {
     let mut left = Vec::new(alloc);
-    for task in &run.tasks {
-        if let Some(Lag::Holds(version)) = task.lag {
+    for holder in holding {
+        if let Some(task) = run.tasks.get(holder.number) {
             left.push(Left {
                 task: task_of(alloc, task)?,
-                function: function_name(alloc, run, version)?,
+                function: function_name(alloc, run, holder.version)?,
             })?;
         }
     }
@@ -146,6 +165,7 @@ fn transition_of(
     found: &Explained<'_>,
     number: usize,
     moved: &Moved,
+    holding: &[Holding],
 ) -> Result<TransitionReport, AllocError> {
     let run = &found.run;
     let is_last = number.saturating_add(1) == run.transitions.len();
@@ -159,7 +179,9 @@ fn transition_of(
     } else {
         Becomes::Disabled
     };
-    let lagging = if is_last && end.is_none() {
+    let goes_on = is_last && end.is_none();
+    let holding = if goes_on { holding } else { &[] };
+    let lagging = if goes_on {
         lagging_of(alloc, run)?
     } else {
         Vec::new(alloc)
@@ -172,7 +194,7 @@ fn transition_of(
         first_sample_us: moved.from.0,
         last_sample_us: moved.to.0,
         end,
-        holders: holders_of(alloc, run, number, moved, end.is_some())?,
+        holders: holders_of(alloc, run, number, moved, holding)?,
         lagging,
     })
 }
@@ -180,10 +202,11 @@ fn transition_of(
 fn transitions_of(
     alloc: Global,
     found: &Explained<'_>,
+    holding: &[Holding],
 ) -> Result<Vec<TransitionReport>, AllocError> {
     let mut transitions = Vec::new(alloc);
     for (number, moved) in found.run.transitions.iter().enumerate() {
-        transitions.push(transition_of(alloc, found, number, moved)?)?;
+        transitions.push(transition_of(alloc, found, number, moved, holding)?)?;
     }
     Ok(transitions)
 }
@@ -220,13 +243,14 @@ pub fn report_of(
     found: &Explained<'_>,
 ) -> Result<Report, AllocError> {
     let run = &found.run;
+    let holding = found.holders(alloc)?;
     Ok(Report {
         kernel: text_of(alloc, capture.kernel)?,
         missing: missing_of(alloc, capture)?,
         is_preflight: !capture.asked.is_empty(),
         inside: inside_of(alloc, capture)?,
-        transitions: transitions_of(alloc, found)?,
-        left_by_force: left_of(alloc, run)?,
+        transitions: transitions_of(alloc, found, &holding)?,
+        left_by_force: left_of(alloc, run, &holding)?,
         forced_at_us: match found.forced {
             Some(at) => Some(at.0),
             None => None,
