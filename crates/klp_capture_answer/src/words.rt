@@ -213,9 +213,9 @@ impl Report {
             print_transition(transition, out)?;
         }
         match self.transitions.last() {
-            None if self.samples.left_out > 0 => writeln!(
+            None if self.samples.left_out > 0 || self.samples.later > 0 => writeln!(
                 out,
-                "no whole sample shows a transition: a patch changed while they were taken"
+                "no whole sample shows a transition, though a patch changed"
             ),
             None => writeln!(out, "no patch was in transition"),
             Some(last) if last.end.is_none() => {
