@@ -120,7 +120,7 @@ FAULTY = (
     ("function f,1", "Stray"), ("function f", "BadLine"), ("function ,1", "BadLine"), ("frame f+0x1/0x2", "Stray"),
     ("frames =", "Stray"), ("sample 9.00 9.10 51 0 0 0", "OutOfOrder"), ("sample 9.20 9.10 51 0 0 0", "OutOfOrder"),
     ("patches\nobject x 1", "Stray"), ("patches\npatch x 1 1\nloaded x", "Stray"),
-    ("task 7 7 1 S 0 1 1 0 n\nframes =", "Stray"),
+    ("task 7 7 1 S 0 1 1 0 n\nframes =", "Stray"), ("klpcap 1", "Stray"), ("end over\nmodule x", "Stray"),
 )
 
 
@@ -149,7 +149,7 @@ def named(name):
 
 
 NO_LOGS = ("", "klpcap 2\n", "\nklpcap 1\n", "object vmlinux\n")
-CUT = ("disable", "reverse", "preflight", "busy")
+CUT = ("disable", "reverse", "preflight", "busy", "force", "replace", "begun_replace")
 NAMES = ("two words", ") 5 5", "<script>", "task 90 1", "# a", "'", "a" * 99)
 HEAD = read("captures/enable.log").decode().split("task 90 ", 1)[0]
 FRAME = "frame eventfd_read+0x13a/0x300\n"
@@ -184,10 +184,20 @@ def for_programs(name):
 
 
 def long_name(length):
-    """A function of this length: the catalog that klpsee makes has no room for it."""
+    """A function of this length: the catalog that klpsee makes has room for 127 bytes of it."""
     text = read("captures/enable.log").decode().replace("eventfd_read", "f" * length)
     status, out, err = seen(text)
-    return None if (status, out) == (1, b"") and err.endswith(": BadName\n") else f"{status}, {out} and {err}"
+    is_well = (status, err) == (0, "") and b" held it up, asleep in fff" in out
+    return None if is_well else f"{status}, {out} and {err}"
+
+
+def many_functions(count):
+    """A patch of so many functions: the catalog that klpsee makes has room for 64."""
+    rows = "".join(f"function f{number},1\n" for number in range(count))
+    text = read("captures/enable.log").decode().replace("function eventfd_read,1\n", f"function eventfd_read,1\n{rows}")
+    status, out, err = seen(text)
+    is_well = (status, err) == (0, "") and b" held it up, asleep in eventfd_read" in out
+    return None if is_well else f"{status}, {out} and {err}"
 
 
 def many_samples():
@@ -216,7 +226,8 @@ def cases():
     made += [(f"a log that begins with {it!r}", functools.partial(no_log, it)) for it in NO_LOGS]
     made += [(f"a task called {it!r}", functools.partial(named, it)) for it in NAMES]
     made += [(f"{it} tasks", functools.partial(many_tasks, it)) for it in (1, 64, 65)]
-    made += [(f"a function of {it} bytes", functools.partial(long_name, it)) for it in (128, 511)]
+    made += [(f"a function of {it} bytes", functools.partial(long_name, it)) for it in (127, 128, 511)]
+    made += [(f"a patch of {it} functions", functools.partial(many_functions, it)) for it in (62, 600)]
     made += [("samples in the wrong order", swapped), ("many samples", many_samples)]
     made += [("a log with an older force", forced_before)]
     made += [("nothing in transition", functools.partial(stopped, "enable", "8.05", "no patch was in transition\n"))]

@@ -1,5 +1,5 @@
 -- Who holds a transition up behind a trace: the rules' own answer in the state that the trace leads to.
-use Rattle.std.specs.Prelude.{◌≡◌, ℕ, suc, List, [], ◌∷◌, Option, Some, None, Ok}
+use Rattle.std.specs.Prelude.{◌≡◌, ℕ, suc, List, [], ◌∷◌, ◌++◌, Option, Some, None, Ok}
 use Rattle.klp_types.specs.declared.version.Version.{Version}
 use Rattle.klp_catalog_text.specs.Plan.{Plan}
 use Rattle.klp_catalog_text.specs.Text.{plan_of}
@@ -39,11 +39,14 @@ pub record LagOver (catalog trace : List ℕ) (lags : List (Option Lag)) : Type 
   pub plan_is : plan_of catalog ≡ Ok plan
   pub over : LagOverPlan plan trace lags
 
--- the tasks that hold the transition up, the first of which has this number at least
+abbrev pub holder_at : ℕ → Option Lag → List Holder
+holder_at number (Some (Holds version)) = record { number = number; version = version } ∷ []
+holder_at number lag = []
+
+-- the tasks that hold the transition up; the first of these tasks has this number
 abbrev pub holders_from : ℕ → List (Option Lag) → List Holder
 holders_from number [] = []
-holders_from number (Some (Holds version) ∷ lags) = record { number = number; version = version } ∷ holders_from (suc number) lags
-holders_from number (lag ∷ lags) = holders_from (suc number) lags
+holders_from number (lag ∷ lags) = holder_at number lag ++ holders_from (suc number) lags
 
 abbrev pub holders_in : Option (List (Option Lag)) → List Holder
 holders_in None = []

@@ -158,7 +158,7 @@ fn explore_over_plan<'a>(
 
 /// A run, and the first sample that it doesn't lead to.
 #[derive(Drop)]
-struct Explored<'a> {
+struct Outcome<'a> {
     run: Run<'a>,
     catalog: String,
     stopped: Option<usize>,
@@ -170,13 +170,13 @@ fn explored<'a>(
     capture: &Capture<'a>,
     forced: Option<Moment>,
     guesses: bool,
-) -> Result<Explored<'a>, Fault> {
+) -> Result<Outcome<'a>, Fault> {
     let functions = Functions::of(alloc, capture, guesses)?;
     let catalog = functions.catalog(alloc)?;
     let mut run = Run::new(alloc, functions)?;
     let plan = Catalog::read(alloc, catalog.as_bytes())?;
     let stopped = explore_over_plan(alloc, plan, &mut run, capture, forced)?;
-    Ok(Explored {
+    Ok(Outcome {
         run,
         catalog,
         stopped,
@@ -238,7 +238,7 @@ pub fn explain<'a>(alloc: Global, capture: &Capture<'a>) -> Result<Explained<'a>
 {
     let forced = forced_in(capture);
     let guesses = is_better_guessed(alloc, capture, forced)?;
-    let Explored {
+    let Outcome {
         run,
         catalog,
         stopped,

@@ -1,8 +1,8 @@
 //! Who holds a transition up at the end of a trace. The trace is read back, and done over a manager that is booted anew: so
 //! what is told follows from the rules and the trace alone, and not from how the trace was found.
-ghost use Rattle.std.specs.Prelude.{◌≡◌, ◌≤◌, length, IfOk, IfSome};
+ghost use Rattle.std.specs.Prelude.{◌≡◌, ◌≤◌, ◌++◌, length, OnOk, IfOk, IfSome};
 ghost use Rattle.klp_catalog_text.specs.Within.{AreTargetsWithin};
-ghost use Rattle.klp_capture_run.specs.Holders.{LagBehind, LagBehindTrace, LagOverPlan, LagOver, holders_in, holders_from};
+ghost use Rattle.klp_capture_run.specs.Holders.{LagBehind, LagBehindTrace, LagOverPlan, LagOver, holder_at, holders_from, holders_in};
 
 use klp_callback::Boxed;
 use klp_catalog::Catalog;
@@ -72,7 +72,19 @@ pub(crate) fn lags_over(alloc: Global, catalog: &[u8], trace: &[u8]) -> Result<O
     ensures { IfOk result (λ found. IfSome found (λ lags. LagOver catalog.now trace.now lags)) }
 {
     let plan = Catalog::read(alloc, catalog)?;
-    lags_over_plan(alloc, plan, trace)
+    let found = lags_over_plan(alloc, plan, trace)?;
+    Ok(found)
+}
+
+/// Adds a task if it holds a transition up.
+fn add(list: &mut Vec<Holder>, number: usize, lag: Option<Lag>) -> Result<(), AllocError>
+    ensures { OnOk result (list.new.items ≡ list.old.items ++ holder_at number lag) }
+{
+    match lag {
+        Some(Lag::Holds(version)) => list.push(Holder { number, version })?,
+        _ => {}
+    }
+    Ok(())
 }
 
 fn listed(alloc: Global, lags: &Lags) -> Result<Vec<Holder>, AllocError>
@@ -80,12 +92,7 @@ fn listed(alloc: Global, lags: &Lags) -> Result<Vec<Holder>, AllocError>
 {
     let mut list = Vec::new(alloc);
     for (number, lag) in lags.iter().enumerate() {
-        if let Some(Lag::Holds(version)) = lag {
-            list.push(Holder {
-                number,
-                version: *version,
-            })?;
-        }
+        add(&mut list, number, *lag)?;
     }
     Ok(list)
 }

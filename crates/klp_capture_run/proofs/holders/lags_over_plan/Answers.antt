@@ -7,6 +7,8 @@ use Rattle.klp_catalog_text.specs.Scripts.{scripts_of}
 use Rattle.klp_program.specs.Booted.{never_ran}
 use Rattle.klp_program.proofs.ServeLemmas.{first_made, next_made, all_made, reported_of}
 use denote.Param.Object.{read_made}
+use Rattle.klp_capture_run.specs.Holders.{LagBehindTrace, LagOverPlan}
+use Rattle.klp_capture_run.proofs.HolderLemmas.{if_some}
 use Rattle.klp_capture_run.proofs.holders.lags_over_plan.OwnLists.{own-1, at-1-1}
 use Rattle.klp_capture_run.proofs.holders.lags_over_plan.Goals as goal
 
@@ -45,3 +47,9 @@ boot-requires-clause-callbacks c =
     in
     all_made made scripts
     (ap (λ (n : ℕ). option_map never_ran (slice_get scripts n)) count ∙ sym c.in_ok-callback.ensures ∙ ap (option_map (λ made. made.value)) c.in_default.is) so_far
+
+-- the manager was booted over the plan
+pub returns : goal.returns
+returns c =
+    if_some (LagBehindTrace c.in_ok-manager.manager c.args.trace.now) (LagOverPlan c.args.plan c.args.trace.now) c.lags_behind_trace.result
+    (λ lags behind. record { booted = c.in_ok-manager.manager; boots = c.in_ok-manager.ensures.booted; behind = behind }) c.lags_behind_trace.ensures
