@@ -65,7 +65,7 @@ impl Moved {
 
 /// What the kernel's log says of a patch, behind its name.
 #[derive(Clone, Copy, PartialEq, Eq)]
-enum Told {
+enum Milestone {
     /// A transition with this target starts.
     Starts(bool),
     /// One is complete.
@@ -73,16 +73,24 @@ enum Told {
 }
 
 /// What a line of the kernel's log says of the transition of a patch: `livepatch: 'NAME': starting patching transition`.
-fn told_of(text: &[u8], patch: &[u8]) -> Option<Told> {
+fn milestone_of(text: &[u8], patch: &[u8]) -> Option<Milestone> {
     let behind = text.strip_prefix(b"livepatch: '".as_slice())?;
     let behind = behind.strip_prefix(patch)?;
     let behind = behind.strip_prefix(b"': ".as_slice())?;
     match behind {
-        b"starting patching transition" => Some(Told::Starts(true)),
-        b"starting unpatching transition" => Some(Told::Starts(false)),
-        b"patching complete" | b"unpatching complete" => Some(Told::Completes),
+        b"starting patching transition" => Some(Milestone::Starts(true)),
+        b"starting unpatching transition" => Some(Milestone::Starts(false)),
+        b"patching complete" | b"unpatching complete" => Some(Milestone::Completes),
         _ => None,
     }
+}
+
+/// How far the clock of the kernel's log may be from that of the samples, in microseconds.
+const CLOCKS_APART: u64 = 200_000;
+
+/// Whether a moment of the kernel's log is behind the begin of a sample, as far as the clocks tell.
+fn is_behind(at: Moment, sample: Moment) -> bool {
+    at.0.saturating_add(CLOCKS_APART) >= sample.0
 }
 
 /// Since when a transition is under way that a sample is the first to show. `before` is the last sample that didn't show
@@ -99,14 +107,14 @@ pub(crate) fn since_when(
         if line.at > sample.line.to {
             break;
         }
-        match told_of(line.text, patch) {
-            Some(Told::Starts(own)) if own == target => start = Some(line.at),
+        match milestone_of(line.text, patch) {
+            Some(Milestone::Starts(own)) if own == target => start = Some(line.at),
             Some(_) => start = None,
             None => {}
         }
     }
     match start {
-        Some(at) if before.is_none_or(|before| at >= before) => Since::Logged(at),
+        Some(at) if before.is_none_or(|before| is_behind(at, before)) => Since::Logged(at),
         _ => Since::AtOrBefore(sample.line.from),
     }
 }
