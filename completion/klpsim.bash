@@ -78,9 +78,11 @@ _klpsee() {
   _klp_words || return 0
   case "${#klp_words[@]}" in
     1) _klp_files log "${klp_words[0]}" ;;
-    2) mapfile -t COMPREPLY < <(compgen -W "-o" -- "${klp_words[1]}") ;;
-    3) compopt -o filenames 2>/dev/null
-      mapfile -t COMPREPLY < <(compgen -d -- "${klp_words[2]}") ;;
+    *) case "${klp_words[-2]}" in
+        -o) compopt -o filenames 2>/dev/null
+          mapfile -t COMPREPLY < <(compgen -d -- "${klp_words[-1]}") ;;
+        *) mapfile -t COMPREPLY < <(compgen -W "-o --json" -- "${klp_words[-1]}") ;;
+      esac ;;
   esac
 }
 

@@ -3,6 +3,7 @@
 What klpsee says of a real log is stored, and is held against what the kernel's own log says in the same file.
 """
 import functools
+import json
 import os
 import re
 import stat
@@ -18,7 +19,7 @@ SLEEPS = re.compile(r"^log ([\d.]+) livepatch: klp_try_switch_task: .*:(\d+) is 
 SAMPLE = re.compile(r"^sample ([\d.]+) ([\d.]+) ", re.M)
 HELD = re.compile(r"^  .*\[(\d+)\].* held it up, asleep in (\S+), from ([\d.]+) s to ([\d.]+) s$", re.M)
 # How the answers end that have nothing to refuse.
-WHOLE = re.compile(rb"^(?:a run of the rules shows each of \d+ samples|.* would hold it up)\n\Z", re.M)
+WHOLE = re.compile(rb"^(?:as far as was seen, the premises of the consistency model hold|the log has no sample to explain|.* would hold it up)\n\Z", re.M)
 HOLDS = re.compile(r"^  .*\[(\d+)\].* holds it up: asleep in (\S+) since ([\d.]+) s or before, for ([\d.]+) s$", re.M)
 
 
@@ -45,9 +46,9 @@ def differs_from_kernel(log, said):
 
 def judged_anew(room, status):
     """What klpsee wrote is for its owner alone, and klpwatch says the same of it."""
-    paths = [f"{room}/{it}" for it in ("run.catalog", "run.trace", "run.names")]
+    paths = [f"{room}/{it}" for it in ("run.catalog", "run.trace", "run.names", "run.html")]
     modes = [stat.S_IMODE(os.stat(it).st_mode) for it in paths]
-    if modes != [0o600] * 3:
+    if modes != [0o600] * 4:
         return f"modes {modes}"
     own, out, err = run(["klpwatch", *paths[:2]])
     is_same = own == status and out.startswith(b"honest " if own == 0 else b"line ")
@@ -119,7 +120,7 @@ FAULTY = (
     ("function f,1", "Stray"), ("function f", "BadLine"), ("function ,1", "BadLine"), ("frame f+0x1/0x2", "Stray"),
     ("frames =", "Stray"), ("sample 9.00 9.10 51 0 0 0", "OutOfOrder"), ("sample 9.20 9.10 51 0 0 0", "OutOfOrder"),
     ("patches\nobject x 1", "Stray"), ("patches\npatch x 1 1\nloaded x", "Stray"),
-    ("task 7 7 1 S 0 1 1 0 n\nframes =", "Stray"),
+    ("task 7 7 1 S 0 1 1 0 n\nframes =", "Stray"), ("klpcap 1", "Stray"), ("end over\nmodule x", "Stray"),
 )
 
 
@@ -148,7 +149,7 @@ def named(name):
 
 
 NO_LOGS = ("", "klpcap 2\n", "\nklpcap 1\n", "object vmlinux\n")
-CUT = ("disable", "reverse", "preflight", "busy")
+CUT = ("disable", "reverse", "preflight", "busy", "force", "replace", "begun_replace")
 NAMES = ("two words", ") 5 5", "<script>", "task 90 1", "# a", "'", "a" * 99)
 HEAD = read("captures/enable.log").decode().split("task 90 ", 1)[0]
 FRAME = "frame eventfd_read+0x13a/0x300\n"
@@ -156,19 +157,47 @@ SYMBOLS = "".join(re.findall(r"^(?:symbol|module) .*\n", read("captures/enable.l
 
 
 def many_tasks(count):
-    """So many tasks sleep in a patched function, of which 64 are told."""
+    """So many tasks sleep in a patched function, of which 64 are followed and 16 told."""
     tasks = "".join(f"task {number} {number} 7 S 0 1 1 0 worker\n{FRAME}" for number in range(1000, 1000 + count))
     status, out, err = seen(f"{HEAD}{tasks}sample 8.56 8.72 552 0 0 0\n{SYMBOLS}end stopped\n")
     told, left = out.count(b" holds it up: asleep in eventfd_read "), b"  1 followed tasks were left out" in out
-    is_well = (status, err, told, left) == (0, "", min(count, 64), count == 65)
+    more = f"  and {min(count, 64) - 16} more hold it up".encode() in out
+    is_well = (status, err, told, left, more) == (0, "", min(count, 16), count == 65, count > 16)
     return None if is_well else f"{status}, {told} are told, {out[-300:]} {err}"
 
 
+def for_programs(name):
+    """--json says what the words say."""
+    status, words, err = run(["klpsee", f"captures/{name}.log"])
+    other, text, other_err = run(["klpsee", "--json", f"captures/{name}.log"])
+    if (other, other_err) != (status, err):
+        return f"status {other} and {other_err}, in words {status} and {err}"
+    report = json.loads(text)
+    found = {
+        holder["task"]["thread"]: (holder["function"], holder["from_us"] // 10_000, holder["to_us"] // 10_000)
+        for transition in report["transitions"] for holder in transition["holders"]
+    }
+    told = {int(task): (function, round(first * 100), round(last * 100))
+            for task, (function, first, last) in holders(words.decode()).items()}
+    is_same = found == told and report["is_refuted"] == (status == REFUTED)
+    return None if is_same else f"{found} and {report['is_refuted']}, in words {told} and {status}"
+
+
 def long_name(length):
-    """A function of this length: the catalog that klpsee makes has no room for it."""
+    """A function of this length: the catalog that klpsee makes has room for 127 bytes of it."""
     text = read("captures/enable.log").decode().replace("eventfd_read", "f" * length)
     status, out, err = seen(text)
-    return None if (status, out) == (1, b"") and err.endswith(": BadName\n") else f"{status}, {out} and {err}"
+    is_well = (status, err) == (0, "") and b" held it up, asleep in fff" in out
+    return None if is_well else f"{status}, {out} and {err}"
+
+
+def many_functions(count):
+    """A patch of so many functions: the catalog that klpsee makes has room for 64."""
+    rows = "".join(f"function f{number},1\n" for number in range(count))
+    text = read("captures/enable.log").decode().replace("function eventfd_read,1\n", f"function eventfd_read,1\n{rows}")
+    status, out, err = seen(text)
+    is_well = (status, err) == (0, "") and b" held it up, asleep in eventfd_read" in out
+    return None if is_well else f"{status}, {out} and {err}"
 
 
 def many_samples():
@@ -191,12 +220,14 @@ def cases():
     logs = sorted(it for it in os.listdir(f"{EXAMPLES}/captures") if it.endswith(".log"))
     names = [it.removesuffix(".log") for it in logs]
     made = [(f"captures/{it}.log", functools.partial(captured, it)) for it in names]
+    made += [(f"captures/{it}.log, --json", functools.partial(for_programs, it)) for it in names]
     made += [(f"captures/{it}.log, cut off", functools.partial(cut_off, it)) for it in CUT]
     made += [(f"a log with {lines!r}", functools.partial(faulty, lines, kind)) for lines, kind in FAULTY]
     made += [(f"a log that begins with {it!r}", functools.partial(no_log, it)) for it in NO_LOGS]
     made += [(f"a task called {it!r}", functools.partial(named, it)) for it in NAMES]
     made += [(f"{it} tasks", functools.partial(many_tasks, it)) for it in (1, 64, 65)]
-    made += [(f"a function of {it} bytes", functools.partial(long_name, it)) for it in (128, 511)]
+    made += [(f"a function of {it} bytes", functools.partial(long_name, it)) for it in (127, 128, 511)]
+    made += [(f"a patch of {it} functions", functools.partial(many_functions, it)) for it in (62, 600)]
     made += [("samples in the wrong order", swapped), ("many samples", many_samples)]
     made += [("a log with an older force", forced_before)]
     made += [("nothing in transition", functools.partial(stopped, "enable", "8.05", "no patch was in transition\n"))]

@@ -1,4 +1,7 @@
 //! A log, sample by sample.
+ghost use Rattle.std.specs.Prelude.{◌≡◌};
+ghost use Rattle.klp_capture.specs.Shown.{span_of};
+
 use crate::fault::{CaptureFault, CaptureFaultKind};
 use crate::line::{FrameLine, Line, SampleLine, SymbolLine, TaskLine};
 use crate::time::Moment;
@@ -7,26 +10,35 @@ use std::alloc::Global;
 
 /// Some of the items of a list that follow one another.
 #[derive(Clone, Copy)]
-pub(crate) struct Span {
-    from: usize,
-    to: usize,
+pub struct Span {
+    /// The first of them.
+    pub from: usize,
+    /// The one behind the last.
+    pub to: usize,
 }
 
 impl Span {
-    pub(crate) const EMPTY: Span = Span { from: 0, to: 0 };
+    /// No items.
+    pub const EMPTY: Span = Span { from: 0, to: 0 };
 
     /// These items. None of them if the list has fewer.
-    pub(crate) fn of<T>(self, items: &[T]) -> &[T] {
+    pub fn of<T>(self, items: &[T]) -> &[T]
+        ensures { result.now ≡ span_of self items.now }
+    {
         items.get(self.from..self.to).unwrap_or(&[])
     }
 }
 
 /// A line about the patches that are there.
 #[derive(Clone, Copy)]
-pub(crate) enum PatchRow<'a> {
+pub enum PatchRow<'a> {
+    /// A patch, with its files `enabled` and `transition`.
     Patch {
+        /// What it is called.
         name: &'a [u8],
+        /// Whether `enabled` reads 1.
         is_enabled: bool,
+        /// Whether `transition` reads 1.
         is_moving: bool,
     },
     /// An object of the patch above.
@@ -35,57 +47,73 @@ pub(crate) enum PatchRow<'a> {
     Loaded,
     /// A function of the object above that the patch above changes.
     Function {
+        /// Its name.
         name: &'a [u8],
+        /// Its position among the symbols of this name; 0 if there is no other.
         position: u32,
     },
 }
 
 /// A task that a sample names, since it changed.
 #[derive(Clone, Copy)]
-pub(crate) struct SeenTask<'a> {
-    pub(crate) task: TaskLine<'a>,
-    /// What the task is inside of, innermost first.
-    pub(crate) frames: Span,
+pub struct SeenTask<'a> {
+    /// The task's line.
+    pub task: TaskLine<'a>,
+    /// What the task is inside of, innermost first, in [`Capture::frames`].
+    pub frames: Span,
 }
 
 /// What a sample shows, without what is as it was.
 #[derive(Clone, Copy)]
-pub(crate) struct Sample {
-    pub(crate) line: SampleLine,
-    /// The patches, as they were told last.
-    pub(crate) patches: Span,
+pub struct Sample {
+    /// When it was taken, and what it counts.
+    pub line: SampleLine,
+    /// The patches, as they were told last, in [`Capture::rows`].
+    pub patches: Span,
     /// Whether this sample tells them.
-    pub(crate) tells_patches: bool,
-    pub(crate) tasks: Span,
-    pub(crate) gone: Span,
+    pub tells_patches: bool,
+    /// The tasks that it names, in [`Capture::seen`].
+    pub tasks: Span,
+    /// The threads that have ended, in [`Capture::gone`].
+    pub gone: Span,
 }
 
 /// A line of the kernel's own log.
 #[derive(Clone, Copy)]
-pub(crate) struct LogLine<'a> {
-    pub(crate) at: Moment,
-    pub(crate) text: &'a [u8],
+pub struct LogLine<'a> {
+    /// When the kernel wrote it.
+    pub at: Moment,
+    /// What it says.
+    pub text: &'a [u8],
 }
 
 /// What `klpcap` recorded. Names are lent from its text.
 #[derive(Drop)]
 pub struct Capture<'a> {
-    pub(crate) kernel: &'a [u8],
+    /// The kernel's release, and the machine.
+    pub kernel: &'a [u8],
     /// The files that the kernel didn't show.
-    pub(crate) missing: Vec<&'a [u8]>,
+    pub missing: Vec<&'a [u8]>,
     /// The functions that were asked for, though no patch changes them.
-    pub(crate) asked: Vec<&'a [u8]>,
-    pub(crate) rows: Vec<PatchRow<'a>>,
-    pub(crate) seen: Vec<SeenTask<'a>>,
-    pub(crate) frames: Vec<FrameLine<'a>>,
-    pub(crate) gone: Vec<u64>,
-    pub(crate) samples: Vec<Sample>,
-    pub(crate) log: Vec<LogLine<'a>>,
-    pub(crate) symbols: Vec<SymbolLine<'a>>,
+    pub asked: Vec<&'a [u8]>,
+    /// The lines about patches of all samples.
+    pub rows: Vec<PatchRow<'a>>,
+    /// The tasks that all samples name.
+    pub seen: Vec<SeenTask<'a>>,
+    /// The functions that all these tasks are inside of.
+    pub frames: Vec<FrameLine<'a>>,
+    /// The threads that have ended.
+    pub gone: Vec<u64>,
+    /// The samples, in the order in which they were taken.
+    pub samples: Vec<Sample>,
+    /// The kernel's own log, as far as it is about livepatching.
+    pub log: Vec<LogLine<'a>>,
+    /// Functions with their addresses.
+    pub symbols: Vec<SymbolLine<'a>>,
     /// The modules that are loaded, the newest first.
-    pub(crate) modules: Vec<&'a [u8]>,
+    pub modules: Vec<&'a [u8]>,
     /// Whether the log has its last line. Else it was cut off.
-    pub(crate) is_whole: bool,
+    pub is_whole: bool,
     begun: Begun,
 }
 
@@ -253,8 +281,11 @@ impl<'a> Capture<'a> {
     }
 
     fn add(&mut self, line: Line<'a>) -> Result<(), CaptureFaultKind> {
+        if self.is_whole {
+            return Err(CaptureFaultKind::Stray);
+        }
         match line {
-            Line::Heading => {}
+            Line::Heading => return Err(CaptureFaultKind::Stray),
             Line::Kernel(name) => self.kernel = name,
             Line::Missing(file) => self.missing.push(file)?,
             Line::Find(function) => self.asked.push(function)?,
@@ -267,8 +298,13 @@ impl<'a> Capture<'a> {
         Ok(())
     }
 
-    /// Reads a log, in time linear in its length, or reports its first faulty line. A log that was cut off is read up to
-    /// its last whole line: what belongs to a sample that hasn't ended is left out.
+    /// Whether functions were asked for, though no patch changes them.
+    pub fn is_preflight(&self) -> bool {
+        !self.asked.is_empty()
+    }
+
+    /// Reads a log, in time linear in its length, or reports its first faulty line. A log that was cut off is read up
+    /// to its last whole line: what belongs to a sample that hasn't ended is left out.
     pub fn read(alloc: Global, text: &'a [u8]) -> Result<Capture<'a>, CaptureFault> {
         let mut capture = Capture::new(alloc);
         let whole = match text.iter().rposition(|byte| *byte == b'\n') {

@@ -10,7 +10,8 @@ pub enum CaptureFaultKind {
     NoHeading,
     /// No line begins with this word, or what follows it isn't as wanted.
     BadLine,
-    /// A line belongs to an object, a patch or a task, and no such line is above it in its sample.
+    /// A line belongs to an object, a patch or a task, and no such line is above it in its sample. Or it is a second
+    /// heading, or stands behind the last line, `end`.
     Stray,
     /// A sample began before the one above it had ended.
     OutOfOrder,

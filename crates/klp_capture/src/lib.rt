@@ -1,26 +1,22 @@
-//! A transition of a real kernel, as `klpcap` recorded it: a run of the rules that shows it, and what it comes to.
+//! The log of a transition of a real kernel, as `klpcap` recorded it.
 //!
-//! [`Capture::read`] reads a log (docs/CAPTURE.md). [`explain`] makes a catalog of what the log names, looks for a run
-//! of the rules that shows each sample, and tells what moves since when, who holds it up, and what a force would leave.
-//! The search needs no trust: the trace that it finds is held against the rules by `klp_program::watch_over_text`, as any
-//! other trace. Nothing is claimed of what happened between two samples.
+//! [`Capture::read`] reads a log (docs/CAPTURE.md), and reports its first faulty line. Its samples share lists of what
+//! they have: patches, tasks, and the functions that these are inside of. So an hour of quiet samples is small. What a
+//! log comes to is told by the crates above.
 #![tactic(auto)]
 
-mod answer;
 mod capture;
-mod catalog;
-mod explained;
 mod fault;
-mod fits;
-mod followed;
-mod functions;
 mod line;
-mod patches;
-mod preflight;
-mod run;
+mod shown;
+mod text;
+mod thread;
 mod time;
 
-pub use capture::Capture;
-pub use explained::{Explained, explain};
+pub use capture::{Capture, LogLine, PatchRow, Sample, SeenTask, Span};
 pub use fault::{CaptureFault, CaptureFaultKind};
-pub use time::Moment;
+pub use line::{Activity, FrameLine, PatchedState, SampleLine, SymbolLine, TaskLine};
+pub use shown::patch_in;
+pub use text::Text;
+pub use thread::{PatchName, Thread};
+pub use time::{Elapsed, Moment};

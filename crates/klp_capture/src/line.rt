@@ -4,7 +4,7 @@ use klp_words::{LineWords, Separators, cut, hexadecimal, microseconds, number32,
 
 /// How a task is, by the letter of `/proc/<pid>/stat`.
 #[derive(Clone, Copy, PartialEq, Eq)]
-pub(crate) enum Activity {
+pub enum Activity {
     /// It runs, or waits for a processor.
     Running,
     /// It sleeps, in any way.
@@ -13,24 +13,28 @@ pub(crate) enum Activity {
 
 /// A task as a sample shows it.
 #[derive(Clone, Copy)]
-pub(crate) struct TaskLine<'a> {
-    pub(crate) thread: u64,
+pub struct TaskLine<'a> {
+    /// The thread's number.
+    pub thread: u64,
     /// When the thread began, in ticks since boot: a number that is given again has another one.
-    pub(crate) start: u64,
-    pub(crate) activity: Activity,
+    pub start: u64,
+    /// Whether it ran.
+    pub activity: Activity,
     /// What `patch_state` reads: -1, 0 or 1.
-    pub(crate) state: PatchedState,
+    pub state: PatchedState,
     /// How often the task got a processor.
-    pub(crate) runs: u64,
+    pub runs: u64,
     /// Whether the task slept while it was read: then its functions are of one moment.
-    pub(crate) is_stable: bool,
-    pub(crate) is_kernel_thread: bool,
-    pub(crate) name: &'a [u8],
+    pub is_stable: bool,
+    /// Whether it is a thread of the kernel itself.
+    pub is_kernel_thread: bool,
+    /// What it is called. These bytes need not be text.
+    pub name: &'a [u8],
 }
 
 /// What a task's `patch_state` reads.
 #[derive(Clone, Copy, PartialEq, Eq)]
-pub(crate) enum PatchedState {
+pub enum PatchedState {
     /// -1: no patch is in transition.
     Undefined,
     /// 0
@@ -41,34 +45,39 @@ pub(crate) enum PatchedState {
 
 /// A function that a task is inside of.
 #[derive(Clone, Copy)]
-pub(crate) struct FrameLine<'a> {
-    pub(crate) function: &'a [u8],
+pub struct FrameLine<'a> {
+    /// Its name.
+    pub function: &'a [u8],
     /// The module that has the function; none for the kernel itself.
-    pub(crate) module: Option<&'a [u8]>,
+    pub module: Option<&'a [u8]>,
 }
 
 /// The end of a sample.
 #[derive(Clone, Copy)]
-pub(crate) struct SampleLine {
-    pub(crate) from: Moment,
-    pub(crate) to: Moment,
+pub struct SampleLine {
+    /// When it began.
+    pub from: Moment,
+    /// When it had ended.
+    pub to: Moment,
     /// How many tasks there were.
-    pub(crate) tasks: u64,
+    pub tasks: u64,
     /// How many of them lagged, weren't followed, and ran.
-    pub(crate) running: u64,
+    pub running: u64,
     /// The same of those that slept.
-    pub(crate) sleeping: u64,
+    pub sleeping: u64,
     /// Whether a patch changed while the sample was taken.
-    pub(crate) is_torn: bool,
+    pub is_torn: bool,
 }
 
 /// A symbol with its address.
 #[derive(Clone, Copy)]
-pub(crate) struct SymbolLine<'a> {
-    pub(crate) address: u64,
-    pub(crate) name: &'a [u8],
+pub struct SymbolLine<'a> {
+    /// Where it is.
+    pub address: u64,
+    /// Its name.
+    pub name: &'a [u8],
     /// The module that has it; none for the kernel itself.
-    pub(crate) module: Option<&'a [u8]>,
+    pub module: Option<&'a [u8]>,
 }
 
 /// One line of a log.

@@ -13,9 +13,9 @@ impl fmt::Display for Moment {
     }
 }
 
-/// The time from one moment to a later one.
+/// The time from one moment to a later one, printed as seconds.
 #[derive(Clone, Copy)]
-pub(crate) struct Elapsed(pub(crate) Moment, pub(crate) Moment);
+pub struct Elapsed(pub Moment, pub Moment);
 
 impl fmt::Display for Elapsed {
     fn fmt<W: fmt::Write>(&self, f: &mut fmt::Formatter<W>) -> fmt::Result {

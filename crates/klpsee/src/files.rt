@@ -1,5 +1,9 @@
 //! What is written to a folder.
-use klp_capture::Explained;
+use klp_capture_run::Explained;
+use klp_names::Names;
+use klp_program::Fault;
+use klp_trace_page::{page_over_trace, timed_names};
+use std::alloc::{AllocError, Global};
 use std::fs::OpenOptions;
 use std::io;
 use std::io::Write;
@@ -7,6 +11,9 @@ use std::os::unix::fs::OpenOptionsExt;
 
 /// The mode of what is written: a log, and what is made of it, has addresses of a running kernel.
 const MODE: u32 = 0o600;
+
+/// The title of the page.
+const TITLE: &[u8] = b"run.trace";
 
 /// Writes a file that only its owner can read.
 fn write_file(rt: &HostRuntime, folder: &str, name: &str, bytes: &[u8]) -> io::Result<()> {
@@ -17,10 +24,29 @@ fn write_file(rt: &HostRuntime, folder: &str, name: &str, bytes: &[u8]) -> io::R
     file.write_all(bytes)
 }
 
-/// Writes the catalog, the trace and the names of the tasks.
+/// The names of the run's tasks with the times of its lines. None if memory runs out.
+fn names_of(alloc: Global, names: &str, trace: &[u8]) -> Option<Names> {
+    timed_names(alloc, names.as_bytes(), trace)
+}
+
+/// The page of the run.
+fn page_of(alloc: Global, found: &Explained<'_>, names: &str) -> Result<Vec<u8>, Fault> {
+    let trace = found.trace().as_bytes();
+    match names_of(alloc, names, trace) {
+        Some(names) => page_over_trace(alloc, found.catalog.as_bytes(), TITLE, &names, trace),
+        None => Err(Fault::from(AllocError)),
+    }
+}
+
+/// Writes the catalog, the trace and the names of the tasks, and a page of the run. Without memory for the page the
+/// others are written.
 pub(crate) fn write_files(rt: &HostRuntime, folder: &str, found: &Explained<'_>) -> io::Result<()> {
     let names = found.names(rt.alloc())?;
     write_file(rt, folder, "run.catalog", found.catalog.as_bytes())?;
     write_file(rt, folder, "run.trace", found.trace().as_bytes())?;
-    write_file(rt, folder, "run.names", names.as_bytes())
+    write_file(rt, folder, "run.names", names.as_bytes())?;
+    match page_of(rt.alloc(), found, names.as_str()) {
+        Ok(page) => write_file(rt, folder, "run.html", &page),
+        Err(_) => Err(io::Error::from(io::ErrorKind::OutOfMemory)),
+    }
 }

@@ -1,12 +1,17 @@
-//! The program: it reads a log of `klpcap`, and tells what moves since when, who holds it up, and whether some run of the
-//! rules shows what was recorded. With a folder it writes a catalog, a trace and the names of the tasks there too.
+//! The program: it reads a log of `klpcap`, and says what moves since when, who holds it up, and whether some run of
+//! the rules shows what was recorded: in words, or for programs. With a folder it writes a catalog, a trace, the names
+//! of the tasks and a page there too.
 #![tactic(auto)]
 
 mod files;
+mod words;
 
 use crate::files::write_files;
-use klp_capture::{Capture, Explained, explain};
-use klp_diagnostics::file_in;
+use crate::words::{Words, words_of};
+use klp_capture::Capture;
+use klp_capture_answer::{Report, print_json, print_report, report_of};
+use klp_capture_run::{Explained, explain};
+use klp_diagnostics::{Escaped, file_in};
 use klp_program::program_arguments;
 use std::alloc::Global;
 use std::io;
@@ -15,64 +20,55 @@ use std::process::ExitCode;
 
 const NAME: &str = "klpsee";
 
-/// The exit status of faults of files and lines, of words that are refused, and of a log that no run of the rules shows.
+/// The exit status of faults of files and lines, of refused words, and of a log that no run of the rules shows.
 const FAULTY: u8 = 1;
 
 const REFUSED: u8 = 2;
 
 const REFUTED: u8 = 3;
 
-/// What the program's words ask for.
-#[derive(Clone, Copy)]
-struct Words<'a> {
-    log: &'a str,
-    /// The folder for what is written.
-    folder: Option<&'a str>,
+/// Writes the report in the form that is asked for.
+fn print<W: Write>(
+    alloc: Global,
+    words: Words<'_>,
+    report: &Report,
+    out: &mut W,
+) -> io::Result<()> {
+    if words.is_json {
+        print_json(alloc, report, out)
+    } else {
+        print_report(report, out)
+    }
 }
 
-fn begins_with_dash(word: &str) -> bool {
-    word.as_bytes().first() == Some(&b'-')
-}
-
-/// None for words that are refused: others than these, and files that begin with a dash.
-fn words_of(given: &[String]) -> Option<Words<'_>> {
-    let (log, folder) = match given {
-        [log] => (log.as_str(), None),
-        [log, option, folder] if option.as_str() == "-o" => (log.as_str(), Some(folder.as_str())),
-        _ => return None,
+/// Writes what a log comes to, and returns the exit status. A log from before a patch shows no transition to explain.
+fn answer<W: Write>(
+    alloc: Global,
+    words: Words<'_>,
+    capture: &Capture<'_>,
+    found: &Explained<'_>,
+    out: &mut W,
+) -> u8 {
+    let Ok(report) = report_of(alloc, capture, found) else {
+        return FAULTY;
     };
-    if begins_with_dash(log) || folder.is_some_and(begins_with_dash) {
-        return None;
-    }
-    Some(Words { log, folder })
-}
-
-/// Writes the answer, and returns the exit status.
-fn answer<W: Write>(capture: &Capture<'_>, found: &Explained<'_>, out: &mut W) -> u8 {
-    match found.print(capture, out) {
-        Ok(()) if found.is_explained() => 0,
-        Ok(()) => REFUTED,
+    match print(alloc, words, &report, out) {
         Err(_) => FAULTY,
-    }
-}
-
-fn preflight<W: Write>(capture: &Capture<'_>, out: &mut W) -> u8 {
-    match capture.print_preflight(out) {
+        Ok(()) if found.is_refuted() => REFUTED,
         Ok(()) => 0,
-        Err(_) => FAULTY,
     }
 }
 
 /// Explains a log, and returns the exit status.
 fn see<W: Write, E: Write>(
     rt: &HostRuntime,
-    alloc: Global,
     words: Words<'_>,
     log: &[u8],
     out: &mut W,
     err: &mut E,
 ) -> u8 {
-    let name = words.log;
+    let alloc = rt.alloc();
+    let name = Escaped(words.log.as_bytes());
     let capture = match Capture::read(alloc, log) {
         Ok(capture) => capture,
         Err(fault) => {
@@ -80,23 +76,21 @@ fn see<W: Write, E: Write>(
             return FAULTY;
         }
     };
-    if capture.is_preflight() {
-        return preflight(&capture, out);
-    }
     let found = match explain(alloc, &capture) {
         Ok(found) => found,
         Err(fault) => {
-            let _ = writeln!(err, "{NAME}: {name}: {fault}");
+            let _ = writeln!(err, "{NAME}: {name}: the log makes no catalog: {fault}");
             return FAULTY;
         }
     };
     if let Some(folder) = words.folder
         && let Err(error) = write_files(rt, folder, &found)
     {
+        let folder = Escaped(folder.as_bytes());
         let _ = writeln!(err, "{NAME}: {folder}: {error}");
         return FAULTY;
     }
-    answer(&capture, &found, out)
+    answer(alloc, words, &capture, &found, out)
 }
 
 // The exit status. Words that aren't text are refused.
@@ -104,12 +98,15 @@ fn run(rt: &HostRuntime) -> Result<u8, u8> {
     let mut err = rt.stderr();
     let given = program_arguments(rt, NAME, &mut err)?;
     let Some(words) = words_of(&given) else {
-        let _ = writeln!(err, "{NAME}: usage: klpsee LOG [-o FOLDER] (man klpsee)");
+        let _ = writeln!(
+            err,
+            "{NAME}: usage: klpsee LOG [-o FOLDER] [--json] (man klpsee)"
+        );
         return Err(REFUSED);
     };
     let log = file_in(rt, NAME, words.log, &mut err)?;
     let mut out = io::writer(rt);
-    Ok(see(rt, rt.alloc(), words, &log, &mut out, &mut err))
+    Ok(see(rt, words, &log, &mut out, &mut err))
 }
 
 fn main(rt: HostRuntime) -> ExitCode {

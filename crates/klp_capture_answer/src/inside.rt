@@ -1,0 +1,89 @@
+//! Before a patch is loaded: who is inside of the functions that it would change.
+use crate::gather::text_of;
+use crate::report::{Inside, TaskReport};
+use klp_capture::{Activity, Capture, Sample, SeenTask};
+use std::alloc::{AllocError, Global};
+
+/// A task as it was seen last, and in how many samples it was inside of such a function.
+#[derive(Clone, Copy)]
+struct Seen<'a> {
+    task: SeenTask<'a>,
+    function: Option<&'a [u8]>,
+    samples: u64,
+}
+
+/// The innermost function that a task is inside of, of those that were asked for.
+fn asked_of<'a>(capture: &Capture<'a>, seen: &SeenTask<'a>) -> Option<&'a [u8]> {
+    for frame in seen.frames.of(&capture.frames) {
+        if capture.asked.contains(&frame.function) {
+            return Some(frame.function);
+        }
+    }
+    None
+}
+
+/// Takes what a sample says. A task that it doesn't name is where it was.
+fn take_sample<'a>(
+    capture: &Capture<'a>,
+    sample: &Sample,
+    all: &mut Vec<Seen<'a>>,
+) -> Result<(), AllocError> {
+    for task in sample.tasks.of(&capture.seen) {
+        let function = asked_of(capture, task);
+        let known = all.iter_mut().find(|own| own.task.task.thread == task.task.thread
+            && own.task.task.start == task.task.start);
+        match known {
+            Some(own) => {
+                own.task = *task;
+                own.function = function;
+            }
+            None => all.push(Seen {
+                task: *task,
+                function,
+                samples: 0,
+            })?,
+        }
+    }
+    for own in all.iter_mut() {
+        if sample
+            .gone
+            .of(&capture.gone)
+            .contains(&own.task.task.thread)
+        {
+            own.function = None;
+        }
+        if own.function.is_some() {
+            own.samples = own.samples.saturating_add(1);
+        }
+    }
+    Ok(())
+}
+
+/// Who is inside of the functions that were asked for in the last sample. None if none were asked for.
+pub(crate) fn inside_of(alloc: Global, capture: &Capture<'_>) -> Result<Vec<Inside>, AllocError> {
+    let mut inside = Vec::new(alloc);
+    let mut all = Vec::new(alloc);
+    if capture.asked.is_empty() {
+        return Ok(inside);
+    }
+    for sample in &capture.samples {
+        take_sample(capture, sample, &mut all)?;
+    }
+    for seen in &all {
+        let Some(function) = seen.function else {
+            continue;
+        };
+        let task = seen.task.task;
+        inside.push(Inside {
+            task: TaskReport {
+                name: text_of(alloc, task.name)?,
+                thread: task.thread,
+                is_kernel_thread: task.is_kernel_thread,
+            },
+            function: text_of(alloc, function)?,
+            is_asleep: task.is_stable && task.activity == Activity::Asleep,
+            samples: seen.samples,
+        })?;
+    }
+    Ok(inside)
+}

@@ -1,0 +1,116 @@
+//! The sample that no run of the rules shows: what the log has there, and what the rules have.
+use crate::report::Refused;
+use klp_capture::{Capture, Text};
+use klp_capture_run::{Explained, Followed};
+use klp_diagnostics::{line_at, rules_of};
+use klp_program::Verdict;
+use std::alloc::{AllocError, Global};
+use std::fmt;
+
+/// A sentence in which each `task N` is called by its name and its thread's number.
+#[derive(Clone, Copy)]
+struct WithNames<'r, 'a> {
+    text: &'r str,
+    tasks: &'r [Followed<'a>],
+}
+
+/// A number at the front of a text, and what is behind it.
+fn number_at_front(text: &str) -> Option<(usize, &str)> {
+    let length = text
+        .bytes()
+        .take_while(|byte| byte.is_ascii_digit())
+        .count();
+    let (digits, behind) = (text.get(..length)?, text.get(length..)?);
+    match digits.parse::<usize>() {
+        Ok(number) => Some((number, behind)),
+        Err(_) => None,
+    }
+}
+
+impl fmt::Display for WithNames<'_, '_> {
+    fn fmt<W: fmt::Write>(&self, f: &mut fmt::Formatter<W>) -> fmt::Result {
+        let mut parts = self.text.split("task ");
+        if let Some(first) = parts.next() {
+            f.write_str(first)?;
+        }
+        for part in parts {
+            let found = match number_at_front(part) {
+                Some((number, behind)) => match self.tasks.get(number) {
+                    Some(task) => Some((task, behind)),
+                    None => None,
+                },
+                None => None,
+            };
+            match found {
+                Some((task, behind)) => {
+                    let (name, thread) = (Text(task.name), task.thread);
+                    write!(f, "{name}[{thread}]{behind}")?;
+                }
+                None => write!(f, "task {part}")?,
+            }
+        }
+        Ok(())
+    }
+}
+
+/// What a line of the trace says that was seen, in words.
+fn seen_at(alloc: Global, tasks: &[Followed<'_>], line: &str) -> Result<String, AllocError> {
+    let words = line.split_once(' ');
+    let shown = match words {
+        Some(("saw", rest)) => match number_at_front(rest) {
+            Some((number, state)) => format!(in alloc; "patch_state{state} of task {number}")?,
+            None => format!(in alloc; "{rest} (a patch, `enabled`, `transition`)")?,
+        },
+        Some(("ran", rest)) => match number_at_front(rest) {
+            Some((number, version)) => format!(in alloc; "task {number} inside of{version}")?,
+            None => format!(in alloc; "{line}")?,
+        },
+        _ => format!(in alloc; "{line}")?,
+    };
+    let text = shown.as_str();
+    format!(in alloc; "{}", WithNames { text, tasks })
+}
+
+/// Both sides at the line of the trace where the run ends: what the log has, and what the rules have.
+fn both_sides(
+    alloc: Global,
+    found: &Explained<'_>,
+) -> Result<(Option<String>, Option<String>), AllocError> {
+    let tasks = found.run.tasks.as_slice();
+    let trace = found.run.trace.as_bytes();
+    let line = match found.verdict {
+        Verdict::Differs(differs) => differs.item as u64,
+        Verdict::Dishonest(fault) => fault.item as u64,
+        Verdict::Honest(_) => return Ok((None, None)),
+    };
+    let log = match str::from_utf8(line_at(trace, line)) {
+        Ok(text) => Some(seen_at(alloc, tasks, text)?),
+        Err(_) => None,
+    };
+    let rules = match rules_of(alloc, found.catalog.as_bytes(), trace, line) {
+        Some(text) => {
+            let text = text.as_str();
+            Some(format!(in alloc; "{}", WithNames { text, tasks })?)
+        }
+        None => None,
+    };
+    Ok((log, rules))
+}
+
+/// The sample that no run of the rules shows, if there is one.
+pub(crate) fn refused_of(
+    alloc: Global,
+    capture: &Capture<'_>,
+    found: &Explained<'_>,
+) -> Result<Option<Refused>, AllocError> {
+    let Some(sample) = found.failed.and_then(|failed| capture.samples.get(failed)) else {
+        return Ok(None);
+    };
+    let (log, rules) = both_sides(alloc, found)?;
+    Ok(Some(Refused {
+        from_us: sample.line.from.0,
+        to_us: sample.line.to.0,
+        log,
+        rules,
+    }))
+}

@@ -1,0 +1,176 @@
+//! What a log comes to, as data. Times are microseconds since the machine booted.
+use klp_capture::Moment;
+use serde::Serialize;
+use std::alloc::Global;
+use std::io;
+use std::io::Write;
+
+/// A task, by its name and its thread's number.
+#[derive(Drop, Serialize)]
+pub struct TaskReport {
+    pub(crate) name: String,
+    pub(crate) thread: u64,
+    pub(crate) is_kernel_thread: bool,
+}
+
+/// How long a task held a transition up: asleep in one function, without having run.
+#[derive(Drop, Serialize)]
+pub struct Holder {
+    pub(crate) task: TaskReport,
+    pub(crate) function: String,
+    /// The first sample that shows it, and the last.
+    pub(crate) from_us: u64,
+    pub(crate) to_us: u64,
+    /// Whether it did so in the last sample, and the transition goes on.
+    pub(crate) holds_still: bool,
+}
+
+/// Why a task lags that doesn't hold the transition up.
+#[derive(Clone, Copy, PartialEq, Eq, Serialize)]
+#[serde(rename_all = "snake_case")]
+pub(crate) enum Why {
+    /// It runs.
+    Runs,
+    /// It sleeps in none of the functions that the log has of the patch.
+    AsleepElsewhere,
+}
+
+/// A task that lags, and doesn't hold the transition up.
+#[derive(Drop, Serialize)]
+pub struct Lagging {
+    pub(crate) task: TaskReport,
+    pub(crate) why: Why,
+}
+
+/// Which way a transition goes.
+#[derive(Clone, Copy, PartialEq, Eq, Serialize)]
+#[serde(rename_all = "snake_case")]
+pub(crate) enum Becomes {
+    Enabled,
+    Disabled,
+}
+
+/// How a transition ended.
+#[derive(Clone, Copy, PartialEq, Eq, Serialize)]
+#[serde(rename_all = "snake_case")]
+pub(crate) enum How {
+    Complete,
+    Reversed,
+    Forced,
+}
+
+/// The end of a transition.
+#[derive(Clone, Copy, Serialize)]
+pub struct EndReport {
+    pub(crate) at_us: u64,
+    pub(crate) how: How,
+}
+
+/// A transition that the log shows.
+#[derive(Drop, Serialize)]
+pub struct TransitionReport {
+    pub(crate) patch: String,
+    pub(crate) becomes: Becomes,
+    pub(crate) since_us: u64,
+    /// Whether the kernel's log has its start. Otherwise it started at this time or before.
+    pub(crate) is_start_known: bool,
+    pub(crate) first_sample_us: u64,
+    pub(crate) last_sample_us: u64,
+    pub(crate) end: Option<EndReport>,
+    pub(crate) holders: Vec<Holder>,
+    /// Who lags in its last sample, and doesn't hold it up.
+    pub(crate) lagging: Vec<Lagging>,
+}
+
+/// A task that a force leaves asleep in a function that isn't called any more.
+#[derive(Drop, Serialize)]
+pub struct Left {
+    pub(crate) task: TaskReport,
+    pub(crate) function: String,
+}
+
+/// The sample that no run of the rules shows, and both sides there.
+#[derive(Drop, Serialize)]
+pub struct Refused {
+    pub(crate) from_us: u64,
+    pub(crate) to_us: u64,
+    /// What the log has.
+    pub(crate) log: Option<String>,
+    /// What the rules have there, and why.
+    pub(crate) rules: Option<String>,
+}
+
+/// A task that was seen inside of a function that the log was asked for.
+#[derive(Drop, Serialize)]
+pub struct Inside {
+    pub(crate) task: TaskReport,
+    pub(crate) function: String,
+    /// Whether it sleeps there, and so would hold a transition up. One that runs may leave before.
+    pub(crate) is_asleep: bool,
+    /// In how many samples it was there.
+    pub(crate) samples: u64,
+}
+
+/// How many tasks lag that the log doesn't follow, in its last sample.
+#[derive(Clone, Copy, Serialize)]
+pub struct Counts {
+    pub(crate) tasks: u64,
+    pub(crate) running: u64,
+    pub(crate) sleeping: u64,
+    /// How many tasks the log follows that aren't told, since at most 64 are.
+    pub(crate) left_out: u64,
+    /// How many functions of the log's patches the catalog has no room for.
+    pub(crate) functions_left_out: u64,
+    /// How many names of functions were cut off, since they are too long.
+    pub(crate) names_cut: u64,
+}
+
+/// How many samples a run of the rules shows, and how many were left out, since a patch changed while they were taken.
+#[derive(Clone, Copy, Serialize)]
+pub struct Samples {
+    pub(crate) shown: u64,
+    pub(crate) left_out: u64,
+    /// How many weren't come to: those behind a force, or behind the one that no run shows.
+    pub(crate) later: u64,
+}
+
+/// What a log comes to.
+#[derive(Drop, Serialize)]
+pub struct Report {
+    pub(crate) kernel: String,
+    /// The files that the kernel didn't show.
+    pub(crate) missing: Vec<String>,
+    /// Whether the log was asked for functions that a patch would change.
+    pub(crate) is_preflight: bool,
+    pub(crate) inside: Vec<Inside>,
+    pub(crate) transitions: Vec<TransitionReport>,
+    /// The tasks that sleep in a function of the transition in the last sample.
+    pub(crate) left_by_force: Vec<Left>,
+    pub(crate) forced_at_us: Option<u64>,
+    pub(crate) others: Counts,
+    pub(crate) samples: Samples,
+    pub(crate) is_cut_off: bool,
+    pub(crate) is_explained: bool,
+    pub(crate) is_refuted: bool,
+    pub(crate) refused: Option<Refused>,
+}
+
+impl Report {
+    /// Whether the log is one from before a patch, and shows no transition.
+    pub fn is_preflight_alone(&self) -> bool {
+        self.is_preflight && self.transitions.is_empty()
+    }
+}
+
+/// A time of a report.
+pub(crate) fn seconds(microseconds: u64) -> Moment {
+    Moment(microseconds)
+}
+
+/// Writes a report as JSON: one object, whose fields are those of [`Report`].
+pub fn print_json<W: Write>(alloc: Global, report: &Report, out: &mut W) -> io::Result<()> {
+    match serde_json::to_string_pretty(alloc, report) {
+        Ok(text) => writeln!(out, "{text}"),
+        Err(_) => Err(io::Error::from(io::ErrorKind::OutOfMemory)),
+    }
+}

@@ -1,0 +1,101 @@
+//! The catalog of what a log names, as text.
+use crate::functions::{Functions, Place};
+use klp_capture::Text;
+use klp_types::MAX_SYMBOL_NAME;
+use klp_words::is_name;
+use std::alloc::{AllocError, Global};
+
+/// The first five bytes of a function that can be patched: a NOP.
+const NOP: &str = "0f1f440000";
+
+/// As much of a symbol's name as a catalog has room for.
+fn cut_name(name: &[u8]) -> Text<'_> {
+    Text(name.get(..MAX_SYMBOL_NAME).unwrap_or(name))
+}
+
+impl Functions<'_> {
+    /// Writes the symbol of a function, as the console spells it.
+    pub(crate) fn write_symbol(
+        &self,
+        text: &mut String,
+        function: usize,
+    ) -> Result<(), AllocError> {
+        let Some(function) = self.functions.get(function) else {
+            return Ok(());
+        };
+        let object = Text(self.objects.get(function.object).copied().unwrap_or(b""));
+        let name = cut_name(function.name);
+        let position = function.position;
+        write!(text, ".klp.sym.{object}.{name},{position}")
+    }
+
+    /// Writes a function that a task is inside of, as the console spells it.
+    pub(crate) fn write_place(&self, text: &mut String, place: Place) -> Result<(), AllocError> {
+        if !place.is_new {
+            return self.write_symbol(text, place.function);
+        }
+        let Some(function) = self.functions.get(place.function) else {
+            return Ok(());
+        };
+        let patch = match self.patches.get(function.patch) {
+            Some(patch) => Text(patch.name),
+            None => Text(b""),
+        };
+        let index = function.index.unwrap_or(0);
+        write!(text, "{patch}:{index}")
+    }
+
+    fn write_objects(&self, text: &mut String) -> Result<(), AllocError> {
+        for (number, object) in self.objects.iter().enumerate() {
+            let object = Text(*object);
+            writeln!(text, "object {object}")?;
+            for symbol in &self.symbols {
+                if symbol.object == number {
+                    let name = cut_name(symbol.name);
+                    let address = symbol.address;
+                    writeln!(text, "symbol {name} {address:x} {NOP}")?;
+                }
+            }
+        }
+        Ok(())
+    }
+
+    fn write_functions(&self, text: &mut String, patch: usize) -> Result<(), AllocError> {
+        let mut object = None;
+        for (number, function) in self.functions.iter().enumerate() {
+            if function.patch != patch || function.index.is_none() {
+                continue;
+            }
+            if object != Some(function.object) {
+                object = Some(function.object);
+                let name = Text(self.objects.get(function.object).copied().unwrap_or(b""));
+                writeln!(text, "target {name}")?;
+            }
+            text.push_str("func ")?;
+            self.write_symbol(text, number)?;
+            let address = function.new_address;
+            match function.new_name {
+                Some(name) if is_name(name) => {
+                    let name = Text(name);
+                    writeln!(text, " {name} {address:x}")?;
+                }
+                _ => writeln!(text, " new_function_{number} {address:x}")?,
+            }
+        }
+        Ok(())
+    }
+
+    /// The text of a catalog that has what the log names.
+    pub(crate) fn catalog(&self, alloc: Global) -> Result<String, AllocError> {
+        let handler = self.handler;
+        let mut text = format!(in alloc; "handler {handler:x}\n")?;
+        self.write_objects(&mut text)?;
+        for (number, patch) in self.patches.iter().enumerate() {
+            let name = Text(patch.name);
+            let kind = if patch.is_cumulative { " replace" } else { "" };
+            writeln!(text, "patch {name}{kind}")?;
+            self.write_functions(&mut text, number)?;
+        }
+        Ok(text)
+    }
+}

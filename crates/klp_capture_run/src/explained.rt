@@ -1,0 +1,269 @@
+//! A log explained: a catalog of what it names, a run of the rules that shows it, and whether that is one.
+ghost use Rattle.std.specs.Prelude.{◌≡◌, ◌≤◌, ◌<◌, ◌↔◌, true, false, length, string_bytes, None, Ok, IfOk, IfSome};
+ghost use Rattle.std.specs.Str.Lines.{lines};
+ghost use Rattle.klp_catalog_text.specs.Within.{AreTargetsWithin};
+ghost use Rattle.klp_program.specs.Watches.{Watches};
+ghost use Rattle.klp_capture.specs.Shown.{ShowSamples, samples_before};
+ghost use Rattle.klp_capture_run.specs.Explained.{is_honest};
+ghost use Rattle.klp_capture_run.specs.Holders.{LagOver, holders_in};
+
+use crate::functions::Functions;
+use crate::holders::{Holder, Lags, holders_of, lags_over};
+use crate::run::Run;
+use klp_callback::Boxed;
+use klp_capture::{Capture, Moment, PatchName, Sample, Text, Thread};
+use klp_catalog::Catalog;
+use klp_catalog_text::Plan;
+use klp_core::Manager;
+use klp_program::{Fault, Verdict, boot, close, scripted, watch_over_text};
+use std::alloc::{AllocError, Global};
+
+/// What the kernel's log has where a transition is forced.
+const FORCED: &[u8] = b"forcing remaining tasks";
+
+/// What a log comes to.
+#[derive(Drop)]
+pub struct Explained<'a> {
+    /// The run that was found.
+    pub run: Run<'a>,
+    /// What the patches are called in the trace.
+    pub names: Vec<PatchName<'a>>,
+    /// The threads that have a number in the trace.
+    pub threads: Vec<Thread>,
+    /// The text of the catalog, whose patches, objects and functions are those that the log names.
+    pub catalog: String,
+    /// Which sample no run of the rules leads to, if there is one; the first counts as 0.
+    pub failed: Option<usize>,
+    /// The same in a log that was cut off. A force may lead to that sample, whose line such a log lacks. So neither it nor
+    /// what comes later is judged.
+    pub unjudged: Option<usize>,
+    /// The first sample that the trace lacks, though something led to it. There is none unless the search is at fault.
+    pub unshown: Option<usize>,
+    /// How many samples weren't come to: those behind a force, and those from the first on that nothing leads to.
+    pub later: u64,
+    /// When the transition was forced, if it was. What was seen later isn't looked at.
+    pub forced: Option<Moment>,
+    /// What is said of the trace.
+    pub verdict: Verdict,
+    /// Who lags at the end of the trace, by the numbers of the tasks. None if the trace isn't as the rules say.
+    pub lags: Option<Lags>,
+}
+
+impl<'a> Explained<'a> {
+    /// Whether a run of the rules shows what was recorded: some sample is in the trace, nothing leads to none of them, and
+    /// the trace is honest.
+    pub fn is_explained(&self) -> bool
+        ensures { (result ≡ true) ↔
+            ((is_honest self.now.verdict ≡ true) × (self.now.failed ≡ None) × (self.now.unshown ≡ None)
+            × (0 < self.now.run.shown)) }
+    {
+        match self.verdict {
+            Verdict::Honest(_) => {
+                self.failed.is_none() && self.unshown.is_none() && self.run.shown > 0
+            }
+            _ => false,
+        }
+    }
+
+    /// Whether no run of the rules shows what was recorded. A log that shows no sample at all is neither explained nor
+    /// refuted.
+    pub fn is_refuted(&self) -> bool
+        ensures { (result ≡ false) ↔
+            ((is_honest self.now.verdict ≡ true) × (self.now.failed ≡ None) × (self.now.unshown ≡ None)) }
+    {
+        match self.verdict {
+            Verdict::Honest(_) => self.failed.is_some() || self.unshown.is_some(),
+            _ => true,
+        }
+    }
+
+    /// The trace that shows what the log has, up to the sample that nothing leads to.
+    pub fn trace(&self) -> &str
+        ensures { result.now ≡ string_bytes self.now.run.trace }
+    {
+        self.run.trace.as_str()
+    }
+}
+
+impl<'a> Explained<'a> {
+    /// The tasks that hold the transition up at the end of the trace, which is the last settled sample. None does if no
+    /// transition is under way there.
+    pub fn holders(&self, alloc: Global) -> Result<Vec<Holder>, AllocError>
+        ensures { IfOk result (λ list. list.items ≡ holders_in self.now.lags) }
+    {
+        holders_of(alloc, &self.lags)
+    }
+
+    /// A text of names (`klppage CATALOG SCRIPT NAMES`): what each task of the trace is called.
+    pub fn names(&self, alloc: Global) -> Result<String, AllocError> {
+        let mut text = String::new(alloc);
+        for (number, task) in self.run.tasks.iter().enumerate() {
+            let name = Text(task.name);
+            let thread = task.thread;
+            writeln!(text, "task {number} {name}[{thread}]")?;
+        }
+        Ok(text)
+    }
+}
+
+/// Whether bytes have others among them.
+fn contains(bytes: &[u8], wanted: &[u8]) -> bool {
+    bytes
+        .windows(wanted.len().max(1))
+        .any(|window| window == wanted)
+}
+
+/// When a transition was forced while it was recorded, by the kernel's log. That has older forces too.
+fn forced_in(capture: &Capture<'_>) -> Option<Moment> {
+    let first = capture.samples.first()?.line.from;
+    let line = capture
+        .log
+        .iter()
+        .find(|line| line.at >= first && contains(line.text, FORCED))?;
+    Some(line.at)
+}
+
+// The manager goes then.
+fn explore_by<'a>(
+    alloc: Global,
+    manager: Manager,
+    run: &mut Run<'a>,
+    capture: &Capture<'a>,
+    forced: Option<Moment>,
+) -> Result<Option<usize>, AllocError> {
+    let mut manager = manager;
+    let _for_its_clause = manager.mark();
+    let failed = run.explore(alloc, &mut manager, capture, forced);
+    close(manager);
+    failed
+}
+
+// Boots a manager over a plan. The callbacks are made here, as where a trace is watched; a plan of a log has none.
+fn explore_over_plan<'a>(
+    alloc: Global,
+    plan: Plan,
+    run: &mut Run<'a>,
+    capture: &Capture<'a>,
+    forced: Option<Moment>,
+) -> Result<Option<usize>, Fault>
+    requires { AreTargetsWithin (length plan.objects) plan.patches }
+{
+    let mut callbacks = Vec::new(alloc);
+    while let Some(callback) = scripted(alloc, &plan, callbacks.len())? {
+        callbacks.push(Boxed::new(callback))?;
+    }
+    let manager = boot(alloc, plan, callbacks)?;
+    Ok(explore_by(alloc, manager, run, capture, forced)?)
+}
+
+/// A run, and the first sample that it doesn't lead to.
+#[derive(Drop)]
+struct Outcome<'a> {
+    run: Run<'a>,
+    catalog: String,
+    stopped: Option<usize>,
+}
+
+/// Makes a catalog of what a log names, and looks for a run over it.
+fn explored<'a>(
+    alloc: Global,
+    capture: &Capture<'a>,
+    forced: Option<Moment>,
+    guesses: bool,
+) -> Result<Outcome<'a>, Fault> {
+    let functions = Functions::of(alloc, capture, guesses)?;
+    let catalog = functions.catalog(alloc)?;
+    let mut run = Run::new(alloc, functions)?;
+    let plan = Catalog::read(alloc, catalog.as_bytes())?;
+    let stopped = explore_over_plan(alloc, plan, &mut run, capture, forced)?;
+    Ok(Outcome {
+        run,
+        catalog,
+        stopped,
+    })
+}
+
+/// How far a run comes: the first sample that it doesn't lead to.
+fn reached(
+    alloc: Global,
+    capture: &Capture<'_>,
+    forced: Option<Moment>,
+    guesses: bool,
+) -> Result<Option<usize>, Fault> {
+    let found = explored(alloc, capture, forced, guesses)?;
+    Ok(found.stopped)
+}
+
+/// Whether a run comes further if the patch that is in transition last is taken for a cumulative one. A log shows that
+/// only once its transition is complete, or by the symbols at its end. One that was cut off may lack both.
+fn is_better_guessed(
+    alloc: Global,
+    capture: &Capture<'_>,
+    forced: Option<Moment>,
+) -> Result<bool, Fault> {
+    if capture.is_whole {
+        return Ok(false);
+    }
+    let Some(stopped) = reached(alloc, capture, forced, false)? else {
+        return Ok(false);
+    };
+    match reached(alloc, capture, forced, true)? {
+        Some(later) => Ok(later > stopped),
+        None => Ok(true),
+    }
+}
+
+/// The samples before one of this number, or all.
+fn samples_before(number: Option<usize>, samples: &[Sample]) -> &[Sample]
+    ensures { result.now ≡ samples_before number samples.now }
+{
+    match number {
+        Some(number) => samples.get(..number).unwrap_or(samples),
+        None => samples,
+    }
+}
+/// Explains a log: makes a catalog of what it names, and looks for a run of the rules that shows each sample. The
+/// verdict is that of `klpwatch` on the trace that was found, over that catalog. Up to the first sample to which nothing
+/// leads, the trace has each that is settled and before a force: the states of the tasks that it names, and the files of
+/// the patches. Who lags at the end is what the rules say of the state that the trace leads to.
+pub fn explain<'a>(alloc: Global, capture: &Capture<'a>) -> Result<Explained<'a>, Fault>
+    ensures judged { IfOk result
+        (λ found. Watches (string_bytes found.catalog) (string_bytes found.run.trace) (Ok found.verdict)) }
+    ensures shown { IfOk result
+        (λ found. ShowSamples capture.now found.forced found.names.items found.threads.items
+        (samples_before found.unshown (samples_before found.failed (samples_before found.unjudged capture.now.samples.items)))
+        (lines (string_bytes found.run.trace))) }
+    ensures lags { IfOk result
+        (λ found. IfSome found.lags (λ lags. LagOver (string_bytes found.catalog) (string_bytes found.run.trace) lags)) }
+{
+    let forced = forced_in(capture);
+    let guesses = is_better_guessed(alloc, capture, forced)?;
+    let Outcome {
+        run,
+        catalog,
+        stopped,
+    } = explored(alloc, capture, forced, guesses)?;
+    let verdict = watch_over_text(alloc, catalog.as_bytes(), run.trace.as_bytes())?;
+    let lags = lags_over(alloc, catalog.as_bytes(), run.trace.as_bytes())?;
+    let names = run.functions.names(alloc)?;
+    let threads = run.threads(alloc)?;
+    let failed = if capture.is_whole { stopped } else { None };
+    let unjudged = if capture.is_whole { None } else { stopped };
+    let reached = samples_before(failed, samples_before(unjudged, &capture.samples));
+    let trace = run.trace.as_bytes();
+    let unshown = capture.first_not_shown(alloc, trace, forced, &names, &threads, reached)?;
+    let seen = run.shown.saturating_add(run.torn);
+    Ok(Explained {
+        later: (capture.samples.len() as u64).saturating_sub(seen),
+        run,
+        names,
+        threads,
+        catalog,
+        failed,
+        unjudged,
+        unshown,
+        forced,
+        verdict,
+        lags,
+    })
+}

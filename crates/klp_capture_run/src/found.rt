@@ -1,0 +1,174 @@
+//! The functions that the patches of a log change, and which patches are cumulative.
+use crate::functions::{files_in, index_of, new_symbol_of};
+use klp_capture::{Capture, PatchRow};
+use klp_types::{MAX_FUNCTIONS, MAX_OBJECTS, MAX_SITES, MAX_TARGETS};
+use std::alloc::{AllocError, Global};
+
+/// How many functions for which there is no room are counted.
+const MOST_LEFT_OUT: usize = 4096;
+
+/// A function that a patch changes, as the rows have it.
+#[derive(Clone, Copy, PartialEq, Eq)]
+pub(crate) struct FoundFunction<'a> {
+    pub(crate) patch: usize,
+    pub(crate) object: usize,
+    pub(crate) name: &'a [u8],
+    pub(crate) position: u32,
+}
+
+/// The functions of all rows, each once.
+#[derive(Drop)]
+pub(crate) struct Found<'a> {
+    pub(crate) functions: Vec<FoundFunction<'a>>,
+    /// Those for which a catalog has no room.
+    pub(crate) left_out: Vec<FoundFunction<'a>>,
+}
+
+impl<'a> Found<'a> {
+    /// How many objects a patch changes.
+    fn targets(&self, patch: usize) -> usize {
+        let mut targets: usize = 0;
+        for object in 0..MAX_OBJECTS {
+            let has = self
+                .functions
+                .iter()
+                .any(|own| own.patch == patch && own.object == object);
+            if has {
+                targets = targets.saturating_add(1);
+            }
+        }
+        targets
+    }
+
+    /// Whether a catalog has room for one more function.
+    fn has_room(&self, function: &FoundFunction<'a>) -> bool {
+        let patch = function.patch;
+        let own = self.functions.iter().filter(|own| own.patch == patch);
+        if self.functions.len() >= MAX_SITES || own.count() >= MAX_FUNCTIONS {
+            return false;
+        }
+        let has_target = self
+            .functions
+            .iter()
+            .any(|own| own.patch == patch && own.object == function.object);
+        has_target || self.targets(patch) < MAX_TARGETS
+    }
+
+    fn add(&mut self, function: FoundFunction<'a>) -> Result<(), AllocError> {
+        if self.functions.contains(&function) {
+            return Ok(());
+        }
+        if self.has_room(&function) {
+            self.functions.push(function)?;
+        } else if self.left_out.len() < MOST_LEFT_OUT && !self.left_out.contains(&function) {
+            self.left_out.push(function)?;
+        }
+        Ok(())
+    }
+}
+
+/// The functions of all rows, and their objects.
+pub(crate) fn found_in<'a>(
+    alloc: Global,
+    rows: &[PatchRow<'a>],
+    patches: &[&'a [u8]],
+    objects: &mut Vec<&'a [u8]>,
+) -> Result<Found<'a>, AllocError> {
+    let mut found = Found {
+        functions: Vec::new(alloc),
+        left_out: Vec::new(alloc),
+    };
+    let mut patch = None;
+    let mut object = None;
+    for row in rows {
+        match row {
+            PatchRow::Patch { name, .. } => patch = patches.iter().position(|own| own == name),
+            PatchRow::Object(name) => object = index_of(objects, *name, MAX_OBJECTS)?,
+            PatchRow::Loaded => {}
+            PatchRow::Function { name, position } => {
+                if let (Some(patch), Some(object)) = (patch, object) {
+                    found.add(FoundFunction {
+                        patch,
+                        object,
+                        name: *name,
+                        position: *position,
+                    })?;
+                }
+            }
+        }
+    }
+    Ok(found)
+}
+
+/// Whether older patches left when the transition of this one completed.
+fn has_replaced(capture: &Capture<'_>, patch: &[u8]) -> bool {
+    let mut last: Option<usize> = None;
+    for (number, sample) in capture.samples.iter().enumerate() {
+        let after = sample.patches.of(&capture.rows);
+        if !capture.is_settled(sample) {
+            continue;
+        }
+        if let Some(sample) = last.and_then(|last| capture.samples.get(last)) {
+            let before = sample.patches.of(&capture.rows);
+            let completes = files_in(before, patch) == Some((true, true))
+                && files_in(after, patch) == Some((true, false));
+            if completes && has_lost_another(before, after, patch) {
+                return true;
+            }
+        }
+        last = Some(number);
+    }
+    false
+}
+
+fn has_lost_another(before: &[PatchRow<'_>], after: &[PatchRow<'_>], patch: &[u8]) -> bool {
+    for row in before {
+        if let PatchRow::Patch { name, .. } = row
+            && *name != patch
+            && files_in(before, name) == Some((true, false))
+            && files_in(after, name).is_none()
+        {
+            return true;
+        }
+    }
+    false
+}
+
+/// Whether another patch changes this function too.
+pub(crate) fn is_shared(found: &[FoundFunction<'_>], function: &FoundFunction<'_>) -> bool {
+    found.iter().any(|other| {
+        other.patch != function.patch
+            && other.object == function.object
+            && other.name == function.name
+    })
+}
+
+/// Whether a patch has new functions, but none for one that another patch changes: only a cumulative patch gives a
+/// function back. So it is known as one before its transition completes.
+fn gives_back(
+    capture: &Capture<'_>,
+    found: &[FoundFunction<'_>],
+    patch: usize,
+    name: &[u8],
+) -> bool {
+    let mut has_new = false;
+    let mut has_nop = false;
+    for function in found {
+        if function.patch == patch {
+            let is_new = new_symbol_of(&capture.symbols, name, function.name).is_some();
+            has_new = has_new || is_new;
+            has_nop = has_nop || (!is_new && is_shared(found, function));
+        }
+    }
+    has_new && has_nop
+}
+
+/// Whether a patch is cumulative, as far as the log shows that.
+pub(crate) fn is_cumulative(
+    capture: &Capture<'_>,
+    found: &[FoundFunction<'_>],
+    patch: usize,
+    name: &[u8],
+) -> bool {
+    has_replaced(capture, name) || gives_back(capture, found, patch, name)
+}

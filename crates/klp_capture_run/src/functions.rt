@@ -1,0 +1,456 @@
+//! The functions that the patches of a log change: a catalog of what it names, and which of them a task is inside of.
+use crate::found::{FoundFunction, found_in, is_cumulative, is_shared};
+use crate::patches::Files;
+use klp_capture::{Capture, FrameLine, PatchName, PatchRow, Span, SymbolLine, patch_in};
+use klp_types::{MAX_PATCHES, MAX_SITES, MAX_SYMBOL_NAME};
+use std::alloc::{AllocError, Global};
+
+/// The object of functions that are in no module.
+const KERNEL: &[u8] = b"vmlinux";
+
+/// The function that patched functions call, and where it is if the log doesn't say.
+const HANDLER: &[u8] = b"klp_ftrace_handler";
+
+const HANDLER_ADDRESS: u64 = 0xffff_ffff_8100_0000;
+
+/// What stands for an address that the log doesn't have, and how far the next one is.
+const FIRST_ADDRESS: u64 = 0xffff_ffff_cf00_0000;
+
+const ADDRESS_STEP: u64 = 16;
+
+/// What the names of new functions begin with, before the name of the function that they replace: the same name
+/// (kpatch), the kernel's samples, and klp-convert.
+const PREFIXES: [&[u8]; 3] = [b"", b"livepatch_", b"klpp_"];
+
+/// A patch that the log names.
+#[derive(Clone, Copy)]
+pub struct SeenPatch<'a> {
+    /// What it is called.
+    pub name: &'a [u8],
+    /// Whether older patches left when its transition completed.
+    pub is_cumulative: bool,
+}
+
+/// A function that a patch changes.
+#[derive(Clone, Copy)]
+pub struct SeenFunction<'a> {
+    /// The index of its patch.
+    pub patch: usize,
+    /// The index of its object.
+    pub object: usize,
+    /// What it is called.
+    pub name: &'a [u8],
+    /// Its position among the symbols of this name, from 1.
+    pub position: u32,
+    /// Which new function of its patch replaces it. None for a function that a cumulative patch gives back.
+    pub index: Option<u16>,
+    /// The name of the new function, if the log has it.
+    pub new_name: Option<&'a [u8]>,
+    /// Where the new function is, or what stands for that.
+    pub new_address: u64,
+}
+
+/// A symbol of an object.
+#[derive(Clone, Copy)]
+pub(crate) struct SeenSymbol<'a> {
+    pub object: usize,
+    pub name: &'a [u8],
+    pub(crate) address: u64,
+}
+
+/// A function that a task is inside of: the original, or the new one.
+#[derive(Clone, Copy, PartialEq, Eq)]
+pub(crate) struct Place {
+    /// The index of the function.
+    pub(crate) function: usize,
+    pub(crate) is_new: bool,
+}
+
+/// What the log names: patches, the oldest first, objects, and functions.
+#[derive(Drop)]
+pub struct Functions<'a> {
+    /// The patches, by their numbers in the catalog.
+    pub patches: Vec<SeenPatch<'a>>,
+    pub(crate) objects: Vec<&'a [u8]>,
+    /// The functions that the patches change, patch by patch.
+    pub functions: Vec<SeenFunction<'a>>,
+    pub(crate) symbols: Vec<SeenSymbol<'a>>,
+    pub(crate) handler: u64,
+    /// The functions whose names are longer than `MAX_SYMBOL_NAME` bytes: the catalog has the first so many of them.
+    pub cut: Vec<&'a [u8]>,
+    /// How many functions the catalog has no room for. At most 4,096 are counted.
+    pub left_out: usize,
+    /// What stands for the next address that isn't known.
+    spare: u64,
+}
+
+/// What the files of a patch read in these rows, if it is there.
+pub(crate) fn files_in(rows: &[PatchRow<'_>], name: &[u8]) -> Files {
+    match patch_in(rows, name) {
+        Some(
+            PatchRow::Patch {
+                name: _,
+                is_enabled,
+                is_moving,
+            },
+        ) => Some((is_enabled, is_moving)),
+        _ => None,
+    }
+}
+
+/// The patch in these rows that is in transition, with its target.
+pub(crate) fn moving_in<'a>(rows: &[PatchRow<'a>]) -> Option<(&'a [u8], bool)> {
+    for row in rows {
+        if let PatchRow::Patch {
+            name,
+            is_enabled,
+            is_moving: true,
+        } = row
+        {
+            return Some((*name, *is_enabled));
+        }
+    }
+    None
+}
+
+/// Whether a module has this symbol; without a module the kernel itself.
+fn is_of(symbol: &SymbolLine<'_>, object: &[u8]) -> bool {
+    match symbol.module {
+        Some(module) => module == object,
+        None => object == KERNEL,
+    }
+}
+
+fn is_named_after(new: &[u8], prefix: &[u8], old: &[u8]) -> bool {
+    match new.strip_prefix(prefix) {
+        Some(rest) => rest == old,
+        None => false,
+    }
+}
+
+/// Where a module stands in a list, the newest first: older ones are behind.
+fn age_of(modules: &[&[u8]], name: &[u8]) -> usize {
+    modules
+        .iter()
+        .position(|module| *module == name)
+        .unwrap_or(modules.len())
+}
+
+/// The index of this name, which is added if it isn't there. None if there is no room.
+pub(crate) fn index_of<'a>(
+    names: &mut Vec<&'a [u8]>,
+    name: &'a [u8],
+    most: usize,
+) -> Result<Option<usize>, AllocError> {
+    if let Some(index) = names.iter().position(|own| *own == name) {
+        return Ok(Some(index));
+    }
+    if names.len() >= most {
+        return Ok(None);
+    }
+    names.push(name)?;
+    Ok(Some(names.len().saturating_sub(1)))
+}
+
+/// What the first sample tells of the patches.
+fn first_rows<'c, 'a>(capture: &'c Capture<'a>) -> &'c [PatchRow<'a>] {
+    let span = match capture.samples.first() {
+        Some(sample) => sample.patches,
+        None => Span::EMPTY,
+    };
+    span.of(&capture.rows)
+}
+
+/// The names of the patches, the oldest first. Those of the first sample are sorted by their modules.
+fn patches_of<'a>(alloc: Global, capture: &Capture<'a>) -> Result<Vec<&'a [u8]>, AllocError> {
+    let mut names: Vec<&'a [u8]> = Vec::new(alloc);
+    for row in first_rows(capture) {
+        if let PatchRow::Patch { name, .. } = row {
+            let age = age_of(&capture.modules, *name);
+            let place = names
+                .iter()
+                .position(|other| age_of(&capture.modules, *other) < age)
+                .unwrap_or(names.len());
+            if names.len() < MAX_PATCHES && !names.contains(name) {
+                names.insert(place, *name)?;
+            }
+        }
+    }
+    for row in &capture.rows {
+        if let PatchRow::Patch { name, .. } = row {
+            let _ = index_of(&mut names, *name, MAX_PATCHES)?;
+        }
+    }
+    Ok(names)
+}
+
+/// The patch that is in transition in the last sample.
+fn last_moving<'a>(capture: &Capture<'a>) -> Option<&'a [u8]> {
+    let (name, _target) = moving_in(capture.samples.last()?.patches.of(&capture.rows))?;
+    Some(name)
+}
+
+/// Whether the symbols of a patch's module are known: a log that was cut off may lack them.
+fn has_symbols(capture: &Capture<'_>, patch: &[u8]) -> bool {
+    capture.is_whole
+        || capture
+            .symbols
+            .iter()
+            .any(|symbol| symbol.module == Some(patch))
+}
+
+/// The symbol of the new function that replaces a function of this name, if the patch's module has one.
+pub(crate) fn new_symbol_of<'a>(
+    symbols: &[SymbolLine<'a>],
+    patch: &[u8],
+    name: &[u8],
+) -> Option<SymbolLine<'a>> {
+    for prefix in PREFIXES {
+        let found = symbols.iter().find(|symbol| {
+            symbol.module == Some(patch) && is_named_after(symbol.name, prefix, name)
+        });
+        if let Some(symbol) = found {
+            return Some(*symbol);
+        }
+    }
+    None
+}
+
+impl<'a> Functions<'a> {
+    /// What a log names. `guesses` has the patch that is in transition last taken for a cumulative one: a log that was cut
+    /// off doesn't show that of it.
+    pub(crate) fn of(
+        alloc: Global,
+        capture: &Capture<'a>,
+        guesses: bool,
+    ) -> Result<Functions<'a>, AllocError> {
+        let names = patches_of(alloc, capture)?;
+        let mut objects: Vec<&'a [u8]> = Vec::new(alloc);
+        objects.push(KERNEL)?;
+        let found = found_in(alloc, &capture.rows, &names, &mut objects)?;
+        let mut functions = Functions {
+            patches: Vec::new(alloc),
+            objects,
+            functions: Vec::new(alloc),
+            symbols: Vec::new(alloc),
+            handler: handler_in(&capture.symbols),
+            cut: Vec::new(alloc),
+            left_out: found.left_out.len(),
+            spare: FIRST_ADDRESS,
+        };
+        for name in &names {
+            let patch = functions.patches.len();
+            let is_cumulative = is_cumulative(capture, &found.functions, patch, name)
+                || (guesses && last_moving(capture) == Some(*name));
+            functions.patches.push(SeenPatch {
+                name: *name,
+                is_cumulative,
+            })?;
+        }
+        functions.add_all(capture, &found.functions)?;
+        functions.add_symbols(capture)?;
+        Ok(functions)
+    }
+
+    /// What the patches are called in a trace.
+    pub(crate) fn names(&self, alloc: Global) -> Result<Vec<PatchName<'a>>, AllocError> {
+        let mut names = Vec::new(alloc);
+        for patch in &self.patches {
+            names.push(PatchName { name: patch.name })?;
+        }
+        Ok(names)
+    }
+
+    /// An address that stands for one that the log doesn't have.
+    fn spare_address(&mut self) -> u64 {
+        self.spare = self.spare.saturating_add(ADDRESS_STEP);
+        self.spare
+    }
+
+    /// Adds the functions of each patch, object by object.
+    fn add_all(
+        &mut self,
+        capture: &Capture<'a>,
+        found: &[FoundFunction<'a>],
+    ) -> Result<(), AllocError> {
+        for patch in 0..self.patches.len() {
+            let mut index: u16 = 0;
+            for object in 0..self.objects.len() {
+                for function in found {
+                    if function.patch == patch && function.object == object {
+                        self.add(capture, found, function, &mut index)?;
+                    }
+                }
+            }
+        }
+        Ok(())
+    }
+
+    fn add(
+        &mut self,
+        capture: &Capture<'a>,
+        found: &[FoundFunction<'a>],
+        function: &FoundFunction<'a>,
+        index: &mut u16,
+    ) -> Result<(), AllocError> {
+        let Some(patch) = self.patches.get(function.patch).copied() else {
+            return Ok(());
+        };
+        if function.name.len() > MAX_SYMBOL_NAME && !self.cut.contains(&function.name) {
+            self.cut.push(function.name)?;
+        }
+        let symbol = new_symbol_of(&capture.symbols, patch.name, function.name);
+        let is_nop = patch.is_cumulative
+            && is_shared(found, function)
+            && symbol.is_none()
+            && has_symbols(capture, patch.name);
+        let (new_name, new_address) = match symbol {
+            Some(symbol) => (Some(symbol.name), symbol.address),
+            None => (None, self.spare_address()),
+        };
+        self.functions.push(SeenFunction {
+            patch: function.patch,
+            object: function.object,
+            name: function.name,
+            position: function.position.max(1),
+            index: if is_nop { None } else { Some(*index) },
+            new_name,
+            new_address,
+        })?;
+        if !is_nop {
+            *index = index.saturating_add(1);
+        }
+        Ok(())
+    }
+
+    /// Adds the symbols of each object that its functions are named by: those of the log, and others where it has too few.
+    fn add_symbols(&mut self, capture: &Capture<'a>) -> Result<(), AllocError> {
+        for place in 0..self.functions.len() {
+            let Some(function) = self.functions.get(place).copied() else {
+                return Ok(());
+            };
+            let has = self.count(function.object, function.name);
+            if has == 0 {
+                self.add_known(capture, &function)?;
+            }
+            let has = self.count(function.object, function.name);
+            let wanted = (function.position as usize).min(MAX_SITES);
+            for _missing in has..wanted {
+                let address = self.spare_address();
+                self.symbols.push(SeenSymbol {
+                    object: function.object,
+                    name: function.name,
+                    address,
+                })?;
+            }
+        }
+        Ok(())
+    }
+
+    fn count(&self, object: usize, name: &[u8]) -> usize {
+        self.symbols
+            .iter()
+            .filter(|symbol| symbol.object == object && symbol.name == name)
+            .count()
+    }
+
+    fn add_known(
+        &mut self,
+        capture: &Capture<'a>,
+        function: &SeenFunction<'a>,
+    ) -> Result<(), AllocError> {
+        let Some(object) = self.objects.get(function.object).copied() else {
+            return Ok(());
+        };
+        for symbol in &capture.symbols {
+            if symbol.name == function.name && is_of(symbol, object) {
+                self.symbols.push(SeenSymbol {
+                    object: function.object,
+                    name: symbol.name,
+                    address: symbol.address,
+                })?;
+            }
+        }
+        Ok(())
+    }
+
+    /// The function that a task is inside of, if a patch of the log changes it, or has it.
+    pub(crate) fn place_of(&self, frame: FrameLine<'_>) -> Option<Place> {
+        let function = self
+            .functions
+            .iter()
+            .position(|function| self.is_new(function, frame));
+        if let Some(function) = function {
+            return Some(Place {
+                function,
+                is_new: true,
+            });
+        }
+        let function = self
+            .functions
+            .iter()
+            .position(|function| self.is_original(function, frame))?;
+        Some(Place {
+            function,
+            is_new: false,
+        })
+    }
+
+    /// The name of the symbol at a site of the catalog: sites count through all objects, in the order of their symbols.
+    pub fn name_at(&self, site: usize) -> &'a [u8] {
+        let mut left = site;
+        for object in 0..self.objects.len() {
+            for symbol in &self.symbols {
+                if symbol.object == object {
+                    if left == 0 {
+                        return symbol.name;
+                    }
+                    left = left.saturating_sub(1);
+                }
+            }
+        }
+        b""
+    }
+
+    /// Whether a frame is the new function that replaces this one.
+    fn is_new(&self, function: &SeenFunction<'a>, frame: FrameLine<'_>) -> bool {
+        let Some(patch) = self.patches.get(function.patch) else {
+            return false;
+        };
+        if function.index.is_none() || frame.module != Some(patch.name) {
+            return false;
+        }
+        match function.new_name {
+            Some(name) => name == frame.function,
+            // A log that was cut off lacks its symbols.
+            None => PREFIXES.iter().any(|prefix| is_named_after(
+                frame.function,
+                prefix,
+                function.name,
+            )),
+        }
+    }
+
+    /// Whether a frame is the original of this function.
+    fn is_original(&self, function: &SeenFunction<'a>, frame: FrameLine<'_>) -> bool {
+        let Some(object) = self.objects.get(function.object) else {
+            return false;
+        };
+        let is_there = match frame.module {
+            Some(module) => module == *object,
+            None => *object == KERNEL,
+        };
+        is_there && function.name == frame.function
+    }
+}
+
+/// Where the log has the function that patched functions call.
+fn handler_in(symbols: &[SymbolLine<'_>]) -> u64 {
+    let found = symbols
+        .iter()
+        .find(|symbol| symbol.name == HANDLER && symbol.module.is_none());
+    match found {
+        Some(symbol) => symbol.address,
+        None => HANDLER_ADDRESS,
+    }
+}

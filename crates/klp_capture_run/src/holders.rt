@@ -1,0 +1,108 @@
+//! Who holds a transition up at the end of a trace. The trace is read back, and done over a manager that is booted anew: so
+//! what is told follows from the rules and the trace alone, and not from how the trace was found.
+ghost use Rattle.std.specs.Prelude.{◌≡◌, ◌≤◌, ◌++◌, length, OnOk, IfOk, IfSome};
+ghost use Rattle.klp_catalog_text.specs.Within.{AreTargetsWithin};
+ghost use Rattle.klp_capture_run.specs.Holders.{LagBehind, LagBehindTrace, LagOverPlan, LagOver, holder_at, holders_from, holders_in};
+
+use klp_callback::Boxed;
+use klp_catalog::Catalog;
+use klp_catalog_text::Plan;
+use klp_core::{Lag, Manager};
+use klp_program::{Fault, boot, close, scripted};
+use klp_trace::Trace;
+use klp_types::{MAX_TASKS, Version};
+use klp_watch::{Observed, compare_whole};
+use std::alloc::{AllocError, Global};
+
+/// For each task why it isn't at the target of the transition that is under way.
+pub type Lags = [Option<Lag>; MAX_TASKS];
+
+/// A task that holds a transition up.
+#[derive(Clone, Copy)]
+pub struct Holder {
+    /// Its number in the trace.
+    pub number: usize,
+    /// The function that it sleeps in.
+    pub version: Version,
+}
+
+// Does the items, and drops the manager then. None if one isn't as the rules say.
+fn lags_behind(manager: Manager, items: &[Observed]) -> Option<Lags>
+    ensures { IfSome result (λ lags. LagBehind manager.managed items.now lags) }
+{
+    let mut manager = manager;
+    let ended = compare_whole(&mut manager, items);
+    let lags = manager.holders();
+    close(manager);
+    match ended {
+        Ok(()) => Some(lags),
+        Err(_) => None,
+    }
+}
+
+// The same of the items of a trace. None if it can't be read.
+fn lags_behind_trace(alloc: Global, manager: Manager, trace: &[u8]) -> Option<Lags>
+    ensures { IfSome result (λ lags. LagBehindTrace manager trace.now lags) }
+{
+    match Trace::read(alloc, trace, &manager) {
+        Ok(trace) => lags_behind(manager, &trace.items),
+        Err(_) => {
+            close(manager);
+            None
+        }
+    }
+}
+
+// The same over a plan. The callbacks are made here, as where a trace is watched; a plan of a log has none.
+fn lags_over_plan(alloc: Global, plan: Plan, trace: &[u8]) -> Result<Option<Lags>, Fault>
+    requires { AreTargetsWithin (length plan.objects) plan.patches }
+    ensures { IfOk result (λ found. IfSome found (λ lags. LagOverPlan plan trace.now lags)) }
+{
+    let mut callbacks = Vec::new(alloc);
+    while let Some(callback) = scripted(alloc, &plan, callbacks.len())? {
+        callbacks.push(Boxed::new(callback))?;
+    }
+    let manager = boot(alloc, plan, callbacks)?;
+    Ok(lags_behind_trace(alloc, manager, trace))
+}
+
+/// Who lags in the state that a trace leads to over a catalog, and why. None if the trace can't be read, or isn't as the
+/// rules say.
+pub(crate) fn lags_over(alloc: Global, catalog: &[u8], trace: &[u8]) -> Result<Option<Lags>, Fault>
+    ensures { IfOk result (λ found. IfSome found (λ lags. LagOver catalog.now trace.now lags)) }
+{
+    let plan = Catalog::read(alloc, catalog)?;
+    let found = lags_over_plan(alloc, plan, trace)?;
+    Ok(found)
+}
+
+/// Adds a task if it holds a transition up.
+fn add(list: &mut Vec<Holder>, number: usize, lag: Option<Lag>) -> Result<(), AllocError>
+    ensures { OnOk result (list.new.items ≡ list.old.items ++ holder_at number lag) }
+{
+    match lag {
+        Some(Lag::Holds(version)) => list.push(Holder { number, version })?,
+        _ => {}
+    }
+    Ok(())
+}
+
+fn listed(alloc: Global, lags: &Lags) -> Result<Vec<Holder>, AllocError>
+    ensures { IfOk result (λ list. list.items ≡ holders_from 0 lags.now) }
+{
+    let mut list = Vec::new(alloc);
+    for (number, lag) in lags.iter().enumerate() {
+        add(&mut list, number, *lag)?;
+    }
+    Ok(list)
+}
+
+/// Lists the tasks that hold a transition up, by their numbers.
+pub(crate) fn holders_of(alloc: Global, lags: &Option<Lags>) -> Result<Vec<Holder>, AllocError>
+    ensures { IfOk result (λ list. list.items ≡ holders_in lags.now) }
+{
+    match lags {
+        Some(lags) => listed(alloc, lags),
+        None => Ok(Vec::new(alloc)),
+    }
+}

@@ -1,0 +1,92 @@
+//! Lines of a trace about patches and modules: what happened to them between two samples.
+use klp_capture::Text;
+use std::alloc::AllocError;
+
+/// What the files of a patch read, `enabled` and `transition`; none if it isn't there.
+pub type Files = Option<(bool, bool)>;
+
+/// Lines about one patch.
+#[derive(Drop)]
+pub(crate) struct PatchLines<'r> {
+    pub(crate) name: &'r [u8],
+    pub(crate) text: &'r mut String,
+}
+
+impl<'r> PatchLines<'r> {
+    fn load(&mut self) -> Result<(), AllocError> {
+        let name = Text(self.name);
+        writeln!(self.text, "load {name}")
+    }
+
+    /// It stood before the log began.
+    pub(crate) fn stand(&mut self) -> Result<(), AllocError> {
+        self.load()?;
+        self.poll()
+    }
+
+    fn echo(&mut self, value: bool) -> Result<(), AllocError> {
+        let name = Text(self.name);
+        let value = u8::from(value);
+        writeln!(
+            self.text,
+            "echo {value} > /sys/kernel/livepatch/{name}/enabled"
+        )
+    }
+
+    fn poll(&mut self) -> Result<(), AllocError> {
+        self.text.push_str("poll\n")
+    }
+
+    /// What led from one reading of its files to the next, but for the poll that completes a transition at the end. A patch
+    /// that a cumulative one replaced does nothing.
+    pub(crate) fn change(
+        &mut self,
+        before: Files,
+        after: Files,
+        is_replaced: bool,
+    ) -> Result<(), AllocError> {
+        match (before, after) {
+            (None, Some((true, _))) => self.load(),
+            (None, Some((false, _))) => {
+                self.load()?;
+                self.poll()?;
+                self.echo(false)
+            }
+            (Some((true, _)), Some((false, true))) => self.echo(false),
+            (Some((false, _)), Some((true, _))) => self.echo(true),
+            (Some((true, _)), None) if !is_replaced => self.echo(false),
+            _ => Ok(()),
+        }
+    }
+
+    /// What its files read.
+    pub(crate) fn saw(&mut self, files: Files) -> Result<(), AllocError> {
+        let name = Text(self.name);
+        match files {
+            Some((enabled, transition)) => {
+                let (enabled, transition) = (u8::from(enabled), u8::from(transition));
+                writeln!(self.text, "saw {name} {enabled} {transition}")
+            }
+            None => writeln!(self.text, "saw {name} gone"),
+        }
+    }
+}
+
+/// Whether a change of a patch's files ends with the completion of its transition.
+pub(crate) fn completes(before: Files, after: Files, is_replaced: bool) -> bool {
+    match (before, after) {
+        (None | Some((_, true)), Some((true, false))) => true,
+        (Some(_), None) => !is_replaced,
+        _ => false,
+    }
+}
+
+/// Whether a transition starts by a change of a patch's files: not where it is reversed, or goes on.
+pub(crate) fn starts(before: Files, after: Files, is_replaced: bool) -> bool {
+    match (before, after) {
+        (None, Some(_)) => true,
+        (Some((true, false)), Some((false, true))) => true,
+        (Some((true, false)), None) => !is_replaced,
+        _ => false,
+    }
+}

@@ -1,0 +1,134 @@
+//! What a run knows once it has come to a sample.
+use crate::followed::{Followed, Sighting, Stay};
+use crate::patches::Files;
+use crate::run::Run;
+use crate::step::{Facts, Named, Step, state_at};
+use klp_capture::{Activity, Moment};
+use klp_core::Lag;
+use klp_types::Mode;
+use std::alloc::AllocError;
+
+/// What a task is inside of, and how it is, once it was seen so.
+fn mode_of(seen: &Sighting) -> Mode {
+    if seen.is_asleep() {
+        Mode::Asleep
+    } else {
+        Mode::Kernel
+    }
+}
+
+impl<'a> Followed<'a> {
+    /// It lags so in a sample of a transition, or doesn't. A stay goes on as long as it holds the transition up in the
+    /// same function in samples that follow one another, and doesn't run.
+    pub(crate) fn note_lag(
+        &mut self,
+        lag: Option<Lag>,
+        transition: usize,
+        moment: Moment,
+    ) -> Result<(), AllocError> {
+        let is_same = self.lag == lag;
+        self.lag = lag;
+        let Some(Lag::Holds(version)) = lag else {
+            return Ok(());
+        };
+        let since = self.since;
+        if let Some(stay) = self.stays.last_mut()
+            && is_same
+            && stay.transition == transition
+            && since <= stay.to
+        {
+            stay.to = moment;
+            return Ok(());
+        }
+        self.stays.push(Stay {
+            transition,
+            from: moment,
+            to: moment,
+            version,
+        })?;
+        Ok(())
+    }
+
+    /// It has begun, and is where it was seen first.
+    fn settle_begun(&mut self, facts: &Facts, seen: Sighting) {
+        let is_outside = seen.activity == Activity::Running && seen.places.is_empty();
+        self.mode = if is_outside {
+            Mode::User
+        } else {
+            mode_of(&seen)
+        };
+        self.state = match facts.target {
+            Some(target) if facts.starts => state_at(!target),
+            _ => seen.state,
+        };
+        self.runs = seen.runs;
+        if seen.is_stable {
+            self.inside = seen.places;
+        }
+    }
+
+    /// It was seen so.
+    fn settle(&mut self, facts: &Facts, seen: Sighting) {
+        let has_left = facts.is_switched(self.state, &seen);
+        self.state = seen.state;
+        if self.runs == seen.runs {
+            return;
+        }
+        self.runs = seen.runs;
+        self.since = facts.moment;
+        self.mode = mode_of(&seen);
+        if seen.is_stable {
+            self.inside = seen.places;
+        } else if has_left {
+            self.inside.clear();
+        }
+    }
+}
+
+impl<'a> Run<'a> {
+    /// The run has come to this sample.
+    pub(crate) fn settle(&mut self, step: Step, after: Vec<Files>, loads: &[usize]) {
+        let Step {
+            facts,
+            named,
+            ended,
+            begun,
+        } = step;
+        let mut number = self.tasks.len().saturating_sub(begun.len());
+        for seen in begun {
+            if let Some(task) = self.tasks.get_mut(number) {
+                task.settle_begun(&facts, seen);
+            }
+            number = number.saturating_add(1);
+        }
+        for Named { number, seen } in named {
+            if let Some(task) = self.tasks.get_mut(number) {
+                task.settle(&facts, seen);
+            }
+        }
+        for number in &ended {
+            if let Some(task) = self.tasks.get_mut(*number) {
+                task.has_ended = true;
+            }
+        }
+        self.files = after;
+        for object in loads {
+            if let Some(is_loaded) = self.loaded.get_mut(*object) {
+                *is_loaded = true;
+            }
+        }
+    }
+
+    /// What the files read before the first sample: the patches that it shows stood already, but for one that comes.
+    pub(crate) fn stand(&mut self, after: &[Files]) {
+        for patch in 0..self.files.len() {
+            let now = after.get(patch).copied().unwrap_or(None);
+            if let Some(files) = self.files.get_mut(patch) {
+                *files = match now {
+                    Some((true, false) | (false, true)) => Some((true, false)),
+                    _ => None,
+                };
+            }
+        }
+    }
+}

@@ -1,0 +1,311 @@
+//! A sample, and what changed with it since the last one.
+use crate::followed::{Followed, Sighting};
+use crate::functions::{Place, files_in, moving_in};
+use crate::patches::{Files, completes, starts};
+use crate::run::Run;
+use klp_capture::{Activity, Capture, Moment, PatchRow, PatchedState, Sample, SeenTask};
+use klp_types::{MAX_FRAMES, MAX_TASKS, Mode};
+use std::alloc::{AllocError, Global};
+
+/// What changed with a sample.
+#[derive(Clone, Copy)]
+pub(crate) struct Facts {
+    pub(crate) moment: Moment,
+    /// Whether the files of a patch changed.
+    pub(crate) has_changed: bool,
+    /// Whether a transition starts: then all tasks are at its other end first.
+    pub(crate) starts: bool,
+    /// The target of the transition that goes on, starts or completes.
+    pub(crate) target: Option<bool>,
+    /// Whether a transition completes.
+    pub(crate) completes: bool,
+}
+
+/// A task by its number, and how a sample shows it.
+#[derive(Drop)]
+pub(crate) struct Named {
+    pub(crate) number: usize,
+    pub(crate) seen: Sighting,
+}
+
+/// A sample, and what has to be told before it.
+#[derive(Drop)]
+pub(crate) struct Step {
+    pub(crate) facts: Facts,
+    /// The tasks that the sample names.
+    pub(crate) named: Vec<Named>,
+    /// The numbers of the tasks that have ended.
+    pub(crate) ended: Vec<usize>,
+    /// The tasks that begin before it, the first of which has the next number.
+    pub(crate) begun: Vec<Sighting>,
+}
+
+pub(crate) fn state_at(target: bool) -> PatchedState {
+    if target {
+        PatchedState::Patched
+    } else {
+        PatchedState::Unpatched
+    }
+}
+
+impl<'a> Run<'a> {
+    /// The functions that a task is inside of, outermost first, as far as the log's patches have to do with them.
+    fn places_of(
+        &self,
+        alloc: Global,
+        capture: &Capture<'a>,
+        seen: &SeenTask<'a>,
+    ) -> Result<Vec<Place>, AllocError> {
+        let mut places = Vec::new(alloc);
+        for frame in seen.frames.of(&capture.frames).iter().rev() {
+            if let Some(place) = self.functions.place_of(*frame)
+                && places.len() < MAX_FRAMES
+            {
+                places.push(place)?;
+            }
+        }
+        Ok(places)
+    }
+
+    fn sighting(
+        &self,
+        alloc: Global,
+        capture: &Capture<'a>,
+        seen: &SeenTask<'a>,
+    ) -> Result<Sighting, AllocError> {
+        Ok(Sighting {
+            activity: seen.task.activity,
+            state: seen.task.state,
+            runs: seen.task.runs,
+            is_stable: seen.task.is_stable,
+            places: self.places_of(alloc, capture, seen)?,
+        })
+    }
+
+    /// The number of a thread that hasn't ended.
+    fn number_of(&self, thread: u64, start: u64) -> Option<usize> {
+        self.tasks.iter().position(|task| task.thread == thread
+            && task.start == start
+            && !task.has_ended)
+    }
+
+    /// Adds the tasks that are seen first in these samples, as they were seen then.
+    fn add_begun(
+        &mut self,
+        alloc: Global,
+        capture: &Capture<'a>,
+        samples: &[Sample],
+        begun: &mut Vec<Sighting>,
+    ) -> Result<(), AllocError> {
+        for sample in samples {
+            for seen in sample.tasks.of(&capture.seen) {
+                if self.number_of(seen.task.thread, seen.task.start).is_some() {
+                    continue;
+                }
+                if self.tasks.len() >= MAX_TASKS {
+                    self.left_out = self.left_out.saturating_add(1);
+                    continue;
+                }
+                begun.push(self.sighting(alloc, capture, seen)?)?;
+                self.tasks.push(Followed {
+                    thread: seen.task.thread,
+                    start: seen.task.start,
+                    name: seen.task.name,
+                    is_kernel_thread: seen.task.is_kernel_thread,
+                    mode: Mode::User,
+                    inside: Vec::new(alloc),
+                    state: PatchedState::Undefined,
+                    runs: seen.task.runs,
+                    since: sample.line.from,
+                    has_ended: false,
+                    lag: None,
+                    stays: Vec::new(alloc),
+                })?;
+            }
+        }
+        Ok(())
+    }
+}
+
+/// Where a transition that starts in a sample ends: the number of the first sample that shows another one, or none.
+fn end_of_transition(capture: &Capture<'_>, number: usize) -> usize {
+    let samples = capture.samples.get(number..).unwrap_or(&[]);
+    let Some(first) = samples.first() else {
+        return number;
+    };
+    let moving = moving_in(first.patches.of(&capture.rows));
+    let next = number.saturating_add(1);
+    if moving.is_none() {
+        return next;
+    }
+    let others = samples.iter().skip(1).take_while(|sample| moving_in(
+        sample.patches.of(&capture.rows),
+    ) == moving);
+    next.saturating_add(others.count())
+}
+
+impl<'a> Run<'a> {
+    /// What the files of each patch read in a sample.
+    pub(crate) fn files_at(
+        &self,
+        alloc: Global,
+        rows: &[PatchRow<'a>],
+    ) -> Result<Vec<Files>, AllocError> {
+        let mut files = Vec::new(alloc);
+        for patch in &self.functions.patches {
+            files.push(files_in(rows, patch.name))?;
+        }
+        Ok(files)
+    }
+
+    /// Whether a patch is gone since a cumulative one replaced it: the other's transition completed.
+    pub(crate) fn is_replaced(&self, patch: usize, after: &[Files]) -> bool {
+        let pairs = self.files.iter().zip(after);
+        pairs.zip(&self.functions.patches).enumerate().any(|(other, ((before, after), found))| {
+            other != patch && found.is_cumulative && completes(*before, *after, false)
+        })
+    }
+
+    /// What a sample says, and what has to be told before it.
+    pub(crate) fn step(
+        &mut self,
+        alloc: Global,
+        capture: &Capture<'a>,
+        number: usize,
+        sample: &Sample,
+        after: &[Files],
+    ) -> Result<Step, AllocError> {
+        let facts = self.facts(sample, after);
+        let end = if facts.starts {
+            end_of_transition(capture, number)
+        } else {
+            number.saturating_add(1)
+        };
+        // What was told in samples that were left out counts too.
+        let first = match self.last {
+            Some(last) => last.saturating_add(1),
+            None => 0,
+        };
+        let samples = capture.samples.get(first..end).unwrap_or(&[]);
+        let mut begun = Vec::new(alloc);
+        self.add_begun(alloc, capture, samples, &mut begun)?;
+        let mut named = Vec::new(alloc);
+        let mut ended = Vec::new(alloc);
+        for sample in capture.samples.get(first..=number).unwrap_or(&[]) {
+            self.add_named(alloc, capture, sample, &mut named)?;
+            self.add_ended(capture, sample, &mut ended)?;
+        }
+        Ok(Step {
+            facts,
+            named,
+            ended,
+            begun,
+        })
+    }
+
+    /// Adds the tasks that a sample names. The last sample that names a task counts.
+    fn add_named(
+        &self,
+        alloc: Global,
+        capture: &Capture<'a>,
+        sample: &Sample,
+        named: &mut Vec<Named>,
+    ) -> Result<(), AllocError> {
+        for seen in sample.tasks.of(&capture.seen) {
+            if let Some(number) = self.number_of(seen.task.thread, seen.task.start) {
+                let seen = self.sighting(alloc, capture, seen)?;
+                if let Some(place) = named.iter().position(|own| own.number == number) {
+                    named.remove(place);
+                }
+                named.push(Named { number, seen })?;
+            }
+        }
+        Ok(())
+    }
+
+    /// Adds the tasks that have ended.
+    fn add_ended(
+        &self,
+        capture: &Capture<'a>,
+        sample: &Sample,
+        ended: &mut Vec<usize>,
+    ) -> Result<(), AllocError> {
+        for thread in sample.gone.of(&capture.gone) {
+            let number = self
+                .tasks
+                .iter()
+                .position(|task| task.thread == *thread && !task.has_ended);
+            if let Some(number) = number
+                && !ended.contains(&number)
+            {
+                ended.push(number)?;
+            }
+        }
+        Ok(())
+    }
+
+    /// What changed with a sample.
+    fn facts(&self, sample: &Sample, after: &[Files]) -> Facts {
+        let mut facts = Facts {
+            moment: sample.line.from,
+            has_changed: false,
+            starts: false,
+            target: None,
+            completes: false,
+        };
+        for patch in 0..self.files.len() {
+            let before = self.files.get(patch).copied().unwrap_or(None);
+            let now = after.get(patch).copied().unwrap_or(None);
+            let is_replaced = self.is_replaced(patch, after);
+            facts.has_changed = facts.has_changed || before != now;
+            facts.starts = facts.starts || starts(before, now, is_replaced);
+            facts.completes = facts.completes || completes(before, now, is_replaced);
+            if let Some((target, true)) = now {
+                facts.target = Some(target);
+            }
+        }
+        if facts.target.is_none() {
+            facts.target = self.target_completed(after);
+        }
+        facts
+    }
+
+    /// The target of a transition that completed since the last sample.
+    fn target_completed(&self, after: &[Files]) -> Option<bool> {
+        for (before, now) in self.files.iter().zip(after) {
+            match (before, now) {
+                (Some((_, true)) | None, Some((true, false))) => return Some(true),
+                (Some(_), None) => return Some(false),
+                _ => {}
+            }
+        }
+        None
+    }
+}
+
+impl Facts {
+    /// Whether a task that ran was switched meanwhile, as it left the kernel. It was in this state before.
+    pub(crate) fn is_switched(&self, before: PatchedState, seen: &Sighting) -> bool {
+        let Some(target) = self.target else {
+            return false;
+        };
+        let before = if self.starts {
+            state_at(!target)
+        } else {
+            before
+        };
+        let is_at_target = seen.state == state_at(target)
+            || (self.completes && seen.state == PatchedState::Undefined);
+        before != state_at(target) && is_at_target
+    }
+}
+
+impl Step {
+    /// How many places for a poll there are.
+    pub(crate) fn places(&self) -> usize {
+        self.named
+            .len()
+            .saturating_add(self.ended.len())
+            .saturating_add(1)
+    }
+}

@@ -1,0 +1,39 @@
+//! The words that the program is given.
+
+/// What the words ask for.
+#[derive(Clone, Copy)]
+pub(crate) struct Words<'a> {
+    /// The file with the log.
+    pub(crate) log: &'a str,
+    /// The folder for what is written.
+    pub(crate) folder: Option<&'a str>,
+    /// Whether the answer is for programs.
+    pub(crate) is_json: bool,
+}
+
+/// A file or a folder: a word that isn't an option.
+fn as_file(word: &str) -> Option<&str> {
+    match word.as_bytes().first() {
+        Some(b'-') | None => None,
+        Some(_) => Some(word),
+    }
+}
+
+/// Reads a log's name and options, in any order. None for words that are refused: unknown ones, one too many, or none.
+pub(crate) fn words_of(given: &[String]) -> Option<Words<'_>> {
+    let (mut log, mut folder, mut is_json) = (None, None, false);
+    let mut words = given.iter();
+    while let Some(word) = words.next() {
+        match word.as_str() {
+            "--json" if !is_json => is_json = true,
+            "-o" if folder.is_none() => folder = Some(as_file(words.next()?.as_str())?),
+            file if log.is_none() => log = Some(as_file(file)?),
+            _ => return None,
+        }
+    }
+    Some(Words {
+        log: log?,
+        folder,
+        is_json,
+    })
+}
