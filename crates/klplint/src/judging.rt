@@ -197,6 +197,18 @@ fn lint_part<W: Write>(
     lint_over_plan(alloc, plan, part, linted, script, out)
 }
 
+/// Judges each patch by itself, and then loads them over each other.
+fn lint_parts<W: Write>(
+    alloc: Global,
+    linted: Linted<'_>,
+    script: &[u8],
+    out: &mut W,
+) -> Result<u64, Fault> {
+    let alone = lint_part(alloc, Part::Alone, linted, script, out)?;
+    let together = lint_part(alloc, Part::Together, linted, script, out)?;
+    Ok(alone.saturating_add(together))
+}
+
 /// Judges each patch of the catalog by itself, and then loads them over each other, each time behind the script. The
 /// answer is how many findings there are.
 ///
@@ -218,7 +230,5 @@ pub(crate) fn lint_over_text<W: Write>(
         objects: &objects,
         patches: &patches,
     };
-    let alone = lint_part(alloc, Part::Alone, linted, script, out)?;
-    let together = lint_part(alloc, Part::Together, linted, script, out)?;
-    Ok(alone.saturating_add(together))
+    lint_parts(alloc, linted, script, out)
 }

@@ -3,6 +3,8 @@ ghost use Rattle.std.specs.Prelude.{◌≡◌};
 ghost use Rattle.klp_core.specs.Journaled.{IsWellFormed};
 
 use crate::together::{Order, stands_over};
+use crate::told::Names;
+use klp_catalog_text::PlanPatch;
 use klp_core::Manager;
 use klp_model::{Event, Reply};
 use klp_types::PatchId;
@@ -17,28 +19,37 @@ const MAX_STEPS: u32 = 40_000;
 /// How many events load a patch: it is enabled, and a poll completes its transition.
 const LOADING: u32 = 2;
 
-/// How many orders there are in which each of some patches is loaded over those before it, and whether all orders were
-/// tried.
-#[derive(Clone, Copy)]
-pub(crate) struct Orders {
-    patches: usize,
+/// How many orders there are in which each of some patches is loaded over those before it, the first such order, and
+/// whether all orders were tried.
+#[derive(Drop)]
+pub(crate) struct Orders<'a> {
+    patches: &'a [PlanPatch],
+    standing: usize,
     found: u64,
+    pub(crate) first: Order,
     is_cut_off: bool,
 }
 
-impl fmt::Display for Orders {
+impl fmt::Display for Orders<'_> {
     fn fmt<W: fmt::Write>(&self, f: &mut fmt::Formatter<W>) -> fmt::Result {
-        let (patches, found) = (self.patches, self.found);
+        let (standing, found) = (self.standing, self.found);
         let orders = if found == 1 { "order" } else { "orders" };
-        write!(f, "all {patches} that stand alone are loaded in ")?;
-        if self.is_cut_off {
-            write!(
-                f,
-                "{found} {orders} or more: the search was cut off after {MAX_LOADINGS} loadings"
-            )
-        } else {
-            write!(f, "{found} {orders}")
+        let more = if self.is_cut_off { " or more" } else { "" };
+        write!(
+            f,
+            "all {standing} that stand alone are loaded in {found} {orders}{more}"
+        )?;
+        if found != 0 {
+            let first = Names {
+                patches: self.patches,
+                named: self.first.as_slice(),
+            };
+            write!(f, ", such as {first}")?;
         }
+        if self.is_cut_off {
+            write!(f, ": the search was cut off after {MAX_LOADINGS} loadings")?;
+        }
+        Ok(())
     }
 }
 
@@ -71,6 +82,7 @@ struct Search {
     next: usize,
     loadings: u32,
     found: u64,
+    first: Order,
 }
 
 impl Search {
@@ -104,6 +116,9 @@ impl Search {
             self.next = 0;
         }
         if self.order.len() == free.len() {
+            if self.found == 0 {
+                let _ = self.first.try_extend_from_slice(self.order.as_slice());
+            }
             self.found = self.found.saturating_add(1);
             return self.step_back(manager, free);
         }
@@ -137,7 +152,11 @@ fn standing_alone(manager: &mut Manager, free: &Order) -> Order {
 
 /// Loads those of these patches that stand alone in one order after another, and counts the orders in which each is
 /// loaded and its transition completes. `None` if there are fewer than two.
-pub(crate) fn count_orders(manager: &mut Manager, free: &Order) -> Option<Orders> {
+pub(crate) fn count_orders<'a>(
+    patches: &'a [PlanPatch],
+    manager: &mut Manager,
+    free: &Order,
+) -> Option<Orders<'a>> {
     let standing = standing_alone(manager, free);
     if standing.len() < 2 {
         return None;
@@ -149,13 +168,17 @@ pub(crate) fn count_orders(manager: &mut Manager, free: &Order) -> Option<Orders
         next: 0,
         loadings: 0,
         found: 0,
+        first: Order::new(),
     };
     let is_cut_off = search_all(&mut search, manager, standing.as_slice());
     let _for_its_clause = manager.mark();
     take_back(manager, mark);
+    let Search { found, first, .. } = search;
     Some(Orders {
-        patches: standing.len(),
-        found: search.found,
+        patches,
+        standing: standing.len(),
+        found,
+        first,
         is_cut_off,
     })
 }

@@ -196,15 +196,15 @@ impl Tally {
 }
 
 /// How all patches go together.
-#[derive(Clone, Copy)]
-struct Together {
+#[derive(Drop)]
+struct Together<'a> {
     alone: Tally,
     over_one: Tally,
     over_two: Tally,
-    orders: Option<Orders>,
+    orders: Option<Orders<'a>>,
 }
 
-impl fmt::Display for Together {
+impl fmt::Display for Together<'_> {
     fn fmt<W: fmt::Write>(&self, f: &mut fmt::Formatter<W>) -> fmt::Result {
         let (alone, one, two) = (self.alone, self.over_one, self.over_two);
         write!(
@@ -215,9 +215,19 @@ impl fmt::Display for Together {
         if two.tried != 0 {
             write!(f, ", {} of {} over two others", two.started, two.tried)?;
         }
-        match self.orders {
+        match &self.orders {
             Some(orders) => write!(f, "; {orders}"),
             None => Ok(()),
+        }
+    }
+}
+
+impl Together<'_> {
+    /// The first order in which all patches are loaded.
+    fn first(&self) -> &[PatchId] {
+        match &self.orders {
+            Some(orders) => orders.first.as_slice(),
+            None => &[],
         }
     }
 }
@@ -450,6 +460,7 @@ pub(crate) fn tell_together<W: Write>(
     if manager.moving().is_some() {
         return linted.tell(
             &"the patches aren't loaded over each other: one is in transition",
+            &[],
             out,
         );
     }
@@ -468,14 +479,14 @@ pub(crate) fn tell_together<W: Write>(
     }
     count = count.saturating_add(try_pairs(linted, manager, &free, &mut over_two, out)?);
     if free.len() > 1 {
-        let orders = count_orders(manager, &free);
+        let orders = count_orders(linted.patches, manager, &free);
         let together = Together {
             alone,
             over_one,
             over_two,
             orders,
         };
-        count = count.saturating_add(linted.tell(&together, out)?);
+        count = count.saturating_add(linted.tell(&together, together.first(), out)?);
     }
     Ok(count)
 }

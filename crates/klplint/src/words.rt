@@ -296,10 +296,11 @@ impl<'a> Linted<'a> {
         }
     }
 
-    /// Tells something of all patches together.
+    /// Tells something of all patches together, and of these above all.
     pub(crate) fn tell<W: Write, S: fmt::Display>(
         &self,
         sentence: &S,
+        others: &[PatchId],
         out: &mut W,
     ) -> io::Result<u64> {
         let name = self.text.name;
@@ -307,6 +308,11 @@ impl<'a> Linted<'a> {
             Form::Words => writeln!(out, "{name}: {sentence}")?,
             Form::Json => {
                 write_kind(Kind::Together, name, out)?;
+                let told = Told {
+                    others,
+                    ..Told::at(Kind::Together, 0)
+                };
+                write_about(told, self.patches, out)?;
                 writeln!(out, ",\"sentence\":\"{sentence}\"}}")?;
             }
         }
