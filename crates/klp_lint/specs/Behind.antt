@@ -5,6 +5,7 @@ use Rattle.klp_types.specs.World.{ShadowValue, variable}
 use Rattle.klp_model.specs.declared.event.Event.{Event}
 use Rattle.klp_model.specs.declared.event.Reply.{Reply}
 use Rattle.klp_model.specs.declared.event.Refusal.{Refusal}
+use Rattle.klp_manager_state.specs.Managed.{setting_of}
 use Rattle.klp_core.specs.Journaled.{Journaled}
 use Rattle.klp_core.specs.Taking.{IsTaken, AreTaken}
 
@@ -22,6 +23,7 @@ pub record IsAnsweredBehind (before after : Journaled) (events : List Event) (ev
   pub last : Journaled
   pub counts : ℕ × ℕ
   pub taken : AreTaken before there events counts
+  pub setting : setting_of there.managed ≡ setting_of before.managed
   pub answered : IsTaken there last event result
   pub back : IsBack before last after
 
@@ -30,5 +32,6 @@ pub record IsSeenBehind (before after : Journaled) (events : List Event) (key : 
   pub there : Journaled
   pub counts : ℕ × ℕ
   pub taken : AreTaken before there events counts
+  pub setting : setting_of there.managed ≡ setting_of before.managed
   pub seen : value ≡ variable there.managed.state.world key
   pub back : IsBack before there after

@@ -12,6 +12,7 @@ returns-clause-answered g c =
       last = last;
       counts = c.run.result;
       taken = c.run.ensures.taken;
+      setting = c.run.ensures.setting;
       answered = c.apply_lent.ensures.taken;
       back = is_back before last c.rewind.new.self c.mark.result c.rewind.result c.mark.ensures.mark c.requires
           (goes_one_on before there last c.args.event.now c.apply_lent.result (goes_on before there c.args.events.now c.run.result c.run.ensures.taken) c.apply_lent.ensures.taken)

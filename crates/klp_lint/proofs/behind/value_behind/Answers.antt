@@ -9,6 +9,7 @@ returns-clause-seen g c =
       there = there;
       counts = c.run.result;
       taken = c.run.ensures.taken;
+      setting = c.run.ensures.setting;
       seen = c.shadow_get.ensures;
       back = is_back before there c.rewind.new.self c.mark.result c.rewind.result c.mark.ensures.mark c.requires
           (goes_on before there c.args.events.now c.run.result c.run.ensures.taken)
