@@ -67,8 +67,12 @@ _klppage() {
 _klplint() {
   local klp_words
   _klp_words || return 0
+  if [ "${#klp_words[@]}" -gt 1 ] && [ "${klp_words[0]}" = --json ]; then klp_words=("${klp_words[@]:1}"); fi
   case "${#klp_words[@]}" in
-    1) _klp_files catalog "${klp_words[0]}" ;;
+    1)
+      _klp_files catalog "${klp_words[0]}"
+      mapfile -t -O "${#COMPREPLY[@]}" COMPREPLY < <(compgen -W "--json" -- "${klp_words[0]}")
+      ;;
     2) _klp_files script "${klp_words[1]}" ;;
   esac
 }

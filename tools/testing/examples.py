@@ -5,7 +5,9 @@ Each function gives the cases of one kind: a name, and a call that returns what 
 import filecmp
 import functools
 import glob
+import json
 import os
+import re
 import tempfile
 
 import testing.run
@@ -115,20 +117,65 @@ def pages():
     return made
 
 
+def lint_words(name):
+    """How klplint is called for a catalog, behind a script where there is one."""
+    words = [f"lint/{name}.catalog", f"lint/{name}.script"]
+    return words if os.path.exists(f"{EXAMPLES}/{words[1]}") else words[:1]
+
+
+def lint_objects(out):
+    """What klplint tells for programs."""
+    return [json.loads(line) for line in out.decode().splitlines()]
+
+
+def in_words(told):
+    """The line of words for an object that klplint tells."""
+    place = f": line {told['line']}: {told['patch']}" if "patch" in told else ""
+    return f"{told['catalog']}{place}: {told['sentence']}\n"
+
+
+def unsaid(told):
+    """What an object has that its sentence doesn't say."""
+    about = [*told.get("others", ()), str(told.get("state", "")), " ".join(map(str, told.get("key", ())))]
+    return [it for it in about if it not in told["sentence"]]
+
+
 def lint(name):
-    """What klplint finds in a catalog, behind a script where there is one."""
-    words = [f"lint/{name}.catalog"]
-    if os.path.exists(f"{EXAMPLES}/lint/{name}.script"):
-        words.append(f"lint/{name}.script")
-    stored = read(f"lint/{name}.output")
-    clean = (b"leaves no trace", b"not judged")
-    wanted = 0 if all(any(it in line for it in clean) for line in stored.splitlines()) else FINDINGS
-    return fault(run(["klplint", *words]), (wanted, stored, ""))
+    """What klplint finds in a catalog, in words and for programs."""
+    words, stored = lint_words(name), read(f"lint/{name}.output")
+    status, out, err = run(["klplint", "--json", *words])
+    told = lint_objects(out)
+    wanted = FINDINGS if any(it["finding"] for it in told) else 0
+    spelled = "".join(map(in_words, told)).encode()
+    alike = fault((status, spelled, err), (wanted, stored, "")) or "; ".join(f"{it} unsaid" for own in told for it in unsaid(own))
+    return fault(run(["klplint", *words]), (wanted, stored, "")) or alike or None
+
+
+def lint_names():
+    return sorted(it for it, ending in map(os.path.splitext, os.listdir(f"{EXAMPLES}/lint")) if ending == ".catalog")
+
+
+def lint_kinds():
+    """Each kind of thing that docs/LINT.md has is told of an example, and no other."""
+    told = {it["kind"] for name in lint_names() for it in lint_objects(run(["klplint", "--json", *lint_words(name)])[1])}
+    with open(f"{TOP}/docs/LINT.md", encoding="utf-8") as it:
+        documented = set(re.findall(r"`([\w-]+)`", re.search(r"The kinds are (.*?)\.\n", it.read(), re.S)[1]))
+    return None if told == documented else f"{sorted(told ^ documented)}"
+
+
+def lint_escapes():
+    """The name of a catalog comes whole out of an object, whatever it has in it."""
+    with tempfile.TemporaryDirectory(prefix="lint-") as room:
+        path = f'{room}/a "b" \\ \t\u00e9.catalog'
+        with open(path, "wb") as it:
+            it.write(read("lint/clean.catalog"))
+        told = lint_objects(run(["klplint", "--json", path])[1])
+        return None if [it["catalog"] for it in told] == [path] else f"{told}"
 
 
 def lints():
-    names = sorted(it for it, ending in map(os.path.splitext, os.listdir(f"{EXAMPLES}/lint")) if ending == ".catalog")
-    return [(f"lint/{name}.catalog", functools.partial(lint, name)) for name in names]
+    cases = [(f"lint/{name}.catalog", functools.partial(lint, name)) for name in lint_names()]
+    return [*cases, ("lint, each kind", lint_kinds), ("lint, a name that is escaped", lint_escapes)]
 
 
 def refused(catalog, said, run=run):

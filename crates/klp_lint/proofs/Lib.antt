@@ -1,5 +1,6 @@
 pub mod ActingLemmas
 pub mod ApartLemmas
+pub mod BehindLemmas
 pub mod FailsLemmas
 pub mod JudgedLemmas
 pub mod PlanLemmas

@@ -1,5 +1,6 @@
 pub mod Acting
 pub mod Apart
+pub mod Behind
 pub mod Premises
 pub mod Scripts
 pub mod Undone

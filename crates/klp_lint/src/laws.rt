@@ -1,7 +1,10 @@
 //! What the premises come to. A function here does nothing: its contract is the law.
-ghost use Rattle.std.specs.Prelude.{◌≡◌, ℕ, false, List, None, map};
+ghost use Rattle.std.specs.Prelude.{◌≡◌, ℕ, false, List, [], None, Result, map};
 ghost use Rattle.klp_types.specs.declared.shadow.ShadowKey.{ShadowKey};
 ghost use Rattle.klp_types.specs.Setting.{Setting};
+ghost use Rattle.klp_model.specs.declared.event.Event.{Event};
+ghost use Rattle.klp_model.specs.declared.event.Reply.{Reply};
+ghost use Rattle.klp_model.specs.declared.event.Refusal.{Refusal};
 ghost use Rattle.klp_model.specs.State.{State, is_installed};
 ghost use Rattle.klp_model.specs.Company.{IsFairStart, AreFair, company_keys, taking_part};
 ghost use Rattle.klp_model.specs.Footprint.{SameFootprint};
@@ -11,8 +14,10 @@ ghost use Rattle.klp_catalog_text.specs.Scripts.{scripts_of};
 ghost use Rattle.klp_catalog.specs.Assembled.{without_scripts};
 ghost use Rattle.klp_manager_state.specs.Managed.{Managed, setting_of};
 ghost use Rattle.klp_core.specs.Journaled.{Journaled};
+ghost use Rattle.klp_core.specs.Taking.{answer_in};
 ghost use Rattle.klp_core.specs.Withdrawal.{LeavesNoTrace, appended};
 ghost use Rattle.klp_lint.specs.declared.premise.Premise.{Premise as AnyPremise};
+ghost use Rattle.klp_lint.specs.Behind.{IsAnsweredBehind};
 ghost use Rattle.klp_lint.specs.Premises.{ArePatchesOf, Fails, FailsOf, HoldEverywhere};
 
 /// A manager that is booted over a plan has its patches, which `leaves_no_trace` takes: it has the names of its image,
@@ -41,6 +46,13 @@ pub fn what_fails_without_variables_fails_somewhere()
     klp_types::laws::untouched_variables_stay();
     klp_types::laws::edits_go_key_by_key();
 }
+
+/// Behind no events, the answer of `reply_behind` is that of the definitions at the manager's own state.
+pub fn behind_nothing_is_now()
+    ensures { (before after : Journaled) (event : Event) (result : Result Reply Refusal)
+        → IsAnsweredBehind before after [] event result
+        → result ≡ answer_in (setting_of before.managed) before.managed.state before.groups event }
+{}
 
 /// Where the premises hold before fair events, and the patch isn't installed behind them, no trace of it is left: this
 /// is what `Manager::run` promises, of whom `leaves_no_trace` says that it is at a fair start.

@@ -9,9 +9,12 @@
 //! variables stay as they are. `src/objects.rt` goes over the objects of a patch (`specs/Acting`). Neither knows a
 //! manager: what variables there are is a trait ([`variables`]).
 //!
+//! `src/behind.rt` asks a manager what it would answer behind events, which are all taken back (`specs/Behind`).
+//!
 //! `laws` says that what is told to fail does, and what `Manager::run` then promises of a patch at a fair start.
 #![tactic(auto)]
 
+mod behind;
 mod edits;
 mod judged;
 pub mod laws;
@@ -21,6 +24,7 @@ mod there;
 mod undone;
 mod variables;
 
+pub use behind::{reply_behind, value_behind};
 pub use judged::{holds_everywhere, leaves_no_trace};
 pub use premise::{Pair, Premise};
 pub use undone::{found_by, left_behind};

@@ -1,34 +1,49 @@
 //! What of a patch can't work, or does nothing, in any world.
 
 use crate::place::word_of;
+use crate::told::{Kind, Told};
 use crate::words::LintedPatch;
 use klp_catalog_text::{PlanCallback, PlanFunction, PlanPatch};
-use klp_modules::SymbolFault;
+use klp_modules::{Modules, SymbolFault};
 use klp_types::Edit;
-use std::io;
 use std::io::Write;
+use std::{fmt, io};
 
 /// Whether the patch names the system state.
-fn names(patch: &PlanPatch, id: u64) -> bool {
+pub(crate) fn names(patch: &PlanPatch, id: u64) -> bool {
     patch.states.iter().any(|state| state.id == id)
 }
 
+/// A change of a system state that does nothing, and why.
+#[derive(Clone, Copy)]
+struct IdleChange {
+    id: u64,
+    why: &'static str,
+}
+
+impl fmt::Display for IdleChange {
+    fn fmt<W: fmt::Write>(&self, f: &mut fmt::Formatter<W>) -> fmt::Result {
+        let (id, why) = (self.id, self.why);
+        write!(f, "does nothing: a change of the system state {id}, {why}")
+    }
+}
+
 /// Why an edit of this patch does nothing, whatever is installed, and the system state that it is about.
-fn idle_state(
-    linted: &LintedPatch<'_>,
-    patches: &[PlanPatch],
-    edit: &Edit,
-) -> Option<(u64, &'static str)> {
+fn idle_state(patch: &PlanPatch, patches: &[PlanPatch], edit: &Edit) -> Option<IdleChange> {
     match *edit {
-        Edit::SetData(id, _) | Edit::TakePrev(id) if !names(linted.patch, id) => {
-            Some((id, "which the patch doesn't name"))
-        }
+        Edit::SetData(id, _) | Edit::TakePrev(id) if !names(patch, id) => Some(IdleChange {
+            id,
+            why: "which the patch doesn't name",
+        }),
         Edit::TakePrev(id) => {
             let count = patches.iter().filter(|patch| names(patch, id)).count();
             if count > 1 {
                 None
             } else {
-                Some((id, "which no other patch names"))
+                Some(IdleChange {
+                    id,
+                    why: "which no other patch names",
+                })
             }
         }
         _ => None,
@@ -36,80 +51,87 @@ fn idle_state(
 }
 
 /// Tells the edits of a callback that do nothing, and answers how many there are.
-fn write_idle_edits<W: Write>(
-    linted: &LintedPatch<'_>,
-    patches: &[PlanPatch],
+fn tell_idle_edits<W: Write>(
+    own: &LintedPatch<'_>,
     place: usize,
     callback: &PlanCallback,
     out: &mut W,
 ) -> io::Result<u64> {
     let mut count = 0u64;
     for edit in callback.script.edits.as_slice() {
-        if let Some((id, why)) = idle_state(linted, patches, edit) {
-            let line = linted.line_behind(Some(place), Some(word_of(callback.which)), 0);
-            linted.begin(line, out)?;
-            writeln!(
-                out,
-                "does nothing: a change of the system state {id}, {why}"
-            )?;
-            count = count.saturating_add(1);
+        if let Some(idle) = idle_state(own.patch, own.linted.patches, edit) {
+            let line = own.line_behind(Some(place), Some(word_of(callback.which)), 0);
+            let told = Told {
+                object: Some(own.object(place)),
+                state: Some(idle.id),
+                ..Told::at(Kind::Idle, line)
+            };
+            count = count.saturating_add(own.tell(told, &idle, out)?);
         }
     }
     Ok(count)
 }
 
 /// Tells the edits of a patch that do nothing, and answers how many there are.
-pub(crate) fn write_idle<W: Write>(
-    linted: &LintedPatch<'_>,
-    patches: &[PlanPatch],
-    out: &mut W,
-) -> io::Result<u64> {
-    let patch = linted.patch;
+pub(crate) fn tell_idle<W: Write>(own: &LintedPatch<'_>, out: &mut W) -> io::Result<u64> {
     let mut count = 0u64;
-    for (place, target) in patch.targets.iter().enumerate() {
+    for (place, target) in own.patch.targets.iter().enumerate() {
         for callback in target.callbacks.iter() {
-            let idle = write_idle_edits(linted, patches, place, callback, out)?;
-            count = count.saturating_add(idle);
+            count = count.saturating_add(tell_idle_edits(own, place, callback, out)?);
         }
     }
     Ok(count)
 }
 
-fn reason_of(fault: SymbolFault) -> &'static str {
-    match fault {
-        SymbolFault::Missing => "has no such symbol",
-        SymbolFault::Ambiguous => "has several symbols of this name",
-        SymbolFault::NoPosition => "has fewer symbols of this name",
+/// A function whose symbol isn't picked.
+#[derive(Clone, Copy)]
+struct Unpicked<'a> {
+    object: &'a str,
+    function: &'a PlanFunction,
+    fault: SymbolFault,
+}
+
+impl fmt::Display for Unpicked<'_> {
+    fn fmt<W: fmt::Write>(&self, f: &mut fmt::Formatter<W>) -> fmt::Result {
+        let (object, symbol) = (self.object, self.function.symbol.as_str());
+        let position = self.function.sympos;
+        let reason = match self.fault {
+            SymbolFault::Missing => "has no such symbol",
+            SymbolFault::Ambiguous => "has several symbols of this name",
+            SymbolFault::NoPosition => "has fewer symbols of this name",
+        };
+        write!(
+            f,
+            "can't be enabled while {object} is loaded: {symbol},{position}: {object} {reason}"
+        )
     }
 }
 
-fn write_function<W: Write>(
-    linted: &LintedPatch<'_>,
-    place: usize,
-    before: usize,
-    function: &PlanFunction,
-    fault: SymbolFault,
-    out: &mut W,
-) -> io::Result<()> {
-    linted.begin(linted.line_behind(Some(place), Some(b"func"), before), out)?;
-    let (object, symbol) = (linted.object(place), function.symbol.as_str());
-    let (position, reason) = (function.sympos, reason_of(fault));
-    writeln!(
-        out,
-        "can't be enabled while {object} is loaded: {symbol},{position}: {object} {reason}"
-    )
-}
-
 /// Tells the functions of a patch whose symbols aren't picked, and answers how many there are.
-pub(crate) fn write_unpicked<W: Write>(linted: &LintedPatch<'_>, out: &mut W) -> io::Result<u64> {
-    let (patch, modules) = (linted.patch, linted.manager.modules());
+pub(crate) fn tell_unpicked<W: Write>(
+    own: &LintedPatch<'_>,
+    modules: &Modules,
+    out: &mut W,
+) -> io::Result<u64> {
     let mut count = 0u64;
-    for (place, target) in patch.targets.iter().enumerate() {
+    for (place, target) in own.patch.targets.iter().enumerate() {
+        let object = own.object(place);
         for (before, function) in target.functions.iter().enumerate() {
             let symbol = function.symbol.as_str();
             if let Err(fault) = modules.resolve(target.object, symbol, function.sympos) {
-                write_function(linted, place, before, function, fault, out)?;
-                count = count.saturating_add(1);
+                let told = Told {
+                    object: Some(object),
+                    ..Told::at(
+                        Kind::NoSymbol,
+                        own.line_behind(Some(place), Some(b"func"), before),
+                    )
+                };
+                let unpicked = Unpicked {
+                    object,
+                    function,
+                    fault,
+                };
+                count = count.saturating_add(own.tell(told, &unpicked, out)?);
             }
         }
     }

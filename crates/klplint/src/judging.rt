@@ -1,12 +1,15 @@
-//! A manager is booted over a catalog, serves a script, and then each patch is judged.
+//! A manager is booted over a catalog, serves a script, and then each patch is judged. Another one is booted, in which
+//! they are loaded over each other.
 ghost use Rattle.std.specs.Prelude.{◌≡◌, ◌<◌, ◌≤◌, length, IfSome};
 ghost use Rattle.klp_catalog_text.specs.Within.{AreTargetsWithin};
 
-use crate::idle::{write_idle, write_unpicked};
-use crate::words::{CatalogText, LintedPatch, patch_id};
+use crate::idle::{tell_idle, tell_unpicked};
+use crate::limits::{tell_alike, tell_near, tell_room};
+use crate::together::tell_together;
+use crate::words::{CatalogText, Linted, LintedPatch, patch_id};
 use klp_callback::Boxed;
 use klp_catalog::Catalog;
-use klp_catalog_text::{Plan, PlanPatch};
+use klp_catalog_text::Plan;
 use klp_console::{ServeFault, answer_line};
 use klp_console_io::OverWrite;
 use klp_core::Manager;
@@ -62,93 +65,103 @@ fn do_lines(alloc: Global, manager: &mut Manager, script: &[u8]) -> Result<(), F
     Ok(())
 }
 
-/// Tells what comes of a patch. Whether that is a finding.
+/// Tells what comes of a patch, and answers how many findings that is.
 fn tell<W: Write>(
-    linted: &LintedPatch<'_>,
+    own: &LintedPatch<'_>,
+    manager: &Manager,
     judged: Result<(), Premise>,
     is_everywhere: bool,
     out: &mut W,
-) -> io::Result<bool> {
+) -> io::Result<u64> {
     match judged {
-        Ok(()) => {
-            linted.write_clean(is_everywhere, out)?;
-            Ok(false)
-        }
-        Err(premise) => {
-            linted.write_failing(premise, out)?;
-            Ok(!matches!(premise, Premise::Moving | Premise::Installed))
-        }
+        Ok(()) => own.tell_clean(is_everywhere, out),
+        Err(premise) => own.tell_failing(manager, premise, out),
     }
 }
 
-/// Judges a patch, and answers how many findings there are.
-fn judge_one<W: Write>(
-    catalog: CatalogText<'_>,
-    manager: &Manager,
-    patches: &[PlanPatch],
-    number: usize,
-    out: &mut W,
-) -> io::Result<u64> {
-    let Some(patch) = patches.get(number) else {
-        return Ok(0);
-    };
-    let judged = leaves_no_trace(manager, patches, patch_id(number));
-    let is_everywhere = holds_everywhere(manager, patches, patch_id(number)).is_ok();
-    let linted = LintedPatch {
-        catalog,
-        manager,
-        patch,
-        number,
-    };
-    let is_finding = tell(&linted, judged, is_everywhere, out)?;
-    let idle = write_idle(&linted, patches, out)?;
-    let unpicked = write_unpicked(&linted, out)?;
+/// Judges a patch by itself, and answers how many findings there are.
+fn judge_one<W: Write>(own: &LintedPatch<'_>, manager: &Manager, out: &mut W) -> io::Result<u64> {
+    let (patches, patch) = (own.linted.patches, patch_id(own.number));
+    let judged = leaves_no_trace(manager, patches, patch);
+    let is_everywhere = holds_everywhere(manager, patches, patch).is_ok();
+    let trace = tell(own, manager, judged, is_everywhere, out)?;
+    let idle = tell_idle(own, out)?;
+    let unpicked = tell_unpicked(own, manager.modules(), out)?;
+    let limits = tell_limits(own, out)?;
     Ok(
-        u64::from(is_finding)
+        trace
             .saturating_add(idle)
-            .saturating_add(unpicked),
+            .saturating_add(unpicked)
+            .saturating_add(limits),
     )
 }
 
-/// Judges each patch, and answers how many findings there are.
-fn judge_all<W: Write>(
-    catalog: CatalogText<'_>,
-    manager: &Manager,
-    patches: &[PlanPatch],
-    out: &mut W,
-) -> io::Result<u64> {
+/// Tells what of a patch is near a limit, or isn't told from another patch.
+fn tell_limits<W: Write>(own: &LintedPatch<'_>, out: &mut W) -> io::Result<u64> {
+    let near = tell_near(own, out)?;
+    let room = tell_room(own, out)?;
+    let alike = tell_alike(own, out)?;
+    Ok(near.saturating_add(room).saturating_add(alike))
+}
+
+/// Judges each patch by itself, and answers how many findings there are.
+fn judge_all<W: Write>(linted: Linted<'_>, manager: &Manager, out: &mut W) -> io::Result<u64> {
     let mut findings = 0u64;
-    for number in 0..patches.len() {
-        findings = findings.saturating_add(judge_one(catalog, manager, patches, number, out)?);
+    for number in 0..linted.patches.len() {
+        if let Some(own) = linted.patch(patch_id(number)) {
+            findings = findings.saturating_add(judge_one(&own, manager, out)?);
+        }
     }
     Ok(findings)
 }
 
+/// How patches are judged: each by itself, or loaded over others.
+#[derive(Clone, Copy)]
+enum Part {
+    Alone,
+    Together,
+}
+
+fn judge<W: Write>(
+    part: Part,
+    linted: Linted<'_>,
+    manager: &mut Manager,
+    out: &mut W,
+) -> Result<u64, Fault> {
+    let told = match part {
+        Part::Alone => judge_all(linted, manager, out),
+        Part::Together => tell_together(linted, manager, out),
+    };
+    match told {
+        Ok(findings) => Ok(findings),
+        Err(_) => Err(Fault::Serve(ServeFault::Write)),
+    }
+}
+
+/// Serves the script, and judges the patches. The journal is empty then, so that it has room for what is tried.
 fn lint<W: Write>(
     alloc: Global,
     manager: &mut Manager,
-    catalog: CatalogText<'_>,
-    patches: &[PlanPatch],
+    part: Part,
+    linted: Linted<'_>,
     script: &[u8],
     out: &mut W,
 ) -> Result<u64, Fault> {
     do_lines(alloc, manager, script)?;
-    match judge_all(catalog, manager, patches, out) {
-        Ok(findings) => Ok(findings),
-        Err(_) => Err(Fault::Serve(ServeFault::Write)),
-    }
+    do_lines(alloc, manager, b"seal")?;
+    judge(part, linted, manager, out)
 }
 
 // The manager goes then.
 fn lint_by<W: Write>(
     alloc: Global,
     mut manager: Manager,
-    catalog: CatalogText<'_>,
-    patches: &[PlanPatch],
+    part: Part,
+    linted: Linted<'_>,
     script: &[u8],
     out: &mut W,
 ) -> Result<u64, Fault> {
-    let ended = lint(alloc, &mut manager, catalog, patches, script, out);
+    let ended = lint(alloc, &mut manager, part, linted, script, out);
     close(manager);
     ended
 }
@@ -157,8 +170,8 @@ fn lint_by<W: Write>(
 fn lint_over_plan<W: Write>(
     alloc: Global,
     plan: Plan,
-    catalog: CatalogText<'_>,
-    patches: &[PlanPatch],
+    part: Part,
+    linted: Linted<'_>,
     script: &[u8],
     out: &mut W,
 ) -> Result<u64, Fault>
@@ -169,20 +182,53 @@ fn lint_over_plan<W: Write>(
         callbacks.push(Boxed::new(callback))?;
     }
     let manager = boot(alloc, plan, callbacks)?;
-    lint_by(alloc, manager, catalog, patches, script, out)
+    lint_by(alloc, manager, part, linted, script, out)
 }
 
-/// Boots a manager over the catalog, serves the script, and tells of each patch whether it would leave a trace. The
-/// answer is how many findings there are.
-///
-/// The catalog is read twice: booting takes the plan, and the scripts of the callbacks are read from the other.
-pub(crate) fn lint_over_text<W: Write>(
+/// Judges the patches by a manager that is booted for this over the catalog, and has served the script.
+fn lint_part<W: Write>(
     alloc: Global,
-    catalog: CatalogText<'_>,
+    part: Part,
+    linted: Linted<'_>,
     script: &[u8],
     out: &mut W,
 ) -> Result<u64, Fault> {
-    let plan = Catalog::read(alloc, catalog.bytes)?;
-    let (patches, _names) = Catalog::read(alloc, catalog.bytes)?.into_patches();
-    lint_over_plan(alloc, plan, catalog, &patches, script, out)
+    let plan = Catalog::read(alloc, linted.text.bytes)?;
+    lint_over_plan(alloc, plan, part, linted, script, out)
+}
+
+/// Judges each patch by itself, and then loads them over each other.
+fn lint_parts<W: Write>(
+    alloc: Global,
+    linted: Linted<'_>,
+    script: &[u8],
+    out: &mut W,
+) -> Result<u64, Fault> {
+    let alone = lint_part(alloc, Part::Alone, linted, script, out)?;
+    let together = lint_part(alloc, Part::Together, linted, script, out)?;
+    Ok(alone.saturating_add(together))
+}
+
+/// Judges each patch of the catalog by itself, and then loads them over each other, each time behind the script. The
+/// answer is how many findings there are.
+///
+/// The two are done by two managers, since loading patches raises the counts of their callbacks. The catalog is read
+/// once more, since booting takes the plan.
+pub(crate) fn lint_over_text<W: Write>(
+    alloc: Global,
+    text: CatalogText<'_>,
+    script: &[u8],
+    out: &mut W,
+) -> Result<u64, Fault> {
+    let mut plan = Catalog::read(alloc, text.bytes)?;
+    let handler = plan.handler();
+    let objects = plan.take_objects();
+    let (patches, _names) = plan.into_patches();
+    let linted = Linted {
+        text,
+        handler,
+        objects: &objects,
+        patches: &patches,
+    };
+    lint_parts(alloc, linted, script, out)
 }

@@ -1,13 +1,22 @@
 //! The program: it boots a manager over a catalog, serves a script, and tells on standard output of each patch whether
-//! it would leave a trace once it is withdrawn. Standard error has what is wrong with the files, and where.
+//! it would leave a trace once it is withdrawn, and what becomes of patches that are loaded over others. Standard error
+//! has what is wrong with the files, and where.
 #![tactic(auto)]
 
+mod conflict;
 mod idle;
 mod judging;
+mod limits;
+mod orders;
 mod place;
+mod replacing;
+mod scripts;
+mod together;
+mod told;
 mod words;
 
 use crate::judging::lint_over_text;
+use crate::told::Form;
 use crate::words::CatalogText;
 use klp_program::{bytes_in, program_arguments, report_fault_as};
 use std::alloc::Global;
@@ -31,19 +40,42 @@ fn begins_with_dash(word: &str) -> bool {
     word.as_bytes().first() == Some(&b'-')
 }
 
-/// The files: a catalog, and perhaps a script. Other words are refused on `err`, with their exit status.
-fn files<'a, E: Write>(given: &'a [String], err: &mut E) -> Result<(&'a str, Option<&'a str>), u8> {
+/// What the program is called for: how it tells, and the files, a catalog and perhaps a script.
+#[derive(Clone, Copy)]
+struct Asked<'a> {
+    form: Form,
+    catalog: &'a str,
+    script: Option<&'a str>,
+}
+
+/// The form that the words ask for, and the words behind it.
+fn form_of(given: &[String]) -> (Form, &[String]) {
     match given {
-        [catalog] if !begins_with_dash(catalog.as_str()) => Ok((catalog.as_str(), None)),
-        [catalog, script]
-            if !begins_with_dash(catalog.as_str()) && !begins_with_dash(script.as_str()) => {
-            Ok((catalog.as_str(), Some(script.as_str())))
-        }
-        _ => {
-            let _ = writeln!(err, "{NAME}: usage: klplint CATALOG [SCRIPT] (man klplint)");
-            Err(USAGE)
-        }
+        [first, rest @ ..] if first.as_str() == "--json" => (Form::Json, rest),
+        _ => (Form::Words, given),
     }
+}
+
+/// What the words ask for. Other words are refused on `err`, with their exit status.
+fn read_words<'a, E: Write>(given: &'a [String], err: &mut E) -> Result<Asked<'a>, u8> {
+    let (form, files) = form_of(given);
+    let (catalog, script) = match files {
+        [catalog] => (catalog.as_str(), None),
+        [catalog, script] => (catalog.as_str(), Some(script.as_str())),
+        _ => ("-", None),
+    };
+    if begins_with_dash(catalog) || script.is_some_and(begins_with_dash) {
+        let _ = writeln!(
+            err,
+            "{NAME}: usage: klplint [--json] CATALOG [SCRIPT] (man klplint)"
+        );
+        return Err(USAGE);
+    }
+    Ok(Asked {
+        form,
+        catalog,
+        script,
+    })
 }
 
 // The bytes of a file. Where it can't be read a line on `err` says so, and the answer is the exit status.
@@ -85,12 +117,13 @@ fn lint<W: Write, E: Write>(
 fn run(rt: &HostRuntime) -> Result<u8, u8> {
     let mut err = rt.stderr();
     let given = program_arguments(rt, NAME, &mut err)?;
-    let (name, script) = files(&given, &mut err)?;
-    let bytes = file_in(rt, name, &mut err)?;
-    let script = script_in(rt, script, &mut err)?;
+    let asked = read_words(&given, &mut err)?;
+    let bytes = file_in(rt, asked.catalog, &mut err)?;
+    let script = script_in(rt, asked.script, &mut err)?;
     let catalog = CatalogText {
-        name,
+        name: asked.catalog,
         bytes: &bytes,
+        form: asked.form,
     };
     let mut out = io::writer(rt);
     Ok(lint(rt.alloc(), catalog, &script, &mut out, &mut err))

@@ -1,18 +1,29 @@
-//! What is found, in words.
+//! What is found of the round trip, in words.
 
 use crate::place::{Place, line_of, word_of};
+use crate::told::{Form, Kind, Told, write_about, write_kind};
 use klp_catalog_text::{PlanPatch, PlanTarget};
 use klp_core::Manager;
 use klp_lint::{Pair, Premise, found_by, left_behind};
-use klp_types::{PatchId, ShadowKey, ShadowValue, Which};
+use klp_types::{ObjId, ObjectText, PatchId, ShadowKey, ShadowValue, Which};
 use std::io::Write;
 use std::{fmt, io};
 
-/// A catalog: what its file is called, and its bytes.
+/// A catalog: what its file is called, its bytes, and how it is told of.
 #[derive(Clone, Copy)]
 pub(crate) struct CatalogText<'a> {
     pub(crate) name: &'a str,
     pub(crate) bytes: &'a [u8],
+    pub(crate) form: Form,
+}
+
+/// What a catalog says: its text, and what was read of it.
+#[derive(Clone, Copy)]
+pub(crate) struct Linted<'a> {
+    pub(crate) text: CatalogText<'a>,
+    pub(crate) handler: u64,
+    pub(crate) objects: &'a [ObjectText],
+    pub(crate) patches: &'a [PlanPatch],
 }
 
 /// A value of a variable, as a catalog spells it, or that there is none.
@@ -46,7 +57,7 @@ fn callbacks_of(pair: Pair) -> (Which, Which) {
 }
 
 /// What a callback of this kind is called.
-fn name_of(which: Which) -> &'static str {
+pub(crate) fn name_of(which: Which) -> &'static str {
     match which {
         Which::Pre => "pre-patch",
         Which::Post => "post-patch",
@@ -55,17 +66,68 @@ fn name_of(which: Which) -> &'static str {
     }
 }
 
+/// A pair of callbacks that leaves a variable with another value than it had. The line of the first is 0 where the
+/// other one is told of alone.
+#[derive(Clone, Copy)]
+struct NotUndone<'a> {
+    object: &'a str,
+    pair: Pair,
+    first: u64,
+    key: ShadowKey,
+    found: Shown,
+    left: Shown,
+}
+
+impl fmt::Display for NotUndone<'_> {
+    fn fmt<W: fmt::Write>(&self, f: &mut fmt::Formatter<W>) -> fmt::Result {
+        let (done, back) = callbacks_of(self.pair);
+        let (done, back, object) = (name_of(done), name_of(back), self.object);
+        write!(
+            f,
+            "may leave a trace: {back} for {object} doesn't undo {done}"
+        )?;
+        if self.first != 0 {
+            write!(f, " of line {}", self.first)?;
+        }
+        let (key, found, left) = (self.key, self.found, self.left);
+        write!(
+            f,
+            ": the variable {} {} is {found} before, and {left} behind both",
+            key.obj, key.id
+        )
+    }
+}
+
+/// Two objects whose callbacks touch a variable. That of the first stands at this line.
+#[derive(Clone, Copy)]
+struct NotApart<'a> {
+    one: &'a str,
+    line: u64,
+    other: &'a str,
+    key: ShadowKey,
+}
+
+impl fmt::Display for NotApart<'_> {
+    fn fmt<W: fmt::Write>(&self, f: &mut fmt::Formatter<W>) -> fmt::Result {
+        let (one, line, other, key) = (self.one, self.line, self.other, self.key);
+        write!(
+            f,
+            "may leave a trace: the callbacks for {one} (line {line}) and for {other} both touch the variable {} {}",
+            key.obj, key.id
+        )
+    }
+}
+
 /// A patch of the catalog, of which klplint says whether it keeps its promises.
 #[derive(Clone, Copy)]
 pub(crate) struct LintedPatch<'a> {
-    pub(crate) catalog: CatalogText<'a>,
-    pub(crate) manager: &'a Manager,
+    pub(crate) linted: Linted<'a>,
     pub(crate) patch: &'a PlanPatch,
     pub(crate) number: usize,
 }
 
-impl LintedPatch<'_> {
-    fn line(&self, target: Option<usize>, word: Option<&[u8]>) -> u64 {
+impl<'a> LintedPatch<'a> {
+    pub(crate) fn line(&self, target: Option<usize>, word: Option<&[u8]>) -> u64 {
         self.line_behind(target, word, 0)
     }
 
@@ -82,104 +144,179 @@ impl LintedPatch<'_> {
             word,
             before,
         };
-        line_of(self.catalog.bytes, place)
+        line_of(self.linted.text.bytes, place)
     }
 
-    /// The beginning of a line that tells of the patch, at a line of the catalog.
-    pub(crate) fn begin<W: Write>(&self, line: u64, out: &mut W) -> io::Result<()> {
-        let own = self.patch;
-        let (name, patch) = (self.catalog.name, own.name.as_str());
-        write!(out, "{name}: line {line}: {patch}: ")
-    }
-
-    pub(crate) fn object(&self, place: usize) -> &str {
-        let own = self.patch;
-        match own.targets.get(place) {
-            Some(target) => self
-                .manager
-                .modules()
-                .object_name(target.object)
-                .unwrap_or(""),
+    /// The name of the object of a target.
+    pub(crate) fn object(&self, place: usize) -> &'a str {
+        match self.patch.targets.get(place) {
+            Some(target) => self.linted.object_name(target.object),
             None => "",
         }
     }
 
-    pub(crate) fn write_clean<W: Write>(&self, is_everywhere: bool, out: &mut W) -> io::Result<()> {
-        self.begin(self.line(None, None), out)?;
-        if is_everywhere {
-            writeln!(out, "leaves no trace, in any world without its variables")
-        } else {
-            writeln!(out, "leaves no trace, in this world")
+    /// Tells something of the patch, and answers how many findings that is.
+    pub(crate) fn tell<W: Write, S: fmt::Display>(
+        &self,
+        told: Told<'_>,
+        sentence: &S,
+        out: &mut W,
+    ) -> io::Result<u64> {
+        let (text, patch) = (self.linted.text, self.patch.name.as_str());
+        let (name, line) = (text.name, told.line);
+        match text.form {
+            Form::Words => writeln!(out, "{name}: line {line}: {patch}: {sentence}")?,
+            Form::Json => {
+                write_kind(told.kind, name, out)?;
+                write!(out, ",\"line\":{line},\"patch\":\"{patch}\"")?;
+                write_about(told, self.linted.patches, out)?;
+                writeln!(out, ",\"sentence\":\"{sentence}\"}}")?;
+            }
         }
+        Ok(u64::from(told.kind.is_finding()))
+    }
+
+    /// Tells something of the patch as a whole.
+    pub(crate) fn tell_whole<W: Write, S: fmt::Display>(
+        &self,
+        kind: Kind,
+        sentence: &S,
+        out: &mut W,
+    ) -> io::Result<u64> {
+        self.tell(Told::at(kind, self.line(None, None)), sentence, out)
+    }
+
+    pub(crate) fn tell_clean<W: Write>(&self, is_everywhere: bool, out: &mut W) -> io::Result<u64> {
+        let sentence = if is_everywhere {
+            "leaves no trace, in any world without its variables"
+        } else {
+            "leaves no trace, in this world"
+        };
+        self.tell_whole(Kind::Clean, &sentence, out)
     }
 
     /// Tells a premise that fails.
-    pub(crate) fn write_failing<W: Write>(&self, premise: Premise, out: &mut W) -> io::Result<()> {
+    pub(crate) fn tell_failing<W: Write>(
+        &self,
+        manager: &Manager,
+        premise: Premise,
+        out: &mut W,
+    ) -> io::Result<u64> {
         match premise {
-            Premise::Moving => self.write_not_judged("a patch is in transition", out),
-            Premise::Installed => self.write_not_judged("it is installed", out),
-            Premise::NotUndone { place, pair, key } => self.write_not_undone(place, pair, key, out),
+            Premise::Moving => self.tell_not_judged("a patch is in transition", out),
+            Premise::Installed => self.tell_not_judged("it is installed", out),
+            Premise::NotUndone { place, pair, key } => {
+                let was = manager.shadow_get(key);
+                self.tell_not_undone(place, pair, key, was, out)
+            }
             Premise::NotApart { first, second, key } => {
-                self.begin(self.line(Some(second), None), out)?;
-                let (one, other) = (self.object(first), self.object(second));
                 let line = self.line(Some(first), None);
-                writeln!(
+                let (one, other) = (self.object(first), self.object(second));
+                let told = Told {
+                    object: Some(other),
+                    key: Some(key),
+                    ..Told::at(Kind::NotApart, self.line(Some(second), None))
+                };
+                self.tell(
+                    told,
+                    &NotApart {
+                        one,
+                        line,
+                        other,
+                        key,
+                    },
                     out,
-                    "may leave a trace: the callbacks for {one} (line {line}) and for {other} both touch the variable {} {}",
-                    key.obj, key.id
                 )
             }
         }
     }
 
-    fn write_not_judged<W: Write>(&self, why: &str, out: &mut W) -> io::Result<()> {
-        self.begin(self.line(None, None), out)?;
-        writeln!(out, "not judged: {why}")
+    fn tell_not_judged<W: Write>(&self, why: &str, out: &mut W) -> io::Result<u64> {
+        self.tell_whole(Kind::NotJudged, &NotJudged(why), out)
     }
 
-    fn write_not_undone<W: Write>(
+    fn tell_not_undone<W: Write>(
         &self,
         place: usize,
         pair: Pair,
         key: ShadowKey,
+        was: Option<ShadowValue>,
         out: &mut W,
-    ) -> io::Result<()> {
+    ) -> io::Result<u64> {
         let (done, back) = callbacks_of(pair);
         let first = self.line(Some(place), Some(word_of(done)));
         let second = self.line(Some(place), Some(word_of(back)));
-        let line = if second == 0 { first } else { second };
-        self.begin(line, out)?;
-        let (done, back) = (name_of(done), name_of(back));
-        let object = self.object(place);
-        write!(
-            out,
-            "may leave a trace: {back} for {object} doesn't undo {done}"
-        )?;
-        if second != 0 && first != 0 {
-            write!(out, " of line {first}")?;
-        }
-        let own = self.patch;
-        match own.targets.get(place) {
-            Some(target) => self.write_values(target, pair, key, out),
-            None => writeln!(out),
+        let Some(target) = self.patch.targets.get(place) else {
+            return Ok(0);
+        };
+        let PlanTarget { callbacks, .. } = target;
+        let sentence = NotUndone {
+            object: self.object(place),
+            pair,
+            first: if second == 0 { 0 } else { first },
+            key,
+            found: Shown(found_by(callbacks, pair, key, was)),
+            left: Shown(left_behind(callbacks, pair, key, was)),
+        };
+        let told = Told {
+            object: Some(sentence.object),
+            key: Some(key),
+            ..Told::at(Kind::NotUndone, if second == 0 { first } else { second })
+        };
+        self.tell(told, &sentence, out)
+    }
+}
+
+/// Why a patch isn't judged.
+#[derive(Clone, Copy)]
+struct NotJudged<'a>(&'a str);
+
+impl fmt::Display for NotJudged<'_> {
+    fn fmt<W: fmt::Write>(&self, f: &mut fmt::Formatter<W>) -> fmt::Result {
+        write!(f, "not judged: {}", self.0)
+    }
+}
+
+impl<'a> Linted<'a> {
+    /// The patch of this number. `None` if there is none.
+    pub(crate) fn patch(&self, patch: PatchId) -> Option<LintedPatch<'a>> {
+        let number = usize::from(patch.0);
+        let own = self.patches.get(number)?;
+        Some(LintedPatch {
+            linted: *self,
+            patch: own,
+            number,
+        })
+    }
+
+    pub(crate) fn object_name(&self, object: ObjId) -> &'a str {
+        match self.objects.get(usize::from(object.0)) {
+            Some(found) => found.name.as_str(),
+            None => "",
         }
     }
 
-    fn write_values<W: Write>(
+    /// Tells something of all patches together, and of these above all.
+    pub(crate) fn tell<W: Write, S: fmt::Display>(
         &self,
-        target: &PlanTarget,
-        pair: Pair,
-        key: ShadowKey,
+        sentence: &S,
+        others: &[PatchId],
         out: &mut W,
-    ) -> io::Result<()> {
-        let (callbacks, manager) = (&target.callbacks, self.manager);
-        let found = Shown(found_by(callbacks, pair, key, manager.shadow_get(key)));
-        let left = Shown(left_behind(callbacks, pair, key, manager.shadow_get(key)));
-        writeln!(
-            out,
-            ": the variable {} {} is {found} before, and {left} behind both",
-            key.obj, key.id
-        )
+    ) -> io::Result<u64> {
+        let name = self.text.name;
+        match self.text.form {
+            Form::Words => writeln!(out, "{name}: {sentence}")?,
+            Form::Json => {
+                write_kind(Kind::Together, name, out)?;
+                let told = Told {
+                    others,
+                    ..Told::at(Kind::Together, 0)
+                };
+                write_about(told, self.patches, out)?;
+                writeln!(out, ",\"sentence\":\"{sentence}\"}}")?;
+            }
+        }
+        Ok(0)
     }
 }
 

@@ -1,0 +1,104 @@
+//! Which system state keeps a patch from being loaded over others.
+
+use crate::told::name_of_patch;
+use arrayvec::ArrayVec;
+use klp_catalog_text::{PlanPatch, SystemState};
+use klp_types::{MAX_PATCHES, PatchId};
+use std::fmt;
+
+/// A system state of an installed patch that another patch doesn't name, or names in a lower version.
+#[derive(Clone, Copy)]
+pub(crate) struct Conflict<'a> {
+    pub(crate) id: u64,
+    /// The version of the installed patch.
+    there: u32,
+    installed: &'a str,
+    /// The version of the other one.
+    own: Option<u32>,
+    /// Which of its states that is.
+    pub(crate) place: Option<usize>,
+}
+
+impl fmt::Display for Conflict<'_> {
+    fn fmt<W: fmt::Write>(&self, f: &mut fmt::Formatter<W>) -> fmt::Result {
+        let (id, there, installed) = (self.id, self.there, self.installed);
+        match self.own {
+            Some(own) => write!(
+                f,
+                "it has the system state {id} in version {own}, and {installed} in version {there}"
+            ),
+            None => write!(
+                f,
+                "it is cumulative and doesn't name the system state {id} of {installed}"
+            ),
+        }
+    }
+}
+
+/// The patches that are installed behind the loading of others: a cumulative one takes out the older ones.
+fn standing(
+    patches: &[PlanPatch],
+    installed: &[PatchId],
+    below: &[PatchId],
+) -> ArrayVec<PatchId, MAX_PATCHES> {
+    let mut standing = ArrayVec::new();
+    let _ = standing.try_extend_from_slice(installed);
+    for patch in below {
+        let replaces = match patches.get(usize::from(patch.0)) {
+            Some(found) => found.replace,
+            None => false,
+        };
+        if replaces {
+            standing.clear();
+        }
+        let _ = standing.try_push(*patch);
+    }
+    standing
+}
+
+/// What keeps a patch from standing beside this state of another one.
+fn conflict_of<'a>(
+    own: &PlanPatch,
+    state: &SystemState,
+    installed: &'a str,
+) -> Option<Conflict<'a>> {
+    let place = own.states.iter().position(|it| it.id == state.id);
+    let version = match place {
+        Some(found) => own.states.get(found).map(|it| it.version),
+        None => None,
+    };
+    let fits = match version {
+        Some(version) => state.version <= version,
+        None => !own.replace,
+    };
+    if fits {
+        return None;
+    }
+    Some(Conflict {
+        id: state.id,
+        there: state.version,
+        installed,
+        own: version,
+        place,
+    })
+}
+
+/// The first system state that keeps a patch from being loaded where these patches are installed, and those of `below`
+/// are loaded over them.
+pub(crate) fn conflict_with<'a>(
+    patches: &'a [PlanPatch],
+    installed: &[PatchId],
+    below: &[PatchId],
+    patch: PatchId,
+) -> Option<Conflict<'a>> {
+    let own = patches.get(usize::from(patch.0))?;
+    for there in standing(patches, installed, below).as_slice() {
+        let other = patches.get(usize::from(there.0))?;
+        for state in other.states.iter() {
+            if let Some(conflict) = conflict_of(own, state, name_of_patch(patches, *there)) {
+                return Some(conflict);
+            }
+        }
+    }
+    None
+}

@@ -1,0 +1,220 @@
+//! What of a patch is near a limit, or can't be told from another patch.
+
+use crate::scripts::{count_added, count_all_added};
+use crate::told::{Kind, Told, name_of_patch};
+use crate::words::{LintedPatch, patch_id};
+use klp_catalog_text::{PlanCallback, PlanFunction, PlanPatch, PlanTarget};
+use klp_types::{ENTRY_SITE_LEN, MAX_VARIABLES, ObjectText, PatchId, SymbolText, Which};
+use std::io::Write;
+use std::{fmt, io};
+
+/// How far a call reaches: 2 GiB.
+const REACH: u64 = 0x8000_0000;
+
+/// How near to that a call is told of: 1 MiB.
+const NEAR: u64 = 0x10_0000;
+
+/// The instruction in front of an entry site, where a kernel tracks indirect branches.
+const ENDBR64: [u8; 4] = [0xf3, 0x0f, 0x1e, 0xfa];
+
+/// The symbol that a function replaces. `None` if its name and position pick none.
+fn picked<'a>(object: &'a ObjectText, function: &PlanFunction) -> Option<&'a SymbolText> {
+    let before = (function.sympos as usize).saturating_sub(1);
+    let mut same = 0usize;
+    for symbol in object.symbols.iter() {
+        if symbol.name.as_str() == function.symbol.as_str() {
+            if same == before {
+                return Some(symbol);
+            }
+            same = same.saturating_add(1);
+        }
+    }
+    None
+}
+
+/// How many bytes the call at a symbol's entry site could be farther from the handler.
+fn left_at(handler: u64, symbol: &SymbolText) -> u64 {
+    let offset = if symbol.body.as_slice().starts_with(&ENDBR64) {
+        ENDBR64.len()
+    } else {
+        0
+    };
+    let behind = symbol
+        .address
+        .saturating_add(offset as u64)
+        .saturating_add(ENTRY_SITE_LEN as u64);
+    REACH.saturating_sub(handler.abs_diff(behind))
+}
+
+/// A function whose call of the handler is near the limit.
+#[derive(Clone, Copy)]
+struct NearLimit<'a> {
+    object: &'a str,
+    symbol: &'a str,
+    left: u64,
+}
+
+impl fmt::Display for NearLimit<'_> {
+    fn fmt<W: fmt::Write>(&self, f: &mut fmt::Formatter<W>) -> fmt::Result {
+        let (object, symbol, left) = (self.object, self.symbol, self.left);
+        write!(
+            f,
+            "is near a limit: the call of the handler at {symbol} of {object} is {left} bytes short of 2 GiB"
+        )
+    }
+}
+
+fn tell_near_in<W: Write>(
+    own: &LintedPatch<'_>,
+    place: usize,
+    target: &PlanTarget,
+    out: &mut W,
+) -> io::Result<u64> {
+    let mut count = 0u64;
+    let Some(object) = own.linted.objects.get(usize::from(target.object.0)) else {
+        return Ok(0);
+    };
+    for (before, function) in target.functions.iter().enumerate() {
+        let left = match picked(object, function) {
+            Some(symbol) => left_at(own.linted.handler, symbol),
+            None => NEAR,
+        };
+        if left < NEAR {
+            let line = own.line_behind(Some(place), Some(b"func"), before);
+            let near = NearLimit {
+                object: object.name.as_str(),
+                symbol: function.symbol.as_str(),
+                left,
+            };
+            let told = Told {
+                object: Some(near.object),
+                ..Told::at(Kind::NearLimit, line)
+            };
+            count = count.saturating_add(own.tell(told, &near, out)?);
+        }
+    }
+    Ok(count)
+}
+
+/// Tells the functions of a patch whose call of the handler is near the limit.
+pub(crate) fn tell_near<W: Write>(own: &LintedPatch<'_>, out: &mut W) -> io::Result<u64> {
+    let mut count = 0u64;
+    for (place, target) in own.patch.targets.iter().enumerate() {
+        count = count.saturating_add(tell_near_in(own, place, target, out)?);
+    }
+    Ok(count)
+}
+
+/// Callbacks for which there may be no room.
+#[derive(Clone, Copy)]
+struct NoRoom {
+    own: usize,
+    all: usize,
+}
+
+impl fmt::Display for NoRoom {
+    fn fmt<W: fmt::Write>(&self, f: &mut fmt::Formatter<W>) -> fmt::Result {
+        let (own, all) = (self.own, self.all);
+        write!(
+            f,
+            "may be refused as Full: it asks room for {own} variables, all callbacks add up to {all}"
+        )?;
+        write!(f, ", and there are {MAX_VARIABLES}")
+    }
+}
+
+/// How many variables a patch asks room for when it is enabled.
+fn count_wanted(patch: &PlanPatch) -> usize {
+    let mut count = 0usize;
+    for target in patch.targets.iter() {
+        for callback in target.callbacks.iter() {
+            if callback.which == Which::Pre || callback.which == Which::PostUn {
+                count = count.saturating_add(count_added(callback));
+            }
+        }
+    }
+    count
+}
+
+/// Tells whether the callbacks of a patch may find no room, where all that the catalog's callbacks add is there.
+pub(crate) fn tell_room<W: Write>(own: &LintedPatch<'_>, out: &mut W) -> io::Result<u64> {
+    let mut all = 0usize;
+    for patch in own.linted.patches {
+        all = all.saturating_add(count_all_added(patch));
+    }
+    let wanted = count_wanted(own.patch);
+    if wanted == 0 || all <= MAX_VARIABLES {
+        return Ok(0);
+    }
+    own.tell_whole(Kind::Room, &NoRoom { own: wanted, all }, out)
+}
+
+fn is_same_function(one: &PlanFunction, other: &PlanFunction) -> bool {
+    one.symbol.as_str() == other.symbol.as_str() && one.sympos == other.sympos
+}
+
+fn is_same_callback(one: &PlanCallback, other: &PlanCallback) -> bool {
+    one.which == other.which
+        && one.script.status == other.script.status
+        && one.script.edits.as_slice() == other.script.edits.as_slice()
+}
+
+fn is_same_target(one: &PlanTarget, other: &PlanTarget) -> bool {
+    one.object == other.object
+        && one.functions.len() == other.functions.len()
+        && one.functions.iter().all(|own| other
+            .functions
+            .iter()
+            .any(|it| is_same_function(own, it)))
+        && one.callbacks.len() == other.callbacks.len()
+        && one.callbacks.iter().all(|own| other
+            .callbacks
+            .iter()
+            .any(|it| is_same_callback(own, it)))
+}
+
+fn is_alike(one: &PlanPatch, other: &PlanPatch) -> bool {
+    one.replace == other.replace
+        && one.targets.len() == other.targets.len()
+        && one.targets.iter().all(|own| other.targets.iter().any(|it| is_same_target(own, it)))
+        && one.states.len() == other.states.len()
+        && one.states.iter().all(|own| {
+            other
+                .states
+                .iter()
+                .any(|it| it.id == own.id && it.version == own.version)
+        })
+}
+
+/// A patch that an older one is like.
+#[derive(Clone, Copy)]
+struct Alike<'a>(&'a str);
+
+impl fmt::Display for Alike<'_> {
+    fn fmt<W: fmt::Write>(&self, f: &mut fmt::Formatter<W>) -> fmt::Result {
+        let older = self.0;
+        write!(
+            f,
+            "can't be told from {older}: it has the same functions, callbacks, system states and versions"
+        )
+    }
+}
+
+/// Tells the first older patch from which nothing distinguishes this one.
+pub(crate) fn tell_alike<W: Write>(own: &LintedPatch<'_>, out: &mut W) -> io::Result<u64> {
+    let patches = own.linted.patches;
+    for (number, older) in patches.iter().enumerate() {
+        if number >= own.number {
+            break;
+        }
+        if is_alike(own.patch, older) {
+            let others: [PatchId; 1] = [patch_id(number)];
+            let told = Told {
+                others: &others,
+                ..Told::at(Kind::Alike, own.line(None, None))
+            };
+            return own.tell(told, &Alike(name_of_patch(patches, patch_id(number))), out);
+        }
+    }
+    Ok(0)
+}

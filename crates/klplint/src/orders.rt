@@ -1,0 +1,184 @@
+//! In which orders all patches can be loaded.
+ghost use Rattle.std.specs.Prelude.{◌≡◌};
+ghost use Rattle.klp_core.specs.Journaled.{IsWellFormed};
+
+use crate::together::{Order, stands_over};
+use crate::told::Names;
+use klp_catalog_text::PlanPatch;
+use klp_core::Manager;
+use klp_model::{Event, Reply};
+use klp_types::PatchId;
+use std::fmt;
+
+/// How many times a patch is loaded at most. All orders of six patches take 1,956 loadings.
+const MAX_LOADINGS: u32 = 2000;
+
+/// How many steps that takes at most: each loads a patch, passes one over that is loaded, or goes back.
+const MAX_STEPS: u32 = 40_000;
+
+/// How many events load a patch: it is enabled, and a poll completes its transition.
+const LOADING: u32 = 2;
+
+/// How many orders there are in which each of some patches is loaded over those before it, the first such order, and
+/// whether all orders were tried.
+#[derive(Drop)]
+pub(crate) struct Orders<'a> {
+    patches: &'a [PlanPatch],
+    standing: usize,
+    found: u64,
+    pub(crate) first: Order,
+    is_cut_off: bool,
+}
+
+impl fmt::Display for Orders<'_> {
+    fn fmt<W: fmt::Write>(&self, f: &mut fmt::Formatter<W>) -> fmt::Result {
+        let (standing, found) = (self.standing, self.found);
+        let orders = if found == 1 { "order" } else { "orders" };
+        let more = if self.is_cut_off { " or more" } else { "" };
+        write!(
+            f,
+            "all {standing} that stand alone are loaded in {found} {orders}{more}"
+        )?;
+        if found != 0 {
+            let first = Names {
+                patches: self.patches,
+                named: self.first.as_slice(),
+            };
+            write!(f, ", such as {first}")?;
+        }
+        if self.is_cut_off {
+            write!(f, ": the search was cut off after {MAX_LOADINGS} loadings")?;
+        }
+        Ok(())
+    }
+}
+
+/// Loads a patch, and answers whether its transition completes. If it doesn't all is as before.
+fn load(manager: &mut Manager, patch: PatchId) -> bool
+    requires { IsWellFormed manager.old }
+{
+    let mark = manager.mark();
+    let stands = manager.apply(Event::Enable(patch)).is_ok()
+        && matches!(manager.apply(Event::Poll), Ok(Reply::Completed(_)));
+    if !stands {
+        let _ = manager.rewind(mark);
+    }
+    stands
+}
+
+/// Takes back all events but so many.
+fn take_back(manager: &mut Manager, mark: u32)
+    requires { IsWellFormed manager.old }
+{
+    let _ = manager.rewind(mark);
+}
+
+/// The beginning of an order, whose patches are loaded, and the place of the patch that is tried next among those that
+/// aren't installed.
+#[derive(Drop)]
+struct Search {
+    mark: u32,
+    order: Order,
+    next: usize,
+    loadings: u32,
+    found: u64,
+    first: Order,
+}
+
+impl Search {
+    /// Takes the last patch out again. Whether there was one.
+    fn step_back(&mut self, manager: &mut Manager, free: &[PatchId]) -> bool {
+        let Some(last) = self.order.pop() else {
+            return false;
+        };
+        let loaded = u32::try_from(self.order.len()).unwrap_or(0);
+        let mark = self.mark.saturating_add(loaded.saturating_mul(LOADING));
+        let _for_its_clause = manager.mark();
+        take_back(manager, mark);
+        let place = free.iter().position(|it| *it == last).unwrap_or(0);
+        self.next = place.saturating_add(1);
+        true
+    }
+
+    /// Does one step. Whether there is another one.
+    fn step(&mut self, manager: &mut Manager, free: &[PatchId]) -> bool {
+        let Some(patch) = free.get(self.next) else {
+            return self.step_back(manager, free);
+        };
+        self.next = self.next.saturating_add(1);
+        if self.order.as_slice().contains(patch) {
+            return true;
+        }
+        self.loadings = self.loadings.saturating_add(1);
+        let _for_its_clause = manager.mark();
+        if load(manager, *patch) {
+            let _ = self.order.try_push(*patch);
+            self.next = 0;
+        }
+        if self.order.len() == free.len() {
+            if self.found == 0 {
+                let _ = self.first.try_extend_from_slice(self.order.as_slice());
+            }
+            self.found = self.found.saturating_add(1);
+            return self.step_back(manager, free);
+        }
+        true
+    }
+}
+
+/// Does steps until there are no more. Whether there are too many loadings.
+fn search_all(search: &mut Search, manager: &mut Manager, free: &[PatchId]) -> bool {
+    for _ in 0..MAX_STEPS {
+        if search.loadings == MAX_LOADINGS {
+            return true;
+        }
+        if !search.step(manager, free) {
+            return false;
+        }
+    }
+    true
+}
+
+/// Those of these patches that are loaded alone, so that their transition completes.
+fn standing_alone(manager: &mut Manager, free: &Order) -> Order {
+    let mut standing = Order::new();
+    for patch in free.as_slice() {
+        if stands_over(manager, &[], *patch) {
+            let _ = standing.try_push(*patch);
+        }
+    }
+    standing
+}
+
+/// Loads those of these patches that stand alone in one order after another, and counts the orders in which each is
+/// loaded and its transition completes. `None` if there are fewer than two.
+pub(crate) fn count_orders<'a>(
+    patches: &'a [PlanPatch],
+    manager: &mut Manager,
+    free: &Order,
+) -> Option<Orders<'a>> {
+    let standing = standing_alone(manager, free);
+    if standing.len() < 2 {
+        return None;
+    }
+    let mark = manager.mark();
+    let mut search = Search {
+        mark,
+        order: Order::new(),
+        next: 0,
+        loadings: 0,
+        found: 0,
+        first: Order::new(),
+    };
+    let is_cut_off = search_all(&mut search, manager, standing.as_slice());
+    let _for_its_clause = manager.mark();
+    take_back(manager, mark);
+    let Search { found, first, .. } = search;
+    Some(Orders {
+        patches,
+        standing: standing.len(),
+        found,
+        first,
+        is_cut_off,
+    })
+}

@@ -1,0 +1,208 @@
+//! What a cumulative patch does to those that it takes out.
+ghost use Rattle.std.specs.Prelude.{◌≡◌};
+ghost use Rattle.klp_core.specs.Journaled.{IsWellFormed};
+
+use crate::idle::names;
+use crate::scripts::{Change, change_of, keys_added};
+use crate::together::{End, Loading, Order, end_of, events_for, stands_over};
+use crate::told::{Kind, Names, Told, name_of_patch};
+use crate::words::{LintedPatch, patch_id};
+use klp_catalog_text::PlanPatch;
+use klp_core::Manager;
+use klp_lint::value_behind;
+use klp_model::Event;
+use klp_types::{PatchId, ShadowKey, ShadowValue};
+use std::io::Write;
+use std::{fmt, io};
+
+/// Which patches a cumulative one takes out, and which system states of theirs it takes over.
+#[derive(Clone, Copy)]
+struct TakesOut<'a> {
+    patch: &'a PlanPatch,
+    gone: Names<'a>,
+}
+
+impl fmt::Display for TakesOut<'_> {
+    fn fmt<W: fmt::Write>(&self, f: &mut fmt::Formatter<W>) -> fmt::Result {
+        let gone = self.gone;
+        write!(f, "takes out {gone}")?;
+        let mut between = ", and takes over the system state ";
+        for other in gone.named {
+            if let Some(found) = gone.patches.get(usize::from(other.0)) {
+                for state in found.states.iter() {
+                    if change_of(self.patch, state.id) == Change::TakesOver {
+                        let (id, name) = (state.id, found.name.as_str());
+                        write!(f, "{between}{id} of {name}")?;
+                        between = ", ";
+                    }
+                }
+            }
+        }
+        Ok(())
+    }
+}
+
+/// A system state whose value goes with the patch that is taken out.
+#[derive(Clone, Copy)]
+struct ForgetsState<'a> {
+    id: u64,
+    other: &'a str,
+}
+
+impl fmt::Display for ForgetsState<'_> {
+    fn fmt<W: fmt::Write>(&self, f: &mut fmt::Formatter<W>) -> fmt::Result {
+        let (id, other) = (self.id, self.other);
+        write!(
+            f,
+            "forgets the system state {id} of {other}, which it takes out: no callback takes the value over"
+        )
+    }
+}
+
+/// A variable of a patch that is taken out, which is there for good.
+#[derive(Clone, Copy)]
+struct LeavesVariable<'a> {
+    key: ShadowKey,
+    other: &'a str,
+}
+
+impl fmt::Display for LeavesVariable<'_> {
+    fn fmt<W: fmt::Write>(&self, f: &mut fmt::Formatter<W>) -> fmt::Result {
+        let (key, other) = (self.key, self.other);
+        write!(
+            f,
+            "takes out {other}, and then nobody frees the variable {} {} that {other} adds",
+            key.obj, key.id
+        )
+    }
+}
+
+/// Asks a manager which value a variable would have behind events.
+fn value_of(manager: &mut Manager, events: &[Event], key: ShadowKey) -> Option<ShadowValue>
+    requires { IsWellFormed manager.old }
+{
+    value_behind(manager, events, key)
+}
+
+/// The patches that are loaded, and then taken out by this one.
+fn taken_out(own: &LintedPatch<'_>, manager: &mut Manager, free: &Order) -> Order {
+    let patch = patch_id(own.number);
+    let mut gone = manager.installed();
+    if !stands_over(manager, &[], patch) {
+        gone.clear();
+    }
+    for below in free.as_slice() {
+        if *below != patch
+            && stands_over(manager, &[], *below)
+            && stands_over(manager, &[*below], patch)
+        {
+            let _ = gone.try_push(*below);
+        }
+    }
+    gone
+}
+
+/// Tells the system states of a patch that is taken out whose values go with it.
+fn tell_forgotten<W: Write>(own: &LintedPatch<'_>, other: PatchId, out: &mut W) -> io::Result<u64> {
+    let mut count = 0u64;
+    let Some(gone) = own.linted.patch(other) else {
+        return Ok(0);
+    };
+    for state in gone.patch.states.iter() {
+        let id = state.id;
+        if change_of(gone.patch, id) != Change::Nothing
+            && names(own.patch, id)
+            && change_of(own.patch, id) == Change::Nothing
+        {
+            let place = own.patch.states.iter().position(|it| it.id == id);
+            let line = own.line_behind(None, Some(b"state"), place.unwrap_or(0));
+            let others = [other];
+            let told = Told {
+                state: Some(id),
+                others: &others,
+                ..Told::at(Kind::ForgetsState, line)
+            };
+            let other = gone.patch.name.as_str();
+            count = count.saturating_add(own.tell(told, &ForgetsState { id, other }, out)?);
+        }
+    }
+    Ok(count)
+}
+
+/// The events that load a patch, and this one over it, and then withdraw this one, but for the last poll.
+fn replacing(below: PatchId, patch: PatchId) -> Loading {
+    let mut events = events_for(&[below, patch]);
+    events.push(Event::SetEnabled(patch, false));
+    events
+}
+
+/// Tells the variables of a patch that is taken out which are still there once this one is gone too.
+fn tell_left<W: Write>(
+    own: &LintedPatch<'_>,
+    manager: &mut Manager,
+    below: PatchId,
+    out: &mut W,
+) -> io::Result<u64> {
+    let Some(gone) = own.linted.patch(below) else {
+        return Ok(0);
+    };
+    let mut events = replacing(below, patch_id(own.number));
+    if end_of(manager, events.events()) != End::Completed {
+        return Ok(0);
+    }
+    events.push(Event::Poll);
+    let others = [below];
+    let mut count = 0u64;
+    for key in keys_added(gone.patch).as_slice() {
+        let was = manager.shadow_get(*key);
+        let _for_its_clause = manager.mark();
+        let is = value_of(manager, events.events(), *key);
+        if was.is_none() && is.is_some() {
+            let told = Told {
+                key: Some(*key),
+                others: &others,
+                ..Told::at(Kind::LeavesVariable, own.line(None, None))
+            };
+            let other = name_of_patch(own.linted.patches, below);
+            let leaves = LeavesVariable { key: *key, other };
+            count = count.saturating_add(own.tell(told, &leaves, out)?);
+        }
+    }
+    Ok(count)
+}
+
+/// Tells of a cumulative patch what it takes out, and what of that stays behind.
+pub(crate) fn tell_replacing<W: Write>(
+    own: &LintedPatch<'_>,
+    manager: &mut Manager,
+    free: &Order,
+    out: &mut W,
+) -> io::Result<u64> {
+    let mut count = 0u64;
+    if !own.patch.replace {
+        return Ok(0);
+    }
+    let gone = taken_out(own, manager, free);
+    if gone.is_empty() {
+        return Ok(0);
+    }
+    let told = Told {
+        others: gone.as_slice(),
+        ..Told::at(Kind::TakesOut, own.line(None, None))
+    };
+    let takes_out = TakesOut {
+        patch: own.patch,
+        gone: Names {
+            patches: own.linted.patches,
+            named: gone.as_slice(),
+        },
+    };
+    count = count.saturating_add(own.tell(told, &takes_out, out)?);
+    for other in gone.as_slice() {
+        count = count.saturating_add(tell_forgotten(own, *other, out)?);
+        if free.as_slice().contains(other) {
+            count = count.saturating_add(tell_left(own, manager, *other, out)?);
+        }
+    }
+    Ok(count)
+}

@@ -1,0 +1,99 @@
+//! What the scripts of a patch change.
+
+use arrayvec::ArrayVec;
+use klp_catalog_text::{PlanCallback, PlanPatch};
+use klp_types::{Edit, MAX_EDITS, MAX_TARGETS, ShadowKey, Which};
+
+/// How many variables the callbacks of a patch can add while it comes.
+const MAX_ADDED: usize = 2 * MAX_TARGETS * MAX_EDITS;
+
+/// The edits that a callback makes: none if its status isn't 0.
+pub(crate) fn edits_made(callback: &PlanCallback) -> &[Edit] {
+    if callback.script.status == 0 {
+        callback.script.edits.as_slice()
+    } else {
+        &[]
+    }
+}
+
+/// Whether the callback runs while its patch comes.
+pub(crate) fn is_coming(which: Which) -> bool {
+    which == Which::Pre || which == Which::Post
+}
+
+/// How many variables a callback adds at most.
+pub(crate) fn count_added(callback: &PlanCallback) -> usize {
+    edits_made(callback)
+        .iter()
+        .filter(|edit| matches!(**edit, Edit::Alloc(_, _)))
+        .count()
+}
+
+/// How many variables all callbacks of a patch add at most.
+pub(crate) fn count_all_added(patch: &PlanPatch) -> usize {
+    let mut count = 0usize;
+    for target in patch.targets.iter() {
+        for callback in target.callbacks.iter() {
+            count = count.saturating_add(count_added(callback));
+        }
+    }
+    count
+}
+
+/// The variables that a patch may add while it comes, each once.
+pub(crate) fn keys_added(patch: &PlanPatch) -> ArrayVec<ShadowKey, MAX_ADDED> {
+    let mut keys = ArrayVec::new();
+    for target in patch.targets.iter() {
+        for callback in target.callbacks.iter() {
+            if is_coming(callback.which) {
+                for edit in edits_made(callback) {
+                    add_key(&mut keys, edit);
+                }
+            }
+        }
+    }
+    keys
+}
+
+fn add_key(keys: &mut ArrayVec<ShadowKey, MAX_ADDED>, edit: &Edit) {
+    if let Edit::Alloc(key, _) = *edit {
+        if !keys.as_slice().contains(&key) {
+            let _ = keys.try_push(key);
+        }
+    }
+}
+
+/// What the edits of a patch do with a system state of its own.
+#[derive(Clone, Copy, PartialEq, Eq)]
+pub(crate) enum Change {
+    Nothing,
+    Sets,
+    TakesOver,
+}
+
+fn change_by(id: u64, edit: &Edit) -> Change {
+    match *edit {
+        Edit::SetData(own, _) if own == id => Change::Sets,
+        Edit::TakePrev(own) if own == id => Change::TakesOver,
+        _ => Change::Nothing,
+    }
+}
+
+/// What the callbacks of a patch do with this system state while the patch comes. One that takes the value over counts
+/// before one that sets it.
+pub(crate) fn change_of(patch: &PlanPatch, id: u64) -> Change {
+    let mut change = Change::Nothing;
+    for target in patch.targets.iter() {
+        for callback in target.callbacks.iter() {
+            if is_coming(callback.which) {
+                for edit in edits_made(callback) {
+                    let own = change_by(id, edit);
+                    if own == Change::TakesOver || change == Change::Nothing {
+                        change = own;
+                    }
+                }
+            }
+        }
+    }
+    change
+}

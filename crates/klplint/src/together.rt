@@ -1,0 +1,492 @@
+//! What becomes of patches that are loaded over others: each alone, over another one, and over two.
+ghost use Rattle.std.specs.Prelude.{◌≡◌};
+ghost use Rattle.klp_core.specs.Journaled.{IsWellFormed};
+
+use crate::conflict::{Conflict, conflict_with};
+use crate::orders::{Orders, count_orders};
+use crate::place::word_of;
+use crate::replacing::tell_replacing;
+use crate::told::{Kind, Names, Told};
+use crate::words::{Linted, LintedPatch, patch_id};
+use arrayvec::ArrayVec;
+use klp_core::Manager;
+use klp_lint::reply_behind;
+use klp_model::{Event, Refusal, Reply};
+use klp_types::{MAX_PATCHES, ObjId, PatchId, Which};
+use std::io::Write;
+use std::{fmt, io};
+
+/// How many events load all patches, each with a poll, and one more event twice.
+pub(crate) const MAX_LOADING: usize = 2 * MAX_PATCHES + 4;
+
+/// Patches in the order in which they are loaded.
+pub(crate) type Order = ArrayVec<PatchId, MAX_PATCHES>;
+
+/// Events that load patches.
+#[derive(Drop)]
+pub(crate) struct Loading {
+    events: [Event; MAX_LOADING],
+    len: usize,
+}
+
+impl Loading {
+    /// Adds an event. Nothing happens if there are as many as all patches need.
+    pub(crate) fn push(&mut self, event: Event) {
+        if let Some(place) = self.events.get_mut(self.len) {
+            *place = event;
+            self.len = self.len.saturating_add(1);
+        }
+    }
+
+    pub(crate) fn events(&self) -> &[Event] {
+        self.events.get(..self.len).unwrap_or(&[])
+    }
+}
+
+/// What comes of loading a patch.
+#[derive(Clone, Copy, PartialEq, Eq)]
+pub(crate) enum Outcome {
+    Started,
+    Failed { object: ObjId, status: i32 },
+    Incompatible,
+    NoSymbol,
+    Full,
+    Refused,
+}
+
+/// What comes of the transition of a patch that is loaded.
+#[derive(Clone, Copy, PartialEq, Eq)]
+pub(crate) enum End {
+    Completed,
+    Pending(u8),
+    Full,
+    Other,
+}
+
+/// Asks a manager what it would answer behind events.
+fn reply_to(manager: &mut Manager, events: &[Event], event: &Event) -> Result<Reply, Refusal>
+    requires { IsWellFormed manager.old }
+{
+    reply_behind(manager, events, event)
+}
+
+/// The events that load these patches, one after another, each until its transition completes.
+pub(crate) fn events_for(below: &[PatchId]) -> Loading {
+    let mut loading = Loading {
+        events: [Event::Poll; MAX_LOADING],
+        len: 0,
+    };
+    for patch in below {
+        loading.push(Event::Enable(*patch));
+        loading.push(Event::Poll);
+    }
+    loading
+}
+
+/// What comes of loading a patch over these.
+pub(crate) fn outcome_over(manager: &mut Manager, below: &[PatchId], patch: PatchId) -> Outcome {
+    let _for_its_clause = manager.mark();
+    match reply_to(manager, events_for(below).events(), &Event::Enable(patch)) {
+        Ok(Reply::PreFailed(_, object, status)) => Outcome::Failed { object, status },
+        Ok(_) => Outcome::Started,
+        Err(Refusal::Incompatible) => Outcome::Incompatible,
+        Err(Refusal::NoSymbol) => Outcome::NoSymbol,
+        Err(Refusal::Full) => Outcome::Full,
+        Err(_) => Outcome::Refused,
+    }
+}
+
+/// What the last of these events, which is a poll, comes to.
+pub(crate) fn end_of(manager: &mut Manager, events: &[Event]) -> End {
+    let _for_its_clause = manager.mark();
+    match reply_to(manager, events, &Event::Poll) {
+        Ok(Reply::Completed(_)) => End::Completed,
+        Ok(Reply::Pending(count)) => End::Pending(count),
+        Err(Refusal::Full) => End::Full,
+        _ => End::Other,
+    }
+}
+
+/// What comes of the transition of a patch that is loaded over these.
+pub(crate) fn end_over(manager: &mut Manager, below: &[PatchId], patch: PatchId) -> End {
+    let mut events = events_for(below);
+    events.push(Event::Enable(patch));
+    end_of(manager, events.events())
+}
+
+/// Whether a patch is loaded over these, and its transition completes. Where it isn't loaded there is none.
+pub(crate) fn stands_over(manager: &mut Manager, below: &[PatchId], patch: PatchId) -> bool {
+    end_over(manager, below, patch) == End::Completed
+}
+
+/// The patches that aren't installed.
+fn not_installed(manager: &Manager, count: usize) -> Order {
+    let mut free = ArrayVec::new();
+    for number in 0..count {
+        let patch = patch_id(number);
+        if manager.enabled(patch).is_none() {
+            let _ = free.try_push(patch);
+        }
+    }
+    free
+}
+
+/// Why a patch isn't loaded, or why its transition doesn't end.
+#[derive(Clone, Copy)]
+enum Why<'a> {
+    Fails { object: &'a str, status: i32 },
+    Conflicts(Conflict<'a>),
+    NoSymbol,
+    Full,
+    Refused,
+    Pending(u8),
+    NoEnd,
+}
+
+impl fmt::Display for Why<'_> {
+    fn fmt<W: fmt::Write>(&self, f: &mut fmt::Formatter<W>) -> fmt::Result {
+        match *self {
+            Why::Fails { object, status } => {
+                write!(f, "pre-patch for {object} fails with {status}")
+            }
+            Why::Conflicts(conflict) => write!(f, "{conflict}"),
+            Why::NoSymbol => write!(f, "a function's symbol isn't there"),
+            Why::Full => write!(f, "there is no room for the variables of its callbacks"),
+            Why::Refused => write!(f, "it is refused"),
+            Why::Pending(1) => write!(f, "its transition waits for a task"),
+            Why::Pending(count) => write!(f, "its transition waits for {count} tasks"),
+            Why::NoEnd => write!(f, "its transition doesn't end"),
+        }
+    }
+}
+
+/// A patch that isn't loaded over others.
+#[derive(Clone, Copy)]
+struct NotLoaded<'a> {
+    below: Names<'a>,
+    why: Why<'a>,
+}
+
+impl fmt::Display for NotLoaded<'_> {
+    fn fmt<W: fmt::Write>(&self, f: &mut fmt::Formatter<W>) -> fmt::Result {
+        let (below, why) = (self.below, self.why);
+        match (self.why, below.named.is_empty()) {
+            (Why::Pending(_) | Why::NoEnd, true) => write!(f, "stays: {why}"),
+            (Why::Pending(_) | Why::NoEnd, false) => write!(f, "stays over {below}: {why}"),
+            (_, true) => write!(f, "can't be loaded: {why}"),
+            (_, false) => write!(f, "can't be loaded over {below}: {why}"),
+        }
+    }
+}
+
+/// How many were tried, and how many of them started.
+#[derive(Clone, Copy)]
+struct Tally {
+    tried: u64,
+    started: u64,
+}
+
+impl Tally {
+    fn add(&mut self, outcome: Outcome) {
+        self.tried = self.tried.saturating_add(1);
+        if outcome == Outcome::Started {
+            self.started = self.started.saturating_add(1);
+        }
+    }
+}
+
+/// How all patches go together.
+#[derive(Drop)]
+struct Together<'a> {
+    alone: Tally,
+    over_one: Tally,
+    over_two: Tally,
+    orders: Option<Orders<'a>>,
+}
+
+impl fmt::Display for Together<'_> {
+    fn fmt<W: fmt::Write>(&self, f: &mut fmt::Formatter<W>) -> fmt::Result {
+        let (alone, one, two) = (self.alone, self.over_one, self.over_two);
+        write!(
+            f,
+            "{} of {} patches are loaded alone, {} of {} over another one",
+            alone.started, alone.tried, one.started, one.tried
+        )?;
+        if two.tried != 0 {
+            write!(f, ", {} of {} over two others", two.started, two.tried)?;
+        }
+        match &self.orders {
+            Some(orders) => write!(f, "; {orders}"),
+            None => Ok(()),
+        }
+    }
+}
+
+impl Together<'_> {
+    /// The first order in which all patches are loaded.
+    fn first(&self) -> &[PatchId] {
+        match &self.orders {
+            Some(orders) => orders.first.as_slice(),
+            None => &[],
+        }
+    }
+}
+
+/// Why a patch isn't loaded over these, where this comes of it.
+fn why_of<'a>(
+    linted: Linted<'a>,
+    manager: &Manager,
+    below: &[PatchId],
+    patch: PatchId,
+    outcome: Outcome,
+) -> Why<'a> {
+    match outcome {
+        Outcome::Failed { object, status } => Why::Fails {
+            object: linted.object_name(object),
+            status,
+        },
+        Outcome::Incompatible => {
+            match conflict_with(linted.patches, manager.installed().as_slice(), below, patch) {
+                Some(conflict) => Why::Conflicts(conflict),
+                None => Why::Refused,
+            }
+        }
+        Outcome::NoSymbol => Why::NoSymbol,
+        Outcome::Full => Why::Full,
+        Outcome::Started | Outcome::Refused => Why::Refused,
+    }
+}
+
+/// The line of a patch that tells why it isn't loaded.
+fn line_of_why(own: &LintedPatch<'_>, outcome: Outcome, why: Why<'_>) -> u64 {
+    match (outcome, why) {
+        (Outcome::Failed { object, .. }, _) => {
+            let place = own.patch.targets.iter().position(|it| it.object == object);
+            own.line(place, Some(word_of(Which::Pre)))
+        }
+        (_, Why::Conflicts(conflict)) => match conflict.place {
+            Some(place) => own.line_behind(None, Some(b"state"), place),
+            None => own.line(None, None),
+        },
+        _ => own.line(None, None),
+    }
+}
+
+/// Tells that a patch isn't loaded over these. Where a symbol isn't there that is told of the function.
+fn tell_outcome<W: Write>(
+    own: &LintedPatch<'_>,
+    manager: &Manager,
+    below: &[PatchId],
+    outcome: Outcome,
+    out: &mut W,
+) -> io::Result<u64> {
+    if outcome == Outcome::Started || outcome == Outcome::NoSymbol {
+        return Ok(0);
+    }
+    let linted = own.linted;
+    let why = why_of(linted, manager, below, patch_id(own.number), outcome);
+    let line = line_of_why(own, outcome, why);
+    tell_not_loaded(own, below, why, line, out)
+}
+
+fn tell_not_loaded<W: Write>(
+    own: &LintedPatch<'_>,
+    below: &[PatchId],
+    why: Why<'_>,
+    line: u64,
+    out: &mut W,
+) -> io::Result<u64> {
+    let kind = match why {
+        Why::Pending(_) | Why::NoEnd => Kind::Lagging,
+        _ if below.is_empty() => Kind::NotStarted,
+        _ => Kind::NotOver,
+    };
+    let (object, state) = match why {
+        Why::Fails { object, .. } => (Some(object), None),
+        Why::Conflicts(conflict) => (None, Some(conflict.id)),
+        _ => (None, None),
+    };
+    let told = Told {
+        object,
+        state,
+        others: below,
+        ..Told::at(kind, line)
+    };
+    let names = Names {
+        patches: own.linted.patches,
+        named: below,
+    };
+    own.tell(told, &NotLoaded { below: names, why }, out)
+}
+
+/// Loads a patch alone, and tells what is wrong with that. Whether others can be loaded over it.
+fn try_alone<W: Write>(
+    own: &LintedPatch<'_>,
+    manager: &mut Manager,
+    tally: &mut Tally,
+    out: &mut W,
+) -> io::Result<u64> {
+    let patch = patch_id(own.number);
+    let outcome = outcome_over(manager, &[], patch);
+    tally.add(outcome);
+    if outcome != Outcome::Started {
+        return tell_outcome(own, manager, &[], outcome, out);
+    }
+    let line = own.line(None, None);
+    match end_over(manager, &[], patch) {
+        End::Completed => Ok(0),
+        End::Pending(count) => tell_not_loaded(own, &[], Why::Pending(count), line, out),
+        End::Full | End::Other => tell_not_loaded(own, &[], Why::NoEnd, line, out),
+    }
+}
+
+/// Loads a patch over another one, and tells what comes of it, where that isn't what comes of it alone.
+fn try_over_one<W: Write>(
+    own: &LintedPatch<'_>,
+    manager: &mut Manager,
+    below: PatchId,
+    tally: &mut Tally,
+    out: &mut W,
+) -> io::Result<u64> {
+    let patch = patch_id(own.number);
+    if patch == below || !stands_over(manager, &[], below) {
+        return Ok(0);
+    }
+    let outcome = outcome_over(manager, &[below], patch);
+    tally.add(outcome);
+    if outcome == outcome_over(manager, &[], patch) {
+        return Ok(0);
+    }
+    tell_outcome(own, manager, &[below], outcome, out)
+}
+
+/// Loads a patch over two others that stand, and tells what comes of it, where that comes of it over neither.
+fn try_over_two<W: Write>(
+    own: &LintedPatch<'_>,
+    manager: &mut Manager,
+    pair: [PatchId; 2],
+    tally: &mut Tally,
+    out: &mut W,
+) -> io::Result<u64> {
+    let patch = patch_id(own.number);
+    let [first, second] = pair;
+    let outcome = outcome_over(manager, &pair, patch);
+    tally.add(outcome);
+    if outcome == outcome_over(manager, &[first], patch)
+        || outcome == outcome_over(manager, &[second], patch)
+    {
+        return Ok(0);
+    }
+    tell_outcome(own, manager, &pair, outcome, out)
+}
+
+/// Whether two patches stand together, the second over the first.
+fn is_pair(linted: Linted<'_>, manager: &mut Manager, first: PatchId, second: PatchId) -> bool {
+    let replaces = match linted.patch(second) {
+        Some(own) => own.patch.replace,
+        None => true,
+    };
+    first != second
+        && !replaces
+        && stands_over(manager, &[], first)
+        && stands_over(manager, &[first], second)
+}
+
+/// Loads each patch over each pair that stands.
+fn try_pairs<W: Write>(
+    linted: Linted<'_>,
+    manager: &mut Manager,
+    free: &Order,
+    tally: &mut Tally,
+    out: &mut W,
+) -> io::Result<u64> {
+    let mut count = 0u64;
+    for first in free.as_slice() {
+        for second in free.as_slice() {
+            if is_pair(linted, manager, *first, *second) {
+                let pair = [*first, *second];
+                count = count.saturating_add(try_over(linted, manager, free, pair, tally, out)?);
+            }
+        }
+    }
+    Ok(count)
+}
+
+/// Loads each other patch over a pair.
+fn try_over<W: Write>(
+    linted: Linted<'_>,
+    manager: &mut Manager,
+    free: &Order,
+    pair: [PatchId; 2],
+    tally: &mut Tally,
+    out: &mut W,
+) -> io::Result<u64> {
+    let mut count = 0u64;
+    for patch in free.as_slice() {
+        if !pair.as_slice().contains(patch) {
+            if let Some(own) = linted.patch(*patch) {
+                count = count.saturating_add(try_over_two(&own, manager, pair, tally, out)?);
+            }
+        }
+    }
+    Ok(count)
+}
+
+/// Loads a patch alone and over each other one.
+fn try_one<W: Write>(
+    own: &LintedPatch<'_>,
+    manager: &mut Manager,
+    free: &Order,
+    alone: &mut Tally,
+    over_one: &mut Tally,
+    out: &mut W,
+) -> io::Result<u64> {
+    let mut count = try_alone(own, manager, alone, out)?;
+    for below in free.as_slice() {
+        count = count.saturating_add(try_over_one(own, manager, *below, over_one, out)?);
+    }
+    Ok(count.saturating_add(tell_replacing(own, manager, free, out)?))
+}
+
+/// Loads the patches that aren't installed: each alone, over each other one, and over each pair that stands; and all of
+/// them, in each order. Tells what comes of that, but for what just starts.
+///
+/// The manager is asked for its replies alone. Afterwards it is as before, but for the counts of its callbacks.
+pub(crate) fn tell_together<W: Write>(
+    linted: Linted<'_>,
+    manager: &mut Manager,
+    out: &mut W,
+) -> io::Result<u64> {
+    if manager.moving().is_some() {
+        return linted.tell(
+            &"the patches aren't loaded over each other: one is in transition",
+            &[],
+            out,
+        );
+    }
+    let none = Tally {
+        tried: 0,
+        started: 0,
+    };
+    let (mut alone, mut over_one, mut over_two) = (none, none, none);
+    let free = not_installed(manager, linted.patches.len());
+    let mut count = 0u64;
+    for patch in free.as_slice() {
+        if let Some(own) = linted.patch(*patch) {
+            let own = try_one(&own, manager, &free, &mut alone, &mut over_one, out)?;
+            count = count.saturating_add(own);
+        }
+    }
+    count = count.saturating_add(try_pairs(linted, manager, &free, &mut over_two, out)?);
+    if free.len() > 1 {
+        let orders = count_orders(linted.patches, manager, &free);
+        let together = Together {
+            alone,
+            over_one,
+            over_two,
+            orders,
+        };
+        count = count.saturating_add(linted.tell(&together, together.first(), out)?);
+    }
+    Ok(count)
+}
