@@ -45,9 +45,9 @@ answered_now before after event result behind =
     let none = no_outcomes (setting_of before.managed) before.managed.state before.groups behind.taken.outcomes behind.taken.each in
     let events : List Outcome → List Event = λ outcomes. map (λ (g : Group). g.event) (groups_left outcomes) in
     let state : there.managed.state ≡ before.managed.state =
-        ap (λ m. m.state) behind.taken.left ∙ ap (λ o. run (setting_of before.managed) before.managed.state (events o)) none in
+    ap (λ m. m.state) behind.taken.left ∙ ap (λ o. run (setting_of before.managed) before.managed.state (events o)) none in
     let groups : there.groups ≡ before.groups =
-        behind.taken.groups ∙ ap (λ o. before.groups ++ groups_left o) none ∙ append-nil before.groups in
+    behind.taken.groups ∙ ap (λ o. before.groups ++ groups_left o) none ∙ append-nil before.groups in
     behind.answered.answered ∙ ap (λ s. answer_in s there.managed.state there.groups event) behind.setting
     ∙ ap (λ s. answer_in (setting_of before.managed) s there.groups event) state
     ∙ ap (λ gs. answer_in (setting_of before.managed) before.managed.state gs event) groups

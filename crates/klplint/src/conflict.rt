@@ -1,6 +1,6 @@
 //! Which system state keeps a patch from being loaded over others.
 
-use crate::told::name_of_patch;
+use crate::remark::name_of_patch;
 use arrayvec::ArrayVec;
 use klp_catalog_text::{PlanPatch, SystemState};
 use klp_types::{MAX_PATCHES, PatchId};

@@ -1,7 +1,7 @@
 //! What of a patch can't work, or does nothing, in any world.
 
 use crate::place::word_of;
-use crate::told::{Kind, Told};
+use crate::remark::{Kind, Remark};
 use crate::words::LintedPatch;
 use klp_catalog_text::{PlanCallback, PlanFunction, PlanPatch};
 use klp_modules::{Modules, SymbolFault};
@@ -50,7 +50,7 @@ fn idle_state(patch: &PlanPatch, patches: &[PlanPatch], edit: &Edit) -> Option<I
     }
 }
 
-/// Tells the edits of a callback that do nothing, and answers how many there are.
+/// Says the edits of a callback that do nothing, and answers how many there are.
 fn tell_idle_edits<W: Write>(
     own: &LintedPatch<'_>,
     place: usize,
@@ -61,18 +61,18 @@ fn tell_idle_edits<W: Write>(
     for edit in callback.script.edits.as_slice() {
         if let Some(idle) = idle_state(own.patch, own.linted.patches, edit) {
             let line = own.line_behind(Some(place), Some(word_of(callback.which)), 0);
-            let told = Told {
+            let remark = Remark {
                 object: Some(own.object(place)),
                 state: Some(idle.id),
-                ..Told::at(Kind::Idle, line)
+                ..Remark::at(Kind::Idle, line)
             };
-            count = count.saturating_add(own.tell(told, &idle, out)?);
+            count = count.saturating_add(own.say(remark, &idle, out)?);
         }
     }
     Ok(count)
 }
 
-/// Tells the edits of a patch that do nothing, and answers how many there are.
+/// Says the edits of a patch that do nothing, and answers how many there are.
 pub(crate) fn tell_idle<W: Write>(own: &LintedPatch<'_>, out: &mut W) -> io::Result<u64> {
     let mut count = 0u64;
     for (place, target) in own.patch.targets.iter().enumerate() {
@@ -107,7 +107,7 @@ impl fmt::Display for Unpicked<'_> {
     }
 }
 
-/// Tells the functions of a patch whose symbols aren't picked, and answers how many there are.
+/// Says the functions of a patch whose symbols aren't picked, and answers how many there are.
 pub(crate) fn tell_unpicked<W: Write>(
     own: &LintedPatch<'_>,
     modules: &Modules,
@@ -119,9 +119,9 @@ pub(crate) fn tell_unpicked<W: Write>(
         for (before, function) in target.functions.iter().enumerate() {
             let symbol = function.symbol.as_str();
             if let Err(fault) = modules.resolve(target.object, symbol, function.sympos) {
-                let told = Told {
+                let remark = Remark {
                     object: Some(object),
-                    ..Told::at(
+                    ..Remark::at(
                         Kind::NoSymbol,
                         own.line_behind(Some(place), Some(b"func"), before),
                     )
@@ -131,7 +131,7 @@ pub(crate) fn tell_unpicked<W: Write>(
                     function,
                     fault,
                 };
-                count = count.saturating_add(own.tell(told, &unpicked, out)?);
+                count = count.saturating_add(own.say(remark, &unpicked, out)?);
             }
         }
     }

@@ -65,8 +65,8 @@ fn do_lines(alloc: Global, manager: &mut Manager, script: &[u8]) -> Result<(), F
     Ok(())
 }
 
-/// Tells what comes of a patch, and answers how many findings that is.
-fn tell<W: Write>(
+/// Says what comes of a patch, and answers how many findings that is.
+fn say<W: Write>(
     own: &LintedPatch<'_>,
     manager: &Manager,
     judged: Result<(), Premise>,
@@ -96,7 +96,7 @@ fn judge_one<W: Write>(own: &LintedPatch<'_>, manager: &Manager, out: &mut W) ->
     )
 }
 
-/// Tells what of a patch is near a limit, or isn't told from another patch.
+/// Says what of a patch is near a limit, or is just like another patch.
 fn tell_limits<W: Write>(own: &LintedPatch<'_>, out: &mut W) -> io::Result<u64> {
     let near = tell_near(own, out)?;
     let room = tell_room(own, out)?;
@@ -128,11 +128,11 @@ fn judge<W: Write>(
     manager: &mut Manager,
     out: &mut W,
 ) -> Result<u64, Fault> {
-    let told = match part {
+    let remark = match part {
         Part::Alone => judge_all(linted, manager, out),
         Part::Together => tell_together(linted, manager, out),
     };
-    match told {
+    match remark {
         Ok(findings) => Ok(findings),
         Err(_) => Err(Fault::Serve(ServeFault::Write)),
     }

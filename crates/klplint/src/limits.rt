@@ -1,7 +1,7 @@
-//! What of a patch is near a limit, or can't be told from another patch.
+//! What of a patch is near a limit, or is just like another patch.
 
+use crate::remark::{Kind, Remark, name_of_patch};
 use crate::scripts::{count_added, count_all_added};
-use crate::told::{Kind, Told, name_of_patch};
 use crate::words::{LintedPatch, patch_id};
 use klp_catalog_text::{PlanCallback, PlanFunction, PlanPatch, PlanTarget};
 use klp_types::{ENTRY_SITE_LEN, MAX_VARIABLES, ObjectText, PatchId, SymbolText, Which};
@@ -11,7 +11,7 @@ use std::{fmt, io};
 /// How far a call reaches: 2 GiB.
 const REACH: u64 = 0x8000_0000;
 
-/// How near to that a call is told of: 1 MiB.
+/// How near to that a call is reported: 1 MiB.
 const NEAR: u64 = 0x10_0000;
 
 /// The instruction in front of an entry site, where a kernel tracks indirect branches.
@@ -86,17 +86,17 @@ fn tell_near_in<W: Write>(
                 symbol: function.symbol.as_str(),
                 left,
             };
-            let told = Told {
+            let remark = Remark {
                 object: Some(near.object),
-                ..Told::at(Kind::NearLimit, line)
+                ..Remark::at(Kind::NearLimit, line)
             };
-            count = count.saturating_add(own.tell(told, &near, out)?);
+            count = count.saturating_add(own.say(remark, &near, out)?);
         }
     }
     Ok(count)
 }
 
-/// Tells the functions of a patch whose call of the handler is near the limit.
+/// Says the functions of a patch whose call of the handler is near the limit.
 pub(crate) fn tell_near<W: Write>(own: &LintedPatch<'_>, out: &mut W) -> io::Result<u64> {
     let mut count = 0u64;
     for (place, target) in own.patch.targets.iter().enumerate() {
@@ -136,7 +136,7 @@ fn count_wanted(patch: &PlanPatch) -> usize {
     count
 }
 
-/// Tells whether the callbacks of a patch may find no room, where all that the catalog's callbacks add is there.
+/// Says whether the callbacks of a patch may find no room, where all that the catalog's callbacks add is there.
 pub(crate) fn tell_room<W: Write>(own: &LintedPatch<'_>, out: &mut W) -> io::Result<u64> {
     let mut all = 0usize;
     for patch in own.linted.patches {
@@ -195,12 +195,12 @@ impl fmt::Display for Alike<'_> {
         let older = self.0;
         write!(
             f,
-            "can't be told from {older}: it has the same functions, callbacks, system states and versions"
+            "is just like {older}: it has the same functions, callbacks, system states and versions"
         )
     }
 }
 
-/// Tells the first older patch from which nothing distinguishes this one.
+/// Says the first older patch from which nothing distinguishes this one.
 pub(crate) fn tell_alike<W: Write>(own: &LintedPatch<'_>, out: &mut W) -> io::Result<u64> {
     let patches = own.linted.patches;
     for (number, older) in patches.iter().enumerate() {
@@ -209,11 +209,15 @@ pub(crate) fn tell_alike<W: Write>(own: &LintedPatch<'_>, out: &mut W) -> io::Re
         }
         if is_alike(own.patch, older) {
             let others: [PatchId; 1] = [patch_id(number)];
-            let told = Told {
+            let remark = Remark {
                 others: &others,
-                ..Told::at(Kind::Alike, own.line(None, None))
+                ..Remark::at(Kind::Alike, own.line(None, None))
             };
-            return own.tell(told, &Alike(name_of_patch(patches, patch_id(number))), out);
+            return own.say(
+                remark,
+                &Alike(name_of_patch(patches, patch_id(number))),
+                out,
+            );
         }
     }
     Ok(0)

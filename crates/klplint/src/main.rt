@@ -9,14 +9,14 @@ mod judging;
 mod limits;
 mod orders;
 mod place;
+mod remark;
 mod replacing;
 mod scripts;
 mod together;
-mod told;
 mod words;
 
 use crate::judging::lint_over_text;
-use crate::told::Form;
+use crate::remark::Form;
 use crate::words::CatalogText;
 use klp_program::{bytes_in, program_arguments, report_fault_as};
 use std::alloc::Global;

@@ -3,9 +3,9 @@ ghost use Rattle.std.specs.Prelude.{◌≡◌};
 ghost use Rattle.klp_core.specs.Journaled.{IsWellFormed};
 
 use crate::idle::names;
+use crate::remark::{Kind, Names, Remark, name_of_patch};
 use crate::scripts::{Change, change_of, keys_added};
 use crate::together::{End, Loading, Order, end_of, events_for, stands_over};
-use crate::told::{Kind, Names, Told, name_of_patch};
 use crate::words::{LintedPatch, patch_id};
 use klp_catalog_text::PlanPatch;
 use klp_core::Manager;
@@ -102,7 +102,7 @@ fn taken_out(own: &LintedPatch<'_>, manager: &mut Manager, free: &Order) -> Orde
     gone
 }
 
-/// Tells the system states of a patch that is taken out whose values go with it.
+/// Says the system states of a patch that is taken out whose values go with it.
 fn tell_forgotten<W: Write>(own: &LintedPatch<'_>, other: PatchId, out: &mut W) -> io::Result<u64> {
     let mut count = 0u64;
     let Some(gone) = own.linted.patch(other) else {
@@ -117,13 +117,13 @@ fn tell_forgotten<W: Write>(own: &LintedPatch<'_>, other: PatchId, out: &mut W) 
             let place = own.patch.states.iter().position(|it| it.id == id);
             let line = own.line_behind(None, Some(b"state"), place.unwrap_or(0));
             let others = [other];
-            let told = Told {
+            let remark = Remark {
                 state: Some(id),
                 others: &others,
-                ..Told::at(Kind::ForgetsState, line)
+                ..Remark::at(Kind::ForgetsState, line)
             };
             let other = gone.patch.name.as_str();
-            count = count.saturating_add(own.tell(told, &ForgetsState { id, other }, out)?);
+            count = count.saturating_add(own.say(remark, &ForgetsState { id, other }, out)?);
         }
     }
     Ok(count)
@@ -136,7 +136,7 @@ fn replacing(below: PatchId, patch: PatchId) -> Loading {
     events
 }
 
-/// Tells the variables of a patch that is taken out which are still there once this one is gone too.
+/// Says the variables of a patch that is taken out which are still there once this one is gone too.
 fn tell_left<W: Write>(
     own: &LintedPatch<'_>,
     manager: &mut Manager,
@@ -158,20 +158,20 @@ fn tell_left<W: Write>(
         let _for_its_clause = manager.mark();
         let is = value_of(manager, events.events(), *key);
         if was.is_none() && is.is_some() {
-            let told = Told {
+            let remark = Remark {
                 key: Some(*key),
                 others: &others,
-                ..Told::at(Kind::LeavesVariable, own.line(None, None))
+                ..Remark::at(Kind::LeavesVariable, own.line(None, None))
             };
             let other = name_of_patch(own.linted.patches, below);
             let leaves = LeavesVariable { key: *key, other };
-            count = count.saturating_add(own.tell(told, &leaves, out)?);
+            count = count.saturating_add(own.say(remark, &leaves, out)?);
         }
     }
     Ok(count)
 }
 
-/// Tells of a cumulative patch what it takes out, and what of that stays behind.
+/// Says of a cumulative patch what it takes out, and what of that stays behind.
 pub(crate) fn tell_replacing<W: Write>(
     own: &LintedPatch<'_>,
     manager: &mut Manager,
@@ -186,9 +186,9 @@ pub(crate) fn tell_replacing<W: Write>(
     if gone.is_empty() {
         return Ok(0);
     }
-    let told = Told {
+    let remark = Remark {
         others: gone.as_slice(),
-        ..Told::at(Kind::TakesOut, own.line(None, None))
+        ..Remark::at(Kind::TakesOut, own.line(None, None))
     };
     let takes_out = TakesOut {
         patch: own.patch,
@@ -197,7 +197,7 @@ pub(crate) fn tell_replacing<W: Write>(
             named: gone.as_slice(),
         },
     };
-    count = count.saturating_add(own.tell(told, &takes_out, out)?);
+    count = count.saturating_add(own.say(remark, &takes_out, out)?);
     for other in gone.as_slice() {
         count = count.saturating_add(tell_forgotten(own, *other, out)?);
         if free.as_slice().contains(other) {

@@ -5,8 +5,8 @@ ghost use Rattle.klp_core.specs.Journaled.{IsWellFormed};
 use crate::conflict::{Conflict, conflict_with};
 use crate::orders::{Orders, count_orders};
 use crate::place::word_of;
+use crate::remark::{Kind, Names, Remark};
 use crate::replacing::tell_replacing;
-use crate::told::{Kind, Names, Told};
 use crate::words::{Linted, LintedPatch, patch_id};
 use arrayvec::ArrayVec;
 use klp_core::Manager;
@@ -272,7 +272,7 @@ fn line_of_why(own: &LintedPatch<'_>, outcome: Outcome, why: Why<'_>) -> u64 {
     }
 }
 
-/// Tells that a patch isn't loaded over these. Where a symbol isn't there that is told of the function.
+/// Says that a patch isn't loaded over these. Where a symbol isn't there that is said of the function.
 fn tell_outcome<W: Write>(
     own: &LintedPatch<'_>,
     manager: &Manager,
@@ -306,17 +306,17 @@ fn tell_not_loaded<W: Write>(
         Why::Conflicts(conflict) => (None, Some(conflict.id)),
         _ => (None, None),
     };
-    let told = Told {
+    let remark = Remark {
         object,
         state,
         others: below,
-        ..Told::at(kind, line)
+        ..Remark::at(kind, line)
     };
     let names = Names {
         patches: own.linted.patches,
         named: below,
     };
-    own.tell(told, &NotLoaded { below: names, why }, out)
+    own.say(remark, &NotLoaded { below: names, why }, out)
 }
 
 /// Loads a patch alone, and tells what is wrong with that. Whether others can be loaded over it.
@@ -458,7 +458,7 @@ pub(crate) fn tell_together<W: Write>(
     out: &mut W,
 ) -> io::Result<u64> {
     if manager.moving().is_some() {
-        return linted.tell(
+        return linted.say(
             &"the patches aren't loaded over each other: one is in transition",
             &[],
             out,
@@ -486,7 +486,7 @@ pub(crate) fn tell_together<W: Write>(
             over_two,
             orders,
         };
-        count = count.saturating_add(linted.tell(&together, together.first(), out)?);
+        count = count.saturating_add(linted.say(&together, together.first(), out)?);
     }
     Ok(count)
 }

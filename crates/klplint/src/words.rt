@@ -1,7 +1,7 @@
 //! What is found of the round trip, in words.
 
 use crate::place::{Place, line_of, word_of};
-use crate::told::{Form, Kind, Told, write_about, write_kind};
+use crate::remark::{Form, Kind, Remark, write_about, write_kind};
 use klp_catalog_text::{PlanPatch, PlanTarget};
 use klp_core::Manager;
 use klp_lint::{Pair, Premise, found_by, left_behind};
@@ -9,7 +9,7 @@ use klp_types::{ObjId, ObjectText, PatchId, ShadowKey, ShadowValue, Which};
 use std::io::Write;
 use std::{fmt, io};
 
-/// A catalog: what its file is called, its bytes, and how it is told of.
+/// A catalog: what its file is called, its bytes, and how it is reported.
 #[derive(Clone, Copy)]
 pub(crate) struct CatalogText<'a> {
     pub(crate) name: &'a str,
@@ -67,7 +67,7 @@ pub(crate) fn name_of(which: Which) -> &'static str {
 }
 
 /// A pair of callbacks that leaves a variable with another value than it had. The line of the first is 0 where the
-/// other one is told of alone.
+/// other one is reported alone.
 #[derive(Clone, Copy)]
 struct NotUndone<'a> {
     object: &'a str,
@@ -155,35 +155,35 @@ impl<'a> LintedPatch<'a> {
         }
     }
 
-    /// Tells something of the patch, and answers how many findings that is.
-    pub(crate) fn tell<W: Write, S: fmt::Display>(
+    /// Says something of the patch, and answers how many findings that is.
+    pub(crate) fn say<W: Write, S: fmt::Display>(
         &self,
-        told: Told<'_>,
+        remark: Remark<'_>,
         sentence: &S,
         out: &mut W,
     ) -> io::Result<u64> {
         let (text, patch) = (self.linted.text, self.patch.name.as_str());
-        let (name, line) = (text.name, told.line);
+        let (name, line) = (text.name, remark.line);
         match text.form {
             Form::Words => writeln!(out, "{name}: line {line}: {patch}: {sentence}")?,
             Form::Json => {
-                write_kind(told.kind, name, out)?;
+                write_kind(remark.kind, name, out)?;
                 write!(out, ",\"line\":{line},\"patch\":\"{patch}\"")?;
-                write_about(told, self.linted.patches, out)?;
+                write_about(remark, self.linted.patches, out)?;
                 writeln!(out, ",\"sentence\":\"{sentence}\"}}")?;
             }
         }
-        Ok(u64::from(told.kind.is_finding()))
+        Ok(u64::from(remark.kind.is_finding()))
     }
 
-    /// Tells something of the patch as a whole.
+    /// Says something of the patch as a whole.
     pub(crate) fn tell_whole<W: Write, S: fmt::Display>(
         &self,
         kind: Kind,
         sentence: &S,
         out: &mut W,
     ) -> io::Result<u64> {
-        self.tell(Told::at(kind, self.line(None, None)), sentence, out)
+        self.say(Remark::at(kind, self.line(None, None)), sentence, out)
     }
 
     pub(crate) fn tell_clean<W: Write>(&self, is_everywhere: bool, out: &mut W) -> io::Result<u64> {
@@ -195,7 +195,7 @@ impl<'a> LintedPatch<'a> {
         self.tell_whole(Kind::Clean, &sentence, out)
     }
 
-    /// Tells a premise that fails.
+    /// Says a premise that fails.
     pub(crate) fn tell_failing<W: Write>(
         &self,
         manager: &Manager,
@@ -212,13 +212,13 @@ impl<'a> LintedPatch<'a> {
             Premise::NotApart { first, second, key } => {
                 let line = self.line(Some(first), None);
                 let (one, other) = (self.object(first), self.object(second));
-                let told = Told {
+                let remark = Remark {
                     object: Some(other),
                     key: Some(key),
-                    ..Told::at(Kind::NotApart, self.line(Some(second), None))
+                    ..Remark::at(Kind::NotApart, self.line(Some(second), None))
                 };
-                self.tell(
-                    told,
+                self.say(
+                    remark,
                     &NotApart {
                         one,
                         line,
@@ -258,12 +258,12 @@ impl<'a> LintedPatch<'a> {
             found: Shown(found_by(callbacks, pair, key, was)),
             left: Shown(left_behind(callbacks, pair, key, was)),
         };
-        let told = Told {
+        let remark = Remark {
             object: Some(sentence.object),
             key: Some(key),
-            ..Told::at(Kind::NotUndone, if second == 0 { first } else { second })
+            ..Remark::at(Kind::NotUndone, if second == 0 { first } else { second })
         };
-        self.tell(told, &sentence, out)
+        self.say(remark, &sentence, out)
     }
 }
 
@@ -296,8 +296,8 @@ impl<'a> Linted<'a> {
         }
     }
 
-    /// Tells something of all patches together, and of these above all.
-    pub(crate) fn tell<W: Write, S: fmt::Display>(
+    /// Says something of all patches together, and of these above all.
+    pub(crate) fn say<W: Write, S: fmt::Display>(
         &self,
         sentence: &S,
         others: &[PatchId],
@@ -308,11 +308,11 @@ impl<'a> Linted<'a> {
             Form::Words => writeln!(out, "{name}: {sentence}")?,
             Form::Json => {
                 write_kind(Kind::Together, name, out)?;
-                let told = Told {
+                let remark = Remark {
                     others,
-                    ..Told::at(Kind::Together, 0)
+                    ..Remark::at(Kind::Together, 0)
                 };
-                write_about(told, self.patches, out)?;
+                write_about(remark, self.patches, out)?;
                 writeln!(out, ",\"sentence\":\"{sentence}\"}}")?;
             }
         }

@@ -1,18 +1,18 @@
-//! What is told, in words or for programs.
+//! What is said, in words or for programs.
 
 use klp_catalog_text::PlanPatch;
 use klp_types::{PatchId, ShadowKey};
 use std::io::Write;
 use std::{fmt, io};
 
-/// How it is told: a line of words, or an object of JSON, which is a line too.
+/// How it is said: a line of words, or an object of JSON, which is a line too.
 #[derive(Clone, Copy, PartialEq, Eq)]
 pub(crate) enum Form {
     Words,
     Json,
 }
 
-/// What kind of thing is told of a patch, or of all of them.
+/// What kind of thing is said of a patch, or of all of them.
 #[derive(Clone, Copy, PartialEq, Eq)]
 pub(crate) enum Kind {
     Clean,
@@ -70,9 +70,9 @@ impl Kind {
     }
 }
 
-/// What is told: its kind, the line of the catalog, and what it is about, as far as that has a name or a number.
+/// What is said: its kind, the line of the catalog, and what it is about, as far as that has a name or a number.
 #[derive(Clone, Copy)]
-pub(crate) struct Told<'a> {
+pub(crate) struct Remark<'a> {
     pub(crate) kind: Kind,
     pub(crate) line: u64,
     pub(crate) object: Option<&'a str>,
@@ -81,9 +81,9 @@ pub(crate) struct Told<'a> {
     pub(crate) others: &'a [PatchId],
 }
 
-impl Told<'_> {
-    pub(crate) fn at(kind: Kind, line: u64) -> Told<'static> {
-        Told {
+impl Remark<'_> {
+    pub(crate) fn at(kind: Kind, line: u64) -> Remark<'static> {
+        Remark {
             kind,
             line,
             object: None,
@@ -146,31 +146,31 @@ impl fmt::Display for Names<'_> {
 
 /// Writes what else a finding is about. The names of a catalog have no byte that JSON escapes.
 pub(crate) fn write_about<W: Write>(
-    told: Told<'_>,
+    remark: Remark<'_>,
     patches: &[PlanPatch],
     out: &mut W,
 ) -> io::Result<()> {
-    if let Some(object) = told.object {
+    if let Some(object) = remark.object {
         write!(out, ",\"object\":\"{object}\"")?;
     }
-    if let Some(key) = told.key {
+    if let Some(key) = remark.key {
         write!(out, ",\"key\":[{},{}]", key.obj, key.id)?;
     }
-    if let Some(state) = told.state {
+    if let Some(state) = remark.state {
         write!(out, ",\"state\":{state}")?;
     }
-    if told.others.is_empty() {
+    if remark.others.is_empty() {
         return Ok(());
     }
     write!(out, ",\"others\":[")?;
-    for (number, other) in told.others.iter().enumerate() {
+    for (number, other) in remark.others.iter().enumerate() {
         let between = if number == 0 { "" } else { "," };
         write!(out, "{between}\"{}\"", name_of_patch(patches, *other))?;
     }
     write!(out, "]")
 }
 
-/// Writes the beginning of an object of JSON: what kind of thing is told, and of which catalog.
+/// Writes the beginning of an object of JSON: what kind of thing is said, and of which catalog.
 pub(crate) fn write_kind<W: Write>(kind: Kind, catalog: &str, out: &mut W) -> io::Result<()> {
     let (word, is_finding) = (kind.word(), kind.is_finding());
     let catalog = Escaped(catalog);
