@@ -10,8 +10,8 @@ returns-clause-seen g c =
       counts = c.run.result;
       taken = c.run.ensures.taken;
       setting = c.run.ensures.setting;
-      seen = c.shadow_get.ensures;
-      back = is_back before there c.rewind.new.self c.mark.result c.rewind.result c.mark.ensures.mark c.requires
+      seen = c.shadow_get-value.ensures;
+      back = is_back before there c.rewind.new.self c.mark-start.result c.rewind.result c.mark-start.ensures.mark c.requires
           (goes_on before there c.args.events.now c.run.result c.run.ensures.taken)
           c.run.ensures.setting c.rewind.ensures.rewound c.rewind.ensures.bad_mark;
     }
