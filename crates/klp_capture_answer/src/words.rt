@@ -274,6 +274,12 @@ impl Report {
             None if self.is_refuted => {
                 return writeln!(out, "no run of the rules shows the samples");
             }
+            None if !self.is_explained => {
+                return writeln!(
+                    out,
+                    "it isn't known whether a run of the rules shows the samples"
+                );
+            }
             None => write!(out, "a run of the rules shows each of {shown} samples")?,
         }
         match left_out {

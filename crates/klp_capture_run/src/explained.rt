@@ -1,5 +1,5 @@
 //! A log explained: a catalog of what it names, a run of the rules that shows it, and whether that is one.
-ghost use Rattle.std.specs.Prelude.{◌≡◌, ◌≤◌, ◌<◌, ◌↔◌, true, false, length, string_bytes, None, Ok, IfOk, IfSome};
+ghost use Rattle.std.specs.Prelude.{◌≡◌, ◌≤◌, ◌<◌, ◌↔◌, true, false, length, string_bytes, None, is_some, Ok, IfOk, IfSome};
 ghost use Rattle.std.specs.Str.Lines.{lines};
 ghost use Rattle.klp_catalog_text.specs.Within.{AreTargetsWithin};
 ghost use Rattle.klp_program.specs.Watches.{Watches};
@@ -50,16 +50,19 @@ pub struct Explained<'a> {
 }
 
 impl<'a> Explained<'a> {
-    /// Whether a run of the rules shows what was recorded: some sample is in the trace, nothing leads to none of them, and
-    /// the trace is honest.
+    /// Whether a run of the rules shows what was recorded: some sample is in the trace, nothing leads to none of them, the
+    /// trace is honest, and it is known who lags at its end.
     pub fn is_explained(&self) -> bool
         ensures { (result ≡ true) ↔
             ((is_honest self.now.verdict ≡ true) × (self.now.failed ≡ None) × (self.now.unshown ≡ None)
-            × (0 < self.now.run.shown)) }
+            × (0 < self.now.run.shown) × (is_some self.now.lags ≡ true)) }
     {
         match self.verdict {
             Verdict::Honest(_) => {
-                self.failed.is_none() && self.unshown.is_none() && self.run.shown > 0
+                self.failed.is_none()
+                    && self.unshown.is_none()
+                    && self.run.shown > 0
+                    && self.lags.is_some()
             }
             _ => false,
         }
