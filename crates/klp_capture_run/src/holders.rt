@@ -87,12 +87,12 @@ fn add(list: &mut Vec<Holder>, number: usize, lag: Option<Lag>) -> Result<(), Al
     Ok(())
 }
 
-fn listed(alloc: Global, lags: &Lags) -> Result<Vec<Holder>, AllocError>
+fn listed(alloc: Global, lags: &[Option<Lag>]) -> Result<Vec<Holder>, AllocError>
     ensures { IfOk result (λ list. list.items ≡ holders_from 0 lags.now) }
 {
     let mut list = Vec::new(alloc);
-    for (number, lag) in lags.iter().enumerate() {
-        add(&mut list, number, *lag)?;
+    for number in 0..lags.len() {
+        add(&mut list, number, lags[number])?;
     }
     Ok(list)
 }
