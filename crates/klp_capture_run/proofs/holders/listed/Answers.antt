@@ -15,5 +15,5 @@ loop-number-preserved c =
     let lag = c.index-lags-number.result in
     ap (λ (items : List Holder). items ++ rest) c.in_ok-add.ensures ∙ append_assoc before (holder_at i lag) rest
     ∙ ap (λ (items : List Holder). before ++ items)
-        (ap (λ (own : Option Lag). holder_at i own ++ rest) c.index-lags-number.is ∙ sym (holders_from-drop lags i lag c.loop-number-test.true))
+    (ap (λ (own : Option Lag). holder_at i own ++ rest) c.index-lags-number.is ∙ sym (holders_from-drop lags i lag c.loop-number-test.true))
     ∙ c.loop-number.invariant
