@@ -51,7 +51,7 @@ fn idle_state(patch: &PlanPatch, patches: &[PlanPatch], edit: &Edit) -> Option<I
 }
 
 /// Says the edits of a callback that do nothing, and answers how many there are.
-fn tell_idle_edits<W: Write>(
+fn say_idle_edits<W: Write>(
     own: &LintedPatch<'_>,
     place: usize,
     callback: &PlanCallback,
@@ -73,11 +73,11 @@ fn tell_idle_edits<W: Write>(
 }
 
 /// Says the edits of a patch that do nothing, and answers how many there are.
-pub(crate) fn tell_idle<W: Write>(own: &LintedPatch<'_>, out: &mut W) -> io::Result<u64> {
+pub(crate) fn say_idle<W: Write>(own: &LintedPatch<'_>, out: &mut W) -> io::Result<u64> {
     let mut count = 0u64;
     for (place, target) in own.patch.targets.iter().enumerate() {
         for callback in target.callbacks.iter() {
-            count = count.saturating_add(tell_idle_edits(own, place, callback, out)?);
+            count = count.saturating_add(say_idle_edits(own, place, callback, out)?);
         }
     }
     Ok(count)
@@ -108,7 +108,7 @@ impl fmt::Display for Unpicked<'_> {
 }
 
 /// Says the functions of a patch whose symbols aren't picked, and answers how many there are.
-pub(crate) fn tell_unpicked<W: Write>(
+pub(crate) fn say_unpicked<W: Write>(
     own: &LintedPatch<'_>,
     modules: &Modules,
     out: &mut W,

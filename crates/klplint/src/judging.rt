@@ -3,9 +3,9 @@
 ghost use Rattle.std.specs.Prelude.{◌≡◌, ◌<◌, ◌≤◌, length, IfSome};
 ghost use Rattle.klp_catalog_text.specs.Within.{AreTargetsWithin};
 
-use crate::idle::{tell_idle, tell_unpicked};
-use crate::limits::{tell_alike, tell_near, tell_room};
-use crate::together::tell_together;
+use crate::idle::{say_idle, say_unpicked};
+use crate::limits::{say_alike, say_near, say_room};
+use crate::together::say_together;
 use crate::words::{CatalogText, Linted, LintedPatch, patch_id};
 use klp_callback::Boxed;
 use klp_catalog::Catalog;
@@ -74,8 +74,8 @@ fn say<W: Write>(
     out: &mut W,
 ) -> io::Result<u64> {
     match judged {
-        Ok(()) => own.tell_clean(is_everywhere, out),
-        Err(premise) => own.tell_failing(manager, premise, out),
+        Ok(()) => own.say_clean(is_everywhere, out),
+        Err(premise) => own.say_failing(manager, premise, out),
     }
 }
 
@@ -84,10 +84,10 @@ fn judge_one<W: Write>(own: &LintedPatch<'_>, manager: &Manager, out: &mut W) ->
     let (patches, patch) = (own.linted.patches, patch_id(own.number));
     let judged = leaves_no_trace(manager, patches, patch);
     let is_everywhere = holds_everywhere(manager, patches, patch).is_ok();
-    let trace = tell(own, manager, judged, is_everywhere, out)?;
-    let idle = tell_idle(own, out)?;
-    let unpicked = tell_unpicked(own, manager.modules(), out)?;
-    let limits = tell_limits(own, out)?;
+    let trace = say(own, manager, judged, is_everywhere, out)?;
+    let idle = say_idle(own, out)?;
+    let unpicked = say_unpicked(own, manager.modules(), out)?;
+    let limits = say_limits(own, out)?;
     Ok(
         trace
             .saturating_add(idle)
@@ -97,10 +97,10 @@ fn judge_one<W: Write>(own: &LintedPatch<'_>, manager: &Manager, out: &mut W) ->
 }
 
 /// Says what of a patch is near a limit, or is just like another patch.
-fn tell_limits<W: Write>(own: &LintedPatch<'_>, out: &mut W) -> io::Result<u64> {
-    let near = tell_near(own, out)?;
-    let room = tell_room(own, out)?;
-    let alike = tell_alike(own, out)?;
+fn say_limits<W: Write>(own: &LintedPatch<'_>, out: &mut W) -> io::Result<u64> {
+    let near = say_near(own, out)?;
+    let room = say_room(own, out)?;
+    let alike = say_alike(own, out)?;
     Ok(near.saturating_add(room).saturating_add(alike))
 }
 
@@ -130,7 +130,7 @@ fn judge<W: Write>(
 ) -> Result<u64, Fault> {
     let remark = match part {
         Part::Alone => judge_all(linted, manager, out),
-        Part::Together => tell_together(linted, manager, out),
+        Part::Together => say_together(linted, manager, out),
     };
     match remark {
         Ok(findings) => Ok(findings),

@@ -64,7 +64,7 @@ impl fmt::Display for NearLimit<'_> {
     }
 }
 
-fn tell_near_in<W: Write>(
+fn say_near_in<W: Write>(
     own: &LintedPatch<'_>,
     place: usize,
     target: &PlanTarget,
@@ -97,10 +97,10 @@ fn tell_near_in<W: Write>(
 }
 
 /// Says the functions of a patch whose call of the handler is near the limit.
-pub(crate) fn tell_near<W: Write>(own: &LintedPatch<'_>, out: &mut W) -> io::Result<u64> {
+pub(crate) fn say_near<W: Write>(own: &LintedPatch<'_>, out: &mut W) -> io::Result<u64> {
     let mut count = 0u64;
     for (place, target) in own.patch.targets.iter().enumerate() {
-        count = count.saturating_add(tell_near_in(own, place, target, out)?);
+        count = count.saturating_add(say_near_in(own, place, target, out)?);
     }
     Ok(count)
 }
@@ -137,7 +137,7 @@ fn count_wanted(patch: &PlanPatch) -> usize {
 }
 
 /// Says whether the callbacks of a patch may find no room, where all that the catalog's callbacks add is there.
-pub(crate) fn tell_room<W: Write>(own: &LintedPatch<'_>, out: &mut W) -> io::Result<u64> {
+pub(crate) fn say_room<W: Write>(own: &LintedPatch<'_>, out: &mut W) -> io::Result<u64> {
     let mut all = 0usize;
     for patch in own.linted.patches {
         all = all.saturating_add(count_all_added(patch));
@@ -146,7 +146,7 @@ pub(crate) fn tell_room<W: Write>(own: &LintedPatch<'_>, out: &mut W) -> io::Res
     if wanted == 0 || all <= MAX_VARIABLES {
         return Ok(0);
     }
-    own.tell_whole(Kind::Room, &NoRoom { own: wanted, all }, out)
+    own.say_whole(Kind::Room, &NoRoom { own: wanted, all }, out)
 }
 
 fn is_same_function(one: &PlanFunction, other: &PlanFunction) -> bool {
@@ -201,7 +201,7 @@ impl fmt::Display for Alike<'_> {
 }
 
 /// Says the first older patch from which nothing distinguishes this one.
-pub(crate) fn tell_alike<W: Write>(own: &LintedPatch<'_>, out: &mut W) -> io::Result<u64> {
+pub(crate) fn say_alike<W: Write>(own: &LintedPatch<'_>, out: &mut W) -> io::Result<u64> {
     let patches = own.linted.patches;
     for (number, older) in patches.iter().enumerate() {
         if number >= own.number {

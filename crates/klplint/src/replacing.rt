@@ -103,7 +103,7 @@ fn taken_out(own: &LintedPatch<'_>, manager: &mut Manager, free: &Order) -> Orde
 }
 
 /// Says the system states of a patch that is taken out whose values go with it.
-fn tell_forgotten<W: Write>(own: &LintedPatch<'_>, other: PatchId, out: &mut W) -> io::Result<u64> {
+fn say_forgotten<W: Write>(own: &LintedPatch<'_>, other: PatchId, out: &mut W) -> io::Result<u64> {
     let mut count = 0u64;
     let Some(gone) = own.linted.patch(other) else {
         return Ok(0);
@@ -137,7 +137,7 @@ fn replacing(below: PatchId, patch: PatchId) -> Loading {
 }
 
 /// Says the variables of a patch that is taken out which are still there once this one is gone too.
-fn tell_left<W: Write>(
+fn say_left<W: Write>(
     own: &LintedPatch<'_>,
     manager: &mut Manager,
     below: PatchId,
@@ -172,7 +172,7 @@ fn tell_left<W: Write>(
 }
 
 /// Says of a cumulative patch what it takes out, and what of that stays behind.
-pub(crate) fn tell_replacing<W: Write>(
+pub(crate) fn say_replacing<W: Write>(
     own: &LintedPatch<'_>,
     manager: &mut Manager,
     free: &Order,
@@ -199,9 +199,9 @@ pub(crate) fn tell_replacing<W: Write>(
     };
     count = count.saturating_add(own.say(remark, &takes_out, out)?);
     for other in gone.as_slice() {
-        count = count.saturating_add(tell_forgotten(own, *other, out)?);
+        count = count.saturating_add(say_forgotten(own, *other, out)?);
         if free.as_slice().contains(other) {
-            count = count.saturating_add(tell_left(own, manager, *other, out)?);
+            count = count.saturating_add(say_left(own, manager, *other, out)?);
         }
     }
     Ok(count)

@@ -6,7 +6,7 @@ use crate::conflict::{Conflict, conflict_with};
 use crate::orders::{Orders, count_orders};
 use crate::place::word_of;
 use crate::remark::{Kind, Names, Remark};
-use crate::replacing::tell_replacing;
+use crate::replacing::say_replacing;
 use crate::words::{Linted, LintedPatch, patch_id};
 use arrayvec::ArrayVec;
 use klp_core::Manager;
@@ -273,7 +273,7 @@ fn line_of_why(own: &LintedPatch<'_>, outcome: Outcome, why: Why<'_>) -> u64 {
 }
 
 /// Says that a patch isn't loaded over these. Where a symbol isn't there that is said of the function.
-fn tell_outcome<W: Write>(
+fn say_outcome<W: Write>(
     own: &LintedPatch<'_>,
     manager: &Manager,
     below: &[PatchId],
@@ -286,10 +286,10 @@ fn tell_outcome<W: Write>(
     let linted = own.linted;
     let why = why_of(linted, manager, below, patch_id(own.number), outcome);
     let line = line_of_why(own, outcome, why);
-    tell_not_loaded(own, below, why, line, out)
+    say_not_loaded(own, below, why, line, out)
 }
 
-fn tell_not_loaded<W: Write>(
+fn say_not_loaded<W: Write>(
     own: &LintedPatch<'_>,
     below: &[PatchId],
     why: Why<'_>,
@@ -330,13 +330,13 @@ fn try_alone<W: Write>(
     let outcome = outcome_over(manager, &[], patch);
     tally.add(outcome);
     if outcome != Outcome::Started {
-        return tell_outcome(own, manager, &[], outcome, out);
+        return say_outcome(own, manager, &[], outcome, out);
     }
     let line = own.line(None, None);
     match end_over(manager, &[], patch) {
         End::Completed => Ok(0),
-        End::Pending(count) => tell_not_loaded(own, &[], Why::Pending(count), line, out),
-        End::Full | End::Other => tell_not_loaded(own, &[], Why::NoEnd, line, out),
+        End::Pending(count) => say_not_loaded(own, &[], Why::Pending(count), line, out),
+        End::Full | End::Other => say_not_loaded(own, &[], Why::NoEnd, line, out),
     }
 }
 
@@ -357,7 +357,7 @@ fn try_over_one<W: Write>(
     if outcome == outcome_over(manager, &[], patch) {
         return Ok(0);
     }
-    tell_outcome(own, manager, &[below], outcome, out)
+    say_outcome(own, manager, &[below], outcome, out)
 }
 
 /// Loads a patch over two others that stand, and tells what comes of it, where that comes of it over neither.
@@ -377,7 +377,7 @@ fn try_over_two<W: Write>(
     {
         return Ok(0);
     }
-    tell_outcome(own, manager, &pair, outcome, out)
+    say_outcome(own, manager, &pair, outcome, out)
 }
 
 /// Whether two patches stand together, the second over the first.
@@ -445,14 +445,14 @@ fn try_one<W: Write>(
     for below in free.as_slice() {
         count = count.saturating_add(try_over_one(own, manager, *below, over_one, out)?);
     }
-    Ok(count.saturating_add(tell_replacing(own, manager, free, out)?))
+    Ok(count.saturating_add(say_replacing(own, manager, free, out)?))
 }
 
 /// Loads the patches that aren't installed: each alone, over each other one, and over each pair that stands; and all of
 /// them, in each order. Tells what comes of that, but for what just starts.
 ///
 /// The manager is asked for its replies alone. Afterwards it is as before, but for the counts of its callbacks.
-pub(crate) fn tell_together<W: Write>(
+pub(crate) fn say_together<W: Write>(
     linted: Linted<'_>,
     manager: &mut Manager,
     out: &mut W,

@@ -177,7 +177,7 @@ impl<'a> LintedPatch<'a> {
     }
 
     /// Says something of the patch as a whole.
-    pub(crate) fn tell_whole<W: Write, S: fmt::Display>(
+    pub(crate) fn say_whole<W: Write, S: fmt::Display>(
         &self,
         kind: Kind,
         sentence: &S,
@@ -186,28 +186,28 @@ impl<'a> LintedPatch<'a> {
         self.say(Remark::at(kind, self.line(None, None)), sentence, out)
     }
 
-    pub(crate) fn tell_clean<W: Write>(&self, is_everywhere: bool, out: &mut W) -> io::Result<u64> {
+    pub(crate) fn say_clean<W: Write>(&self, is_everywhere: bool, out: &mut W) -> io::Result<u64> {
         let sentence = if is_everywhere {
             "leaves no trace, in any world without its variables"
         } else {
             "leaves no trace, in this world"
         };
-        self.tell_whole(Kind::Clean, &sentence, out)
+        self.say_whole(Kind::Clean, &sentence, out)
     }
 
     /// Says a premise that fails.
-    pub(crate) fn tell_failing<W: Write>(
+    pub(crate) fn say_failing<W: Write>(
         &self,
         manager: &Manager,
         premise: Premise,
         out: &mut W,
     ) -> io::Result<u64> {
         match premise {
-            Premise::Moving => self.tell_not_judged("a patch is in transition", out),
-            Premise::Installed => self.tell_not_judged("it is installed", out),
+            Premise::Moving => self.say_not_judged("a patch is in transition", out),
+            Premise::Installed => self.say_not_judged("it is installed", out),
             Premise::NotUndone { place, pair, key } => {
                 let was = manager.shadow_get(key);
-                self.tell_not_undone(place, pair, key, was, out)
+                self.say_not_undone(place, pair, key, was, out)
             }
             Premise::NotApart { first, second, key } => {
                 let line = self.line(Some(first), None);
@@ -231,11 +231,11 @@ impl<'a> LintedPatch<'a> {
         }
     }
 
-    fn tell_not_judged<W: Write>(&self, why: &str, out: &mut W) -> io::Result<u64> {
-        self.tell_whole(Kind::NotJudged, &NotJudged(why), out)
+    fn say_not_judged<W: Write>(&self, why: &str, out: &mut W) -> io::Result<u64> {
+        self.say_whole(Kind::NotJudged, &NotJudged(why), out)
     }
 
-    fn tell_not_undone<W: Write>(
+    fn say_not_undone<W: Write>(
         &self,
         place: usize,
         pair: Pair,

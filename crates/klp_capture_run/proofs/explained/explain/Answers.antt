@@ -5,6 +5,6 @@ use Rattle.klp_capture_run.proofs.explained.explain.Goals as goal
 pub returns : goal.returns
 returns c = record {
   judged = rw (sym c.as_bytes.ensures.value, sym c.as_bytes-2.ensures.value) c.in_ok-verdict.ensures;
-  shown = rw (sym c.as_bytes-5.ensures.value, sym c.samples_before.ensures, sym c.samples_before-reached.ensures) c.in_ok-unshown.ensures;
+  shown = rw (sym c.as_bytes-trace.ensures.value, sym c.samples_before.ensures, sym c.samples_before-reached.ensures) c.in_ok-unshown.ensures;
   lags = rw (sym c.as_bytes-3.ensures.value, sym c.as_bytes-4.ensures.value) c.in_ok-lags.ensures;
 }
