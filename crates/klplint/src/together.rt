@@ -83,17 +83,26 @@ pub(crate) fn events_for(below: &[PatchId]) -> Loading {
     loading
 }
 
-/// What comes of loading a patch over these.
-pub(crate) fn outcome_over(manager: &mut Manager, below: &[PatchId], patch: PatchId) -> Outcome {
-    let _for_its_clause = manager.mark();
-    match reply_to(manager, events_for(below).events(), &Event::Enable(patch)) {
-        Ok(Reply::PreFailed(_, object, status)) => Outcome::Failed { object, status },
+/// What an answer to loading a patch comes to.
+fn outcome_of(answer: &Result<Reply, Refusal>) -> Outcome {
+    match answer {
+        Ok(Reply::PreFailed(_, object, status)) => Outcome::Failed {
+            object: *object,
+            status: *status,
+        },
         Ok(_) => Outcome::Started,
         Err(Refusal::Incompatible) => Outcome::Incompatible,
         Err(Refusal::NoSymbol) => Outcome::NoSymbol,
         Err(Refusal::Full) => Outcome::Full,
         Err(_) => Outcome::Refused,
     }
+}
+
+/// What comes of loading a patch over these.
+pub(crate) fn outcome_over(manager: &mut Manager, below: &[PatchId], patch: PatchId) -> Outcome {
+    let _for_its_clause = manager.mark();
+    let answer = reply_to(manager, events_for(below).events(), &Event::Enable(patch));
+    outcome_of(&answer)
 }
 
 /// What the last of these events, which is a poll, comes to.
