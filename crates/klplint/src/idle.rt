@@ -75,7 +75,8 @@ fn say_idle_edits<W: Write>(
 /// Says the edits of a patch that do nothing, and answers how many there are.
 pub(crate) fn say_idle<W: Write>(own: &LintedPatch<'_>, out: &mut W) -> io::Result<u64> {
     let mut count = 0u64;
-    for (place, target) in own.patch.targets.iter().enumerate() {
+    let patch = own.patch;
+    for (place, target) in patch.targets.iter().enumerate() {
         for callback in target.callbacks.iter() {
             count = count.saturating_add(say_idle_edits(own, place, callback, out)?);
         }
@@ -93,8 +94,9 @@ struct Unpicked<'a> {
 
 impl fmt::Display for Unpicked<'_> {
     fn fmt<W: fmt::Write>(&self, f: &mut fmt::Formatter<W>) -> fmt::Result {
-        let (object, symbol) = (self.object, self.function.symbol.as_str());
-        let position = self.function.sympos;
+        let function = self.function;
+        let (object, symbol) = (self.object, function.symbol.as_str());
+        let position = function.sympos;
         let reason = match self.fault {
             SymbolFault::Missing => "has no such symbol",
             SymbolFault::Ambiguous => "has several symbols of this name",
@@ -114,7 +116,8 @@ pub(crate) fn say_unpicked<W: Write>(
     out: &mut W,
 ) -> io::Result<u64> {
     let mut count = 0u64;
-    for (place, target) in own.patch.targets.iter().enumerate() {
+    let patch = own.patch;
+    for (place, target) in patch.targets.iter().enumerate() {
         let object = own.object(place);
         for (before, function) in target.functions.iter().enumerate() {
             let symbol = function.symbol.as_str();

@@ -48,13 +48,13 @@ fn left_at(handler: u64, symbol: &SymbolText) -> u64 {
 
 /// A function whose call of the handler is near the limit.
 #[derive(Clone, Copy)]
-struct NearLimit<'a> {
+struct NearLimit<'a, 'b> {
     object: &'a str,
-    symbol: &'a str,
+    symbol: &'b str,
     left: u64,
 }
 
-impl fmt::Display for NearLimit<'_> {
+impl fmt::Display for NearLimit<'_, '_> {
     fn fmt<W: fmt::Write>(&self, f: &mut fmt::Formatter<W>) -> fmt::Result {
         let (object, symbol, left) = (self.object, self.symbol, self.left);
         write!(
@@ -99,7 +99,8 @@ fn say_near_in<W: Write>(
 /// Says the functions of a patch whose call of the handler is near the limit.
 pub(crate) fn say_near<W: Write>(own: &LintedPatch<'_>, out: &mut W) -> io::Result<u64> {
     let mut count = 0u64;
-    for (place, target) in own.patch.targets.iter().enumerate() {
+    let patch = own.patch;
+    for (place, target) in patch.targets.iter().enumerate() {
         count = count.saturating_add(say_near_in(own, place, target, out)?);
     }
     Ok(count)

@@ -108,13 +108,15 @@ fn say_forgotten<W: Write>(own: &LintedPatch<'_>, other: PatchId, out: &mut W) -
     let Some(gone) = own.linted.patch(other) else {
         return Ok(0);
     };
-    for state in gone.patch.states.iter() {
+    let gone_patch = gone.patch;
+    for state in gone_patch.states.iter() {
         let id = state.id;
         if change_of(gone.patch, id) != Change::Nothing
             && names(own.patch, id)
             && change_of(own.patch, id) == Change::Nothing
         {
-            let place = own.patch.states.iter().position(|it| it.id == id);
+            let patch = own.patch;
+            let place = patch.states.iter().position(|it| it.id == id);
             let line = own.line_behind(None, Some(b"state"), place.unwrap_or(0));
             let others = [other];
             let remark = Remark {
@@ -179,7 +181,8 @@ pub(crate) fn say_replacing<W: Write>(
     out: &mut W,
 ) -> io::Result<u64> {
     let mut count = 0u64;
-    if !own.patch.replace {
+    let patch = own.patch;
+    if !patch.replace {
         return Ok(0);
     }
     let gone = taken_out(own, manager, free);

@@ -270,7 +270,8 @@ fn why_of<'a>(
 fn line_of_why(own: &LintedPatch<'_>, outcome: Outcome, why: Why<'_>) -> u64 {
     match (outcome, why) {
         (Outcome::Failed { object, .. }, _) => {
-            let place = own.patch.targets.iter().position(|it| it.object == object);
+            let patch = own.patch;
+            let place = patch.targets.iter().position(|it| it.object == object);
             own.line(place, Some(word_of(Which::Pre)))
         }
         (_, Why::Conflicts(conflict)) => match conflict.place {
@@ -392,7 +393,10 @@ fn try_over_two<W: Write>(
 /// Whether two patches stand together, the second over the first.
 fn is_pair(linted: Linted<'_>, manager: &mut Manager, first: PatchId, second: PatchId) -> bool {
     let replaces = match linted.patch(second) {
-        Some(own) => own.patch.replace,
+        Some(own) => {
+            let patch = own.patch;
+            patch.replace
+        }
         None => true,
     };
     first != second

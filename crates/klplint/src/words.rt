@@ -149,7 +149,8 @@ impl<'a> LintedPatch<'a> {
 
     /// The name of the object of a target.
     pub(crate) fn object(&self, place: usize) -> &'a str {
-        match self.patch.targets.get(place) {
+        let patch = self.patch;
+        match patch.targets.get(place) {
             Some(target) => self.linted.object_name(target.object),
             None => "",
         }
@@ -162,7 +163,8 @@ impl<'a> LintedPatch<'a> {
         sentence: &S,
         out: &mut W,
     ) -> io::Result<u64> {
-        let (text, patch) = (self.linted.text, self.patch.name.as_str());
+        let patch = self.patch;
+        let (text, patch) = (self.linted.text, patch.name.as_str());
         let (name, line) = (text.name, remark.line);
         match text.form {
             Form::Words => writeln!(out, "{name}: line {line}: {patch}: {sentence}")?,
@@ -246,7 +248,8 @@ impl<'a> LintedPatch<'a> {
         let (done, back) = callbacks_of(pair);
         let first = self.line(Some(place), Some(word_of(done)));
         let second = self.line(Some(place), Some(word_of(back)));
-        let Some(target) = self.patch.targets.get(place) else {
+        let patch = self.patch;
+        let Some(target) = patch.targets.get(place) else {
             return Ok(0);
         };
         let PlanTarget { callbacks, .. } = target;
