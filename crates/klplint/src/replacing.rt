@@ -108,14 +108,13 @@ fn say_forgotten<W: Write>(own: &LintedPatch<'_>, other: PatchId, out: &mut W) -
     let Some(gone) = own.linted.patch(other) else {
         return Ok(0);
     };
-    let gone_patch = gone.patch;
-    for state in gone_patch.states.iter() {
+    let (gone, patch) = (gone.patch, own.patch);
+    for state in gone.states.iter() {
         let id = state.id;
-        if change_of(gone.patch, id) != Change::Nothing
-            && names(own.patch, id)
-            && change_of(own.patch, id) == Change::Nothing
+        if change_of(gone, id) != Change::Nothing
+            && names(patch, id)
+            && change_of(patch, id) == Change::Nothing
         {
-            let patch = own.patch;
             let place = patch.states.iter().position(|it| it.id == id);
             let line = own.line_behind(None, Some(b"state"), place.unwrap_or(0));
             let others = [other];
@@ -124,7 +123,7 @@ fn say_forgotten<W: Write>(own: &LintedPatch<'_>, other: PatchId, out: &mut W) -
                 others: &others,
                 ..Remark::at(Kind::ForgetsState, line)
             };
-            let other = gone.patch.name.as_str();
+            let other = gone.name.as_str();
             count = count.saturating_add(own.say(remark, &ForgetsState { id, other }, out)?);
         }
     }
