@@ -20,6 +20,7 @@ use Rattle.klp_catalog.specs.declared.assemble.AssembleFault.TheVariants.{WrongC
 use Rattle.klp_catalog.specs.Limits.{HasOneOfEach, IsWithin, AreWithin}
 use Rattle.klp_catalog.specs.Runs.{HasCounts}
 use Rattle.klp_catalog.specs.Stored.{StoredPatch, script_number, callbacks_from, target_in, patches_in, placed, target_size, patch_size, stored_target, stored_targets, stored_patch, stored_patches, symbol_count, IsStored}
+use Rattle.klp_catalog_text.proofs.DraftLemmas.{same_numbers}
 use Rattle.klp_catalog.proofs.NumberLemmas.{ids_sized}
 
 -- ---- what is the same without scripts
@@ -57,25 +58,6 @@ same_sites : (names : List ObjectNames) (ps qs : List PlanPatch) → map without
 same_sites names ps qs e = sym (site_alone names ps) ∙ ap (some_same_site names) e ∙ site_alone names qs
 
 -- ---- limits
-
-any_number : {A : Type 0} (number : A → ℕ) (n : ℕ) (xs ys : List A) → map number xs ≡ map number ys → list_any (λ z. number z == n) xs ≡ list_any (λ z. number z == n) ys
-any_number number n [] [] e = refl
-any_number number n [] (y ∷ ys) e = cc
-any_number number n (x ∷ xs) [] e = cc
-any_number number n (x ∷ xs) (y ∷ ys) e =
-    let first : number x ≡ number y = cc in
-    let rest : map number xs ≡ map number ys = cc in
-    λ i. (first i == n) || any_number number n xs ys rest i
-
-same_numbers : {A : Type 0} (number : A → ℕ) (xs ys : List A) → map number xs ≡ map number ys → has_same number xs ≡ has_same number ys
-same_numbers number [] [] e = refl
-same_numbers number [] (y ∷ ys) e = cc
-same_numbers number (x ∷ xs) [] e = cc
-same_numbers number (x ∷ xs) (y ∷ ys) e =
-    let first : number x ≡ number y = cc in
-    let rest : map number xs ≡ map number ys = cc in
-    ap (λ n. list_any (λ z. number z == n) xs || has_same number xs) first
-    ∙ (λ i. any_number number (number y) xs ys rest i || same_numbers number xs ys rest i)
 
 targets_alone : (targets : List PlanTarget) → map target_number (map target_without_scripts targets) ≡ map target_number targets
 targets_alone [] = refl

@@ -9,7 +9,7 @@ use Rattle.klp_catalog.specs.Catalog.{site_of}
 use Rattle.klp_catalog.proofs.CatalogLemmas.{site_in_object}
 
 -- a site that lies in an object by the names is a site of that object
-object_of-named : (objects : List Object) (object site : ℕ)
+pub object_of-named : (objects : List Object) (object site : ℕ)
     → first_site (names_of objects) object ≤ site
     → site < first_site (names_of objects) object + length (symbol_names (slice_get (names_of objects) object))
     → object_of objects site ≡ Some object

@@ -14,19 +14,6 @@ pub record IsReadTo (text : List ℕ) (number : ℕ) (rest : List (List ℕ)) (n
   pub same : with_lines (suc number) rest names ≡ names_of text
   pub count : number + length rest ≡ length (lines text)
 
--- there are no more lines than bytes, but for a last one
-lines_few : (parts : List (List ℕ)) → length (lines_of_parts parts) ≤ length parts
-lines_few [] = omega arith
-lines_few (part ∷ []) = last_few (length part == 0)
-  where
-    last_few : (empty : Bool) → length (if empty then [] else part ∷ []) ≤ 1
-    last_few true = omega arith
-    last_few false = omega arith
-lines_few (part ∷ next ∷ parts) = omega (arith, lines_few (next ∷ parts))
-
-pub length-lines : (text : List ℕ) → length (lines text) ≤ length text + 1
-length-lines text = omega (arith, lines_few (slice_split (λ b. b == 10) text), length-slice_split (λ b. b == 10) text, count_by-le-length (λ b. b == 10) text)
-
 -- a line that isn't read is the text's first faulty one, unless memory ran out
 pub fault_here : (text : List ℕ) (number : ℕ) (line : List ℕ) (rest : List (List ℕ)) (names after : Names) → IsReadTo text number (line ∷ rest) names
     → (kind : NamesFaultKind) → IsOutcome names (with_line names line) after (Err kind) → IsFaultOf text (number + 1) kind

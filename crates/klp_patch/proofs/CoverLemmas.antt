@@ -8,25 +8,9 @@ use Rattle.klp_types.specs.Image.{Symbol, Object, symbols_of, object_of}
 use Rattle.klp_types.specs.Setting.{is_at}
 use Rattle.klp_modules.specs.Names.{names_of, first_site, symbol_names}
 use Rattle.klp_catalog.specs.Assembled.{IsInObject}
+use Rattle.klp_catalog.proofs.SiteLemmas.{object_of-named}
 use Rattle.klp_sites.specs.Table.{SiteTable}
 use Rattle.klp_patch.specs.Covered.{is_in_scope, is_object_in_scope, is_covered}
-
--- a site that lies in an object by the names is a site of that object
-pub object_of-named : (objects : List Object) (object site : ℕ)
-    → first_site (names_of objects) object ≤ site
-    → site < first_site (names_of objects) object + length (symbol_names (slice_get (names_of objects) object))
-    → object_of objects site ≡ Some object
-object_of-named [] object site from below = absurd (omega arith)
-object_of-named (x ∷ objects) zero site from below =
-    let inside : site < length x.symbols = omega (arith, length-map x.symbols (λ (s : Symbol). s.name)) in
-    rw (lt-ltb site (length x.symbols) inside)
-object_of-named (x ∷ objects) (suc object) site from below =
-    let behind : length x.symbols ≤ site = omega (arith, length-map x.symbols (λ (s : Symbol). s.name)) in
-    let count = length-map x.symbols (λ (s : Symbol). s.name) in
-    rw (
-      le-ltb site (length x.symbols) behind,
-      object_of-named objects object (site - length x.symbols) (omega (arith, count)) (omega (arith, count)),
-    )
 
 -- a site with an object is a site of the image
 behind : (site count later object : ℕ) (own : Option ℕ) → ((k : ℕ) → own ≡ Some k → site - count < later) → count ≤ site → option_map suc own ≡ Some object → site < count + later

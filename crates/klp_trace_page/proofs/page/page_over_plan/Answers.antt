@@ -5,7 +5,7 @@ use Rattle.klp_callback.specs.LentCallback.{LentCallback}
 use Rattle.klp_catalog_text.specs.Plan.{Plan}
 use Rattle.klp_catalog_text.specs.Scripts.{scripts_of}
 use Rattle.klp_program.specs.Booted.{never_ran}
-use Rattle.klp_page.proofs.PageLemmas.{first_made, next_made, all_made, shown_of}
+use Rattle.klp_program.proofs.ServeLemmas.{first_made, next_made, all_made, reported_of}
 use Rattle.klp_trace_page.proofs.TracePageLemmas.{page_over, fault_over}
 use denote.Param.Object.{read_made}
 use Rattle.klp_trace_page.proofs.page.page_over_plan.OwnLists.{own-1, at-1-1}
@@ -19,7 +19,7 @@ loop-callbacks-preserved c =
     let value = c.in-Some.callback.value in
     let boxed = c.into_dyn_box.ensures.1 in
     let lent : c.new.result ≡ value =
-    shown_of c.new.result ((own-1.entry i).1.script_of box) value.script ((own-1.entry i).1.runs_of box) value.runs c.new.ensures
+    reported_of c.new.result ((own-1.entry i).1.script_of box) value.script ((own-1.entry i).1.runs_of box) value.runs c.new.ensures
     (read_made own-1 (own-1.entry at-1-1) at-1-1 refl Script (λ j v. j.1.script_of v) i box value boxed)
     (read_made own-1 (own-1.entry at-1-1) at-1-1 refl ℕ (λ j v. j.1.runs_of v) i box value boxed)
     in

@@ -1,5 +1,6 @@
 use Rattle.std.proofs.Common.{arith}
-use Rattle.klp_names.proofs.TextLemmas.{length-lines, fault_here}
+use Rattle.klp_catalog_text.proofs.TextLemmas.{length-lines}
+use Rattle.klp_names.proofs.TextLemmas.{fault_here}
 use Rattle.klp_names.proofs.names.Names.read.Goals as goal
 
 pub overflow_add-number : goal.overflow_add-number
