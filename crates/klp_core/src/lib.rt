@@ -25,11 +25,11 @@ mod manager;
 mod queries;
 mod row;
 mod take;
-mod view;
+mod text_view;
 
 pub use fault::{BadMark, BootFault};
 pub use holders::Lag;
 pub use journal::DroppedReply;
 pub use machine::Machine;
 pub use manager::Manager;
-pub use view::TextView;
+pub use text_view::TextView;

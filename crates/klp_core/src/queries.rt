@@ -22,7 +22,7 @@ ghost use Rattle.klp_core.specs.Events.{may_run_some};
 
 use crate::manager::Manager;
 use crate::take::refused;
-use crate::view::TextView;
+use crate::text_view::TextView;
 use arrayvec::ArrayVec;
 use klp_catalog::Catalog;
 use klp_model::Event;
@@ -140,9 +140,9 @@ impl Manager {
         self.state.world.get(key)
     }
 
-    /// Returns the lowest address, above `after`, of a parent object that has a shadow variable of this id, or the lowest
-    /// of all without `after`. None if none has one there. One goes over all variables of an id with it: each next call
-    /// gets the last answer.
+    /// Returns the lowest address, above `after`, of a parent object that has a shadow variable of this id, or the
+    /// lowest of all without `after`. None if none has one there. One goes over all variables of an id with it: each
+    /// next call gets the last answer.
     pub fn next_parent(&self, id: u64, after: Option<u64>) -> Option<u64>
         ensures { IsNextParent self.now.managed.state.world.shadow id (lowest_above after) result }
     {

@@ -41,8 +41,8 @@ fn answered(alloc: Global, manager: &mut Manager, event: &Event) -> Result<Strin
     answer_and_why(alloc, manager, &answer)
 }
 
-/// Tells what the rules have at the first of these items. `None` if it has neither an answer nor a sight: the rules can't
-/// differ there. `None` also if memory runs out.
+/// Tells what the rules have at the first of these items. `None` if it has neither an answer nor a sight: the rules
+/// can't differ there. `None` also if memory runs out.
 fn rules_of(alloc: Global, manager: &mut Manager, items: &[Observed]) -> Option<String>
     requires { IsWellFormed manager.old }
 {

@@ -125,8 +125,8 @@ fn first_wrong_symbol<'a>(
     None
 }
 
-/// Returns what is wrong with the objects of a catalog that make no image, for this fault. `None` if the fault points at
-/// none of them: two of one name, too many, no memory, or no object at all.
+/// Returns what is wrong with the objects of a catalog that make no image, for this fault. `None` if the fault points
+/// at none of them: two of one name, too many, no memory, or no object at all.
 pub(crate) fn wrong_of<'a>(
     objects: &'a [ObjectText],
     handler: u64,

@@ -1,9 +1,9 @@
 //! The files of a program, and what is told of them on standard error, a line each.
 ghost use Rattle.std.specs.Prelude.{◌≡◌, IfErr};
 
-use crate::act::act_of;
 use crate::calls::Calls;
-use crate::catalog_line::{begins_as_catalog, begins_as_utf16};
+use crate::catalog_fault::{begins_as_catalog, begins_as_utf16};
+use crate::dishonest::act_of;
 use crate::escaped::{Escaped, Quoted};
 use crate::item::Item;
 use crate::lack::lack_of;
@@ -14,7 +14,7 @@ use crate::same_site::first_pair;
 use crate::stray::{STRAYS, Stray};
 use crate::unpicked::first_unloadable;
 use crate::wrong::Wrong;
-use crate::{catalog_line, image, item};
+use crate::{catalog_fault, image, item};
 use klp_catalog::{AssembleFault, Catalog};
 use klp_catalog_text::{Plan, TextFault};
 use klp_console::ServeFault;
@@ -327,7 +327,7 @@ impl<'a> Inputs<'a> {
         let wrong = if self.are_swapped() {
             Wrong::Swapped(self.second.name)
         } else {
-            catalog_line::wrong_of(alloc, self.catalog.bytes, fault)
+            catalog_fault::wrong_of(alloc, self.catalog.bytes, fault)
         };
         self.catalog.write_place(self.program, fault.line, err)?;
         writeln!(err, "{}: {wrong}", fault.kind)

@@ -1,6 +1,6 @@
 //! What means something in other files and nothing here. It is no fault, and means what it means.
 
-use crate::catalog_line::{begins_as_catalog, begins_as_utf16, first_words};
+use crate::catalog_fault::{begins_as_catalog, begins_as_utf16, first_words};
 use crate::inputs::Kind;
 use klp_types::MAX_CONSOLE_LINE;
 

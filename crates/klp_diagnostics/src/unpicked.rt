@@ -1,6 +1,6 @@
 //! A symbol that a name and a position don't pick: there is none of the name, there are several, or there are fewer.
 
-use crate::catalog_line::first_words;
+use crate::catalog_fault::first_words;
 use crate::escaped::{Escaped, Quoted};
 use crate::near::nearer;
 use klp_words::{Spelling, spelling_of};

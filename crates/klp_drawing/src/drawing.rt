@@ -2,11 +2,11 @@
 
 use crate::axis::{Axis, axis_of};
 use crate::bars::{Bars, LANES};
-use crate::held::{Held, add_areas, add_labels, all_held};
 use crate::idle::add_idle;
 use crate::lane::{add_bars, add_words};
 use crate::pen::{LANE, MARGIN, add_text_start, number_width};
 use crate::scale::CUT;
+use crate::stays::{Held, add_areas, add_labels, all_held};
 use crate::strips::strips_of;
 use crate::style::{LEGEND, PATTERNS};
 use crate::turn::sign_text;

@@ -14,13 +14,13 @@
 mod axis;
 mod bars;
 mod drawing;
-mod held;
 mod idle;
 mod lane;
 mod look;
 mod pace;
 mod pen;
 mod scale;
+mod stays;
 mod strips;
 mod style;
 mod turn;

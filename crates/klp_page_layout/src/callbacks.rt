@@ -1,6 +1,6 @@
 //! The card of the callbacks that ran in an event.
 
-use crate::calls::Calls;
+use crate::callbacks_ran::Calls;
 use crate::watched::Watched;
 use klp_catalog_text::Plan;
 use klp_console::Outcome;

@@ -13,7 +13,7 @@
 #![tactic(auto)]
 
 mod callbacks;
-mod calls;
+mod callbacks_ran;
 mod cards;
 mod chronicle;
 mod reach;

@@ -22,16 +22,16 @@
 mod blocked_versions;
 mod callback_run;
 mod covered;
+mod entries;
 pub mod laws;
 mod module_callbacks;
 mod module_parts;
-mod patch;
 mod patch_callbacks;
-mod site;
+mod site_entry;
 
 pub use blocked_versions::block;
+pub use entries::{drop_nops, patch_sites, unpatch_sites};
 pub use module_callbacks::{
     allocs_of_coming, allocs_of_going, may_run_coming, may_run_going, run_coming, run_going,
 };
-pub use patch::{drop_nops, patch_sites, unpatch_sites};
 pub use patch_callbacks::{allocs, has_callbacks, run_callbacks, run_pre_patch};

@@ -28,7 +28,7 @@ ghost use Rattle.klp_manager_state.specs.Events.{TakesEvent, AcceptsEvent};
 ghost use Rattle.klp_patch_events.specs.Complete.{IsCompleted};
 ghost use Rattle.klp_manager_state.specs.Rows.{rows_before, rows_now, IsLogged};
 
-use crate::replacing::{drop_older, older_than, unpatch_each};
+use crate::replaced::{drop_older, older_than, unpatch_each};
 use klp_catalog::Catalog;
 use klp_manager_state::{Brief, BriefReply, ManagerState};
 use klp_model::Refusal;

@@ -6,7 +6,7 @@
 //! taking it.
 //!
 //! There is one file for each kind of event: `src/enabling.rt`, `disabling.rt`, `forcing.rt`, `completing.rt` and
-//! `module.rt`. `callbacks.rt` finds out whether an event may run a callback, `replacing.rt` takes out what a
+//! `module.rt`. `callbacks.rt` finds out whether an event may run a callback, `replaced.rt` takes out what a
 //! cumulative patch replaces, and `module_sites.rt` changes the sites of a module that is loaded or unloaded.
 #![tactic(auto)]
 
@@ -17,7 +17,7 @@ mod enabling;
 mod forcing;
 mod module;
 mod module_sites;
-mod replacing;
+mod replaced;
 
 pub use callbacks::may_run;
 pub use completing::{poll, poll_refusal};

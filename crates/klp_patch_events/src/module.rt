@@ -59,8 +59,9 @@ fn some_lacks_symbol(catalog: &Catalog, patches: &[PatchId], object: ObjId) -> b
 }
 
 /// Loads a module (the kernel's `klp_module_coming`). For each installed patch that changes the module, pre-patch runs,
-/// and post-patch unless the patch is in transition. Then the patches' entries are put on the module's sites. If a
-/// pre-patch refuses, the patches before it are cleaned up, and the module isn't loaded.
+/// and post-patch unless the patch is in transition. The entries are put on the module's sites after all callbacks; a
+/// kernel puts them on between a patch's two, which nobody can tell apart (`come`). If a pre-patch refuses, the patches
+/// before it are cleaned up, the module isn't loaded, and the reply is `PreFailed`.
 pub fn coming(
     state: &mut ManagerState,
     catalog: &mut Catalog,
@@ -77,8 +78,8 @@ pub fn coming(
 }
 
 /// Unloads a module (the kernel's `klp_module_going`). For each installed patch that changes the module, pre-unpatch
-/// runs unless the patch is in transition, and then post-unpatch. Then the patches' entries are taken out of the
-/// module's sites.
+/// runs unless the patch is in transition, and then post-unpatch. The entries are taken out of the module's sites after
+/// all callbacks; a kernel takes them out between a patch's two, which nobody can tell apart (`go`).
 pub fn going(
     state: &mut ManagerState,
     catalog: &mut Catalog,

@@ -12,7 +12,7 @@ ghost use Rattle.klp_story.specs.End.{reason_text, sleeper_text, sleepers_text, 
 ghost use Rattle.klp_story.specs.End.{all_sleepers_text, refused_text, first_text, end_text};
 
 use crate::lagging::add_all_lagging;
-use crate::state::{add_outdated, add_state};
+use crate::transition::{add_outdated, add_state};
 use crate::words::{add_counted, add_link, add_number, why};
 use klp_catalog::Catalog;
 use klp_markup::{Sheet, add_line_time, add_tasks, add_version};

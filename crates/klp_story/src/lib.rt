@@ -9,8 +9,8 @@ pub mod examples;
 mod facts;
 mod lagging;
 mod sleepers;
-mod state;
 mod story;
+mod transition;
 mod words;
 
 pub use end::add_end;

@@ -8,21 +8,21 @@ ghost use Rattle.klp_watch.specs.Inside.{AreInside};
 ghost use Rattle.klp_watch.specs.Watching.{IsConsistent};
 ghost use Rattle.klp_watch.specs.Compared.{AreCompared, IsDifference, IsDoneSo, IsReportedFor};
 
-use crate::answered::take_answered;
 use crate::cause::Cause;
+use crate::comparing_answer::take_answered;
+use crate::comparing_sight::{is_shown, other_than};
 use crate::difference::{Difference, Differs};
 use crate::inside::Inside;
 use crate::observed::Observed;
-use crate::shown::{is_shown, other_than};
 use crate::watching::{functions_are_in_objects, has_task, watch_item};
 use klp_core::Manager;
 
 /// Does as [`watch`](crate::watch) with the items that happen, over a manager without tasks, and compares what the
-/// kernel answered and showed between them with what the rules answer and the state shows there. It tells the first item
-/// at which the two differ, or that breaks a premise. Where an event does both, the premise is told.
+/// kernel answered and showed between them with what the rules answer and the state shows there. It tells the first
+/// item at which the two differ, or that breaks a premise. Where an event does both, the premise is told.
 ///
-/// The item told leaves nothing: an event is taken back by its own records, only its callbacks have run. All items before
-/// it are done, and are so. It takes no memory, and an item costs what its event or its look-up costs.
+/// The item told leaves nothing: an event is taken back by its own records, only its callbacks have run. All items
+/// before it are done, and are so. It takes no memory, and an item costs what its event or its look-up costs.
 pub fn compare(manager: &mut Manager, items: &[Observed]) -> Result<(), Differs>
     ensures compared { IfOk result (λ _. AreCompared manager.old manager.new items.now) }
     // what is compared is consistent at every moment

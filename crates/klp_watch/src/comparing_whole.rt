@@ -13,7 +13,7 @@ use crate::difference::{Difference, Differs};
 use crate::inside::Inside;
 use crate::observed::Observed;
 use crate::watching::{functions_are_in_objects, has_task};
-use crate::whole::make_room;
+use crate::watching_whole::make_room;
 use klp_core::Manager;
 
 /// Does as [`compare`](crate::compare) over as many items as there are. Where the journal has no room for one more

@@ -9,18 +9,18 @@
 //! [`compare_whole`] does so over a trace of any length (`specs/ComparedWhole`).
 #![tactic(auto)]
 
-mod answered;
 mod cause;
 mod comparing;
+mod comparing_answer;
+mod comparing_sight;
 mod comparing_whole;
 mod difference;
 mod event;
 mod inside;
 mod observed;
-mod shown;
 mod task;
 mod watching;
-mod whole;
+mod watching_whole;
 
 pub use cause::{Cause, NotHonest};
 pub use comparing::compare;
@@ -28,4 +28,4 @@ pub use comparing_whole::compare_whole;
 pub use difference::{Difference, Differs};
 pub use observed::{Observed, PatchFiles, Sight};
 pub use watching::watch;
-pub use whole::watch_whole;
+pub use watching_whole::watch_whole;

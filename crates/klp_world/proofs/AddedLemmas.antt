@@ -6,8 +6,8 @@ use Rattle.klp_types.specs.declared.limits.TheConstants.{MAX_VARIABLES}
 use Rattle.klp_types.specs.declared.shadow.ShadowKey.{ShadowKey}
 use Rattle.klp_types.specs.FirstOf.{first_of}
 use Rattle.klp_types.specs.World.{Shadow, ShadowValue}
-use Rattle.klp_world.specs.declared.table.NotAdded.{NotAdded}
-use Rattle.klp_world.specs.declared.table.NotAdded.TheVariants.{Exists, Full}
+use Rattle.klp_world.specs.declared.shadow_table.NotAdded.{NotAdded}
+use Rattle.klp_world.specs.declared.shadow_table.NotAdded.TheVariants.{Exists, Full}
 use Rattle.klp_world.specs.Added.{against}
 
 -- the first reason, by whether it is there and whether there is no room

@@ -7,18 +7,18 @@
 //! [`World::new`] takes memory. `laws` says the same of the records of scripts, and how few there are.
 //!
 //! Installed patches are one list, oldest first, and a second list has just their numbers. Shadow variables are in
-//! a table without gaps (`src/table.rt`). The slots whose keys have the same hash are linked to one another
+//! a table without gaps (`src/shadow_table.rt`). The slots whose keys have the same hash are linked to one another
 //! (`src/chains.rt`). To remove all variables of an id, their keys are sorted first (`src/sorted.rt`).
 #![tactic(auto)]
 
 mod chains;
 pub mod laws;
 mod patch;
-mod shadow;
+mod shadow_map;
+mod shadow_table;
 mod sorted;
-mod table;
 mod world;
 
 pub use klp_types::{Edit, MAX_EDITS, MAX_PATCHES, MAX_STATES, MAX_VARIABLES, Script};
-pub use table::NotAdded;
+pub use shadow_table::NotAdded;
 pub use world::World;

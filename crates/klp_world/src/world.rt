@@ -17,8 +17,8 @@ ghost use Rattle.klp_world.specs.StoredEvent.{noting, rows_of_alloc, rows_of_fre
 ghost use Rattle.klp_world.specs.StoredEvent.{state_row, rows_of_set, rows_of_add, rows_of_drop};
 
 use crate::patch::{InstalledPatch, SystemState, place_of_patch};
-use crate::shadow::ShadowMap;
-use crate::table::NotAdded;
+use crate::shadow_map::ShadowMap;
+use crate::shadow_table::NotAdded;
 use arrayvec::ArrayVec;
 use klp_journal::Records;
 use klp_types::{MAX_PATCHES, MAX_STATES, MAX_VARIABLES, PatchId, Record, ShadowKey, ShadowValue};
@@ -57,8 +57,8 @@ impl Model for World {
         × (map (λ (i : Installed). i.patch) w.patches.items ≡ w.installed.items) };
 }
 
-/// Logs the states of a patch, the last one first. Undo puts the newest record back first and adds each state as
-/// the last, so the states return in their order.
+/// Logs the system states of a patch, the last one first. Undo puts the newest record back first and adds each state
+/// as the last, so the states return in their order.
 fn note_states(patch: PatchId, states: &[SystemState], log: &mut Records)
     requires { length states.now ≤ spare_of log.old }
     ensures { log.new ≡ noting log.old (map (state_row patch) (reverse states.now)) }

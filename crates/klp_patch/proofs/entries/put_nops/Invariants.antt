@@ -1,0 +1,14 @@
+use Rattle.std.proofs.Common.{ltb, ◌&&◌, ◌-◌, ◌≤◌, length}
+use Rattle.klp_patch.specs.Covered.{is_covered}
+use Rattle.klp_patch.specs.Changes.{AreMade, Notes, with_nop, hooked_count}
+use Rattle.klp_patch.proofs.entries.put_nops.Given as goal
+
+abbrev pub invariant-loop-site : goal.invariant-loop-site
+invariant-loop-site l = record {
+  within : l.from ≤ length l.initial.sites.stacks;
+  entries : AreMade l.initial.sites l.sites (λ site. is_covered l.initial.sites l.fn.only site && ltb site l.from) (λ site entries. with_nop l.patch entries);
+  notes : Notes l.initial.sites l.sites l.initial.log l.log l.from (hooked_count l.initial.sites) (hooked_count l.sites);
+}
+
+abbrev pub decreases-loop-site : goal.decreases-loop-site
+decreases-loop-site l = length l.initial.sites.stacks - l.from
