@@ -6,19 +6,19 @@
 //! table (`specs/Dispatch`) after that list (`specs/Shown`).
 //!
 //! `history` has the list, and `kept` a row as a receipt keeps it. `publisher`, `published`, `rules` and `board`
-//! publish a table, `change` computes what an event changes in it, and `target` what a call finds in it.
-//! docs/THREADS.md explains all of it.
+//! publish a table, `change` computes what an event changes in it, `entering` reads it, and `target` has what a call
+//! finds in it. docs/THREADS.md explains all of it.
 #![tactic(auto)]
 
 mod board;
 mod book;
 mod change;
+mod entering;
 mod history;
 mod kept;
 mod law;
 mod live;
 mod opening;
-mod pass;
 mod published;
 mod publisher;
 mod refusal;
@@ -28,11 +28,11 @@ mod table;
 mod target;
 
 pub use book::Book;
+pub use entering::{Reads, TaskPass};
 pub use history::{Front, Head, Opened, Start};
 pub use law::{Accepted, Law};
 pub use live::{BadTask, CloseFault, Live};
 pub use opening::{StartCause, StartFault};
-pub use pass::{Reads, TaskPass};
 pub use published::{Known, News, Published, View};
 pub use refusal::{LiveRefusal, few_events_leave_room};
 pub use rules::{Adopt, Same, Sees};

@@ -9,9 +9,9 @@ ghost use Rattle.klp_live.specs.Seats.{Knows};
 ghost use Rattle.klp_live.specs.Shown.{RuleIs};
 
 use crate::book::Book;
+use crate::entering::TaskPass;
 use crate::history::{Front, Opened, Start, must_cover};
 use crate::opening::StartFault;
-use crate::pass::TaskPass;
 use crate::published::{Published, View};
 use crate::refusal::LiveRefusal;
 use crate::seat::{Receipt, Seat};
@@ -53,17 +53,26 @@ pub struct CloseFault<S: Start + Protocol<Published, View>, M: Machine + Drop, R
     pub seats: Vec<Seat<S>>,
 }
 
-/// How often a thread looks whether the lock is free before it may sleep.
-const LOOKS: u32 = 8;
+/// How often a thread that found the lock taken waits before it looks again for the first time, and how often it looks
+/// before it may sleep.
+const FIRST_WAITS: u32 = 4;
 
-/// Takes the lock. If another thread has it, this one waits a little before it looks again, twice as long each time. So
-/// the other may have several events admitted in a row, while book and journal are in its processor's cache: that takes
-/// less time than if the two took turns.
+const LOOKS: u32 = 6;
+
+/// Takes the lock. If another thread has it, this one waits for the time of a few events before it looks again, and twice
+/// as long each time. So the other may have several events admitted in a row, while book and journal are in its
+/// processor's cache: that takes less time than if the two took turns.
 fn locked<'b, S: Start + Protocol<Published, View>, M: Machine + Drop, R: Wait + Drop, W: Wait>(
     book: &'b Mutex<Book<S, M, R>>,
     rt: &W,
 ) -> MutexGuard<'b, Book<S, M, R>> {
+    if let Some(guard) = book.try_lock() {
+        return guard;
+    }
     let backoff = Backoff::new();
+    for _wait in 0..FIRST_WAITS {
+        backoff.spin();
+    }
     for _look in 0..LOOKS {
         if let Some(guard) = book.try_lock() {
             return guard;

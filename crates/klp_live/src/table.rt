@@ -1,4 +1,5 @@
-//! The dispatch table: what a call of a hooked function needs.
+//! The dispatch table: what a call of a hooked function needs. `entering` has how a call reads it without a lock,
+//! `target` what is looked up in it, and `board` how it is published.
 use klp_types::{MAX_SITES, MAX_TASKS, Site, SiteRow, TaskId};
 
 /// For each site of a loaded object its two newest entries, and for each task its patch state.

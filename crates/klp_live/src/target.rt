@@ -24,6 +24,7 @@ pub enum EnterFault {
 }
 
 /// Returns the version that a task of this patch state runs, with its address.
+#[inline(always)]
 fn chosen(site: Site, row: &SiteRow, state: i8) -> Target
     ensures { result ≡ target_by site row.now state }
 {
@@ -35,6 +36,7 @@ fn chosen(site: Site, row: &SiteRow, state: i8) -> Target
 }
 
 /// Returns what a task runs at a site, by a table. Two lookups, whatever is installed.
+#[inline(always)]
 pub fn target_of(table: &Table, task: TaskId, site: Site) -> Result<Target, EnterFault>
     ensures { result ≡ found table.now task site }
 {

@@ -42,6 +42,7 @@ pub struct Answer<S: Start> {
 }
 
 /// Reads the published table once, and returns the reader with the answer. No answer if the book has ended.
+#[inline(always)]
 fn look<S: Start + Protocol<Published, View>>(
     reader: Place<S>,
     task: TaskId,
@@ -67,6 +68,7 @@ fn look<S: Start + Protocol<Published, View>>(
 }
 
 /// Returns the history of a published table.
+#[inline(always)]
 fn front_of<S: Start>(shown: &Published) -> Front<S>
     requires table { IsTable S.setting S.base shown.now }
     requires book { shown.now.seen.book ≡ S.book }
@@ -81,6 +83,7 @@ fn front_of<S: Start>(shown: &Published) -> Front<S>
 
 /// Returns an answer that isn't older than what the front knows, and lets the front know the answer's history. Returns
 /// `NoTable` for an older one.
+#[inline(always)]
 fn adopt<S: Start>(front: &mut Front<S>, answer: Answer<S>) -> Result<Target, EnterFault>
     ensures { ((result ≡ Err EnterFault.NoTable) × (front.new ≡ front.old))
         ⊎ ((result ≡ answer.found) × (front.new ≡ answer.front) × IsPrefix front.old front.new) }
