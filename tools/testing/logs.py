@@ -19,7 +19,7 @@ SLEEPS = re.compile(r"^log ([\d.]+) livepatch: klp_try_switch_task: .*:(\d+) is 
 SAMPLE = re.compile(r"^sample ([\d.]+) ([\d.]+) ", re.M)
 HELD = re.compile(r"^  .*\[(\d+)\].* held it up, asleep in (\S+), from ([\d.]+) s to ([\d.]+) s$", re.M)
 # How the answers end that have nothing to refuse.
-WHOLE = re.compile(rb"^(?:a run of the rules shows each of \d+ samples(?:; .*)?|as far as was seen, the premises of the consistency model hold|the log has no sample to explain|.* would hold it up)\n\Z", re.M)
+WHOLE = re.compile(rb"^(?:a run of the rules shows each of \d+ samples(?:; .*)?|(?:as far as was seen, the premises of the consistency model hold|so far the premises of the consistency model hold; a force would break one)|the log has no sample to explain|.* would hold it up)\n\Z", re.M)
 HOLDS = re.compile(r"^  .*\[(\d+)\].* holds it up: asleep in (\S+) since ([\d.]+) s or before, for ([\d.]+) s$", re.M)
 
 

@@ -6,7 +6,8 @@ use crate::report::{
     TransitionReport, Why,
 };
 use klp_capture::{Capture, Text};
-use klp_capture_run::{Ending, Explained, Followed, Holder as Holding, Moved, Run, Since, Stay};
+use klp_capture_catalog::{Ending, Moved, Since};
+use klp_capture_run::{Explained, Followed, Holder as Holding, Run, Stay};
 use klp_core::Lag;
 use klp_types::{Mode, Version};
 use std::alloc::{AllocError, Global};
@@ -71,7 +72,8 @@ fn holder_of(
     })
 }
 
-/// The stays in which tasks held a transition up. `holding` are those that hold it up in the last sample, if it goes on.
+/// The stays in which tasks held a transition up. `holding` are those that hold it up in the last sample, if it goes
+/// on.
 fn holders_of(
     alloc: Global,
     run: &Run<'_>,

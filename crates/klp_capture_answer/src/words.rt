@@ -170,6 +170,14 @@ fn print_left<W: Write>(left: &[Left], front: &str, out: &mut W) -> io::Result<(
 }
 
 impl Report {
+    /// Whether a transition goes on in the last sample.
+    fn goes_on(&self) -> bool {
+        match self.transitions.last() {
+            Some(last) => last.end.is_none(),
+            None => false,
+        }
+    }
+
     /// The tasks that lag and aren't followed.
     fn print_others<W: Write>(&self, out: &mut W) -> io::Result<()> {
         let others = self.others;
@@ -290,11 +298,15 @@ impl Report {
             )?,
         }
         match self.forced_at_us {
+            Some(_) => Ok(()),
+            None if self.goes_on() => writeln!(
+                out,
+                "so far the premises of the consistency model hold; a force would break one"
+            ),
             None => writeln!(
                 out,
                 "as far as was seen, the premises of the consistency model hold"
             ),
-            Some(_) => Ok(()),
         }
     }
 }

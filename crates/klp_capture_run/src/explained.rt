@@ -1,5 +1,6 @@
 //! A log explained: a catalog of what it names, a run of the rules that shows it, and whether that is one.
-ghost use Rattle.std.specs.Prelude.{◌≡◌, ◌≤◌, ◌<◌, ◌↔◌, true, false, length, string_bytes, None, is_some, Ok, IfOk, IfSome};
+ghost use Rattle.std.specs.Prelude.{◌≡◌, ◌≤◌, ◌<◌, ◌↔◌, true, false, length, string_bytes, None, is_some, Ok, IfOk};
+ghost use Rattle.std.specs.Prelude.{IfSome};
 ghost use Rattle.std.specs.Str.Lines.{lines};
 ghost use Rattle.klp_catalog_text.specs.Within.{AreTargetsWithin};
 ghost use Rattle.klp_program.specs.Watches.{Watches};
@@ -7,19 +8,16 @@ ghost use Rattle.klp_capture.specs.Shown.{ShowSamples, samples_before};
 ghost use Rattle.klp_capture_run.specs.Explained.{is_honest};
 ghost use Rattle.klp_capture_run.specs.Holders.{LagOver, holders_in};
 
-use crate::functions::Functions;
 use crate::holders::{Holder, Lags, holders_of, lags_over};
 use crate::run::Run;
 use klp_callback::Boxed;
 use klp_capture::{Capture, Moment, PatchName, Sample, Text, Thread};
+use klp_capture_catalog::{Functions, forced_in};
 use klp_catalog::Catalog;
 use klp_catalog_text::Plan;
 use klp_core::Manager;
 use klp_program::{Fault, Verdict, boot, close, scripted, watch_over_text};
 use std::alloc::{AllocError, Global};
-
-/// What the kernel's log has where a transition is forced.
-const FORCED: &[u8] = b"forcing remaining tasks";
 
 /// What a log comes to.
 #[derive(Drop)]
@@ -34,8 +32,8 @@ pub struct Explained<'a> {
     pub catalog: String,
     /// Which sample no run of the rules leads to, if there is one; the first counts as 0.
     pub failed: Option<usize>,
-    /// The same in a log that was cut off. A force may lead to that sample, whose line such a log lacks. So neither it nor
-    /// what comes later is judged.
+    /// The same in a log that was cut off. A force may lead to that sample, whose line such a log lacks. So neither it
+    /// nor what comes later is judged.
     pub unjudged: Option<usize>,
     /// The first sample that the trace lacks, though something led to it. There is none unless the search is at fault.
     pub unshown: Option<usize>,
@@ -50,8 +48,8 @@ pub struct Explained<'a> {
 }
 
 impl<'a> Explained<'a> {
-    /// Whether a run of the rules shows what was recorded: some sample is in the trace, nothing leads to none of them, the
-    /// trace is honest, and it is known who lags at its end.
+    /// Whether a run of the rules shows what was recorded: some sample is in the trace, nothing leads to none of them,
+    /// the trace is honest, and it is known who lags at its end.
     pub fn is_explained(&self) -> bool
         ensures { (result ≡ true) ↔
             ((is_honest self.now.verdict ≡ true) × (self.now.failed ≡ None) × (self.now.unshown ≡ None)
@@ -107,23 +105,6 @@ impl<'a> Explained<'a> {
         }
         Ok(text)
     }
-}
-
-/// Whether bytes have others among them.
-fn contains(bytes: &[u8], wanted: &[u8]) -> bool {
-    bytes
-        .windows(wanted.len().max(1))
-        .any(|window| window == wanted)
-}
-
-/// When a transition was forced while it was recorded, by the kernel's log. That has older forces too.
-fn forced_in(capture: &Capture<'_>) -> Option<Moment> {
-    let first = capture.samples.first()?.line.from;
-    let line = capture
-        .log
-        .iter()
-        .find(|line| line.at >= first && contains(line.text, FORCED))?;
-    Some(line.at)
 }
 
 // The manager goes then.
@@ -226,18 +207,20 @@ fn samples_before(number: Option<usize>, samples: &[Sample]) -> &[Sample]
     }
 }
 /// Explains a log: makes a catalog of what it names, and looks for a run of the rules that shows each sample. The
-/// verdict is that of `klpwatch` on the trace that was found, over that catalog. Up to the first sample to which nothing
-/// leads, the trace has each that is settled and before a force: the states of the tasks that it names, and the files of
-/// the patches. Who lags at the end is what the rules say of the state that the trace leads to.
+/// verdict is that of `klpwatch` on the trace that was found, over that catalog. Up to the first sample to which
+/// nothing leads, the trace has each that is settled and before a force: the states of the tasks that it names, and the
+/// files of the patches. Who lags at the end is what the rules say of the state that the trace leads to.
 pub fn explain<'a>(alloc: Global, capture: &Capture<'a>) -> Result<Explained<'a>, Fault>
     ensures judged { IfOk result
         (λ found. Watches (string_bytes found.catalog) (string_bytes found.run.trace) (Ok found.verdict)) }
     ensures shown { IfOk result
         (λ found. ShowSamples capture.now found.forced found.names.items found.threads.items
-        (samples_before found.unshown (samples_before found.failed (samples_before found.unjudged capture.now.samples.items)))
+        (samples_before found.unshown
+        (samples_before found.failed (samples_before found.unjudged capture.now.samples.items)))
         (lines (string_bytes found.run.trace))) }
     ensures lags { IfOk result
-        (λ found. IfSome found.lags (λ lags. LagOver (string_bytes found.catalog) (string_bytes found.run.trace) lags)) }
+        (λ found. IfSome found.lags
+        (λ lags. LagOver (string_bytes found.catalog) (string_bytes found.run.trace) lags)) }
 {
     let forced = forced_in(capture);
     let guesses = is_better_guessed(alloc, capture, forced)?;

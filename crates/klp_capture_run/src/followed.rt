@@ -1,6 +1,6 @@
 //! A task that a log follows, as the run so far leaves it.
-use crate::functions::{Functions, Place};
 use klp_capture::{Activity, Moment, PatchedState};
+use klp_capture_catalog::{Functions, SeenVersion};
 use klp_core::Lag;
 use klp_types::{Mode, Version};
 use std::alloc::AllocError;
@@ -18,7 +18,7 @@ pub struct Followed<'a> {
     pub is_kernel_thread: bool,
     pub(crate) mode: Mode,
     /// The functions that it called and hasn't returned from, outermost first.
-    pub(crate) inside: Vec<Place>,
+    pub(crate) inside: Vec<SeenVersion>,
     pub(crate) state: PatchedState,
     /// How often it had a processor, as it was seen last.
     pub(crate) runs: u64,
@@ -52,7 +52,7 @@ pub(crate) struct Sighting {
     pub(crate) runs: u64,
     pub(crate) is_stable: bool,
     /// The functions that it is inside of, outermost first.
-    pub(crate) places: Vec<Place>,
+    pub(crate) places: Vec<SeenVersion>,
 }
 
 impl Sighting {
@@ -63,7 +63,7 @@ impl Sighting {
 }
 
 /// How many places two lists begin with in common.
-fn common(a: &[Place], b: &[Place]) -> usize {
+fn common(a: &[SeenVersion], b: &[SeenVersion]) -> usize {
     a.iter().zip(b).take_while(|pair| pair.0 == pair.1).count()
 }
 
@@ -82,16 +82,16 @@ impl<'r, 'a> TaskLines<'r, 'a> {
     }
 
     /// It calls a function, and this version of it runs.
-    fn call(&mut self, place: Place) -> Result<(), AllocError> {
+    fn call(&mut self, place: SeenVersion) -> Result<(), AllocError> {
         let number = self.number;
         write!(self.text, "call {number} ")?;
         self.functions.write_symbol(self.text, place.function)?;
         write!(self.text, "\nran {number} ")?;
-        self.functions.write_place(self.text, place)?;
+        self.functions.write_version(self.text, place)?;
         self.text.push_str("\n")
     }
 
-    fn call_all(&mut self, places: &[Place]) -> Result<(), AllocError> {
+    fn call_all(&mut self, places: &[SeenVersion]) -> Result<(), AllocError> {
         for place in places {
             self.call(*place)?;
         }
@@ -106,12 +106,12 @@ impl<'r, 'a> TaskLines<'r, 'a> {
         Ok(())
     }
 
-    fn sleep(&mut self, places: &[Place]) -> Result<(), AllocError> {
+    fn sleep(&mut self, places: &[SeenVersion]) -> Result<(), AllocError> {
         let number = self.number;
         write!(self.text, "task sleep {number}")?;
         for place in places {
             self.text.push_str(" ")?;
-            self.functions.write_place(self.text, *place)?;
+            self.functions.write_version(self.text, *place)?;
         }
         self.text.push_str("\n")
     }

@@ -1,8 +1,9 @@
-//! Who holds a transition up at the end of a trace. The trace is read back, and done over a manager that is booted anew: so
-//! what is told follows from the rules and the trace alone, and not from how the trace was found.
+//! Who holds a transition up at the end of a trace. The trace is read back, and done over a manager that is booted
+//! anew: so what is told follows from the rules and the trace alone, and not from how the trace was found.
 ghost use Rattle.std.specs.Prelude.{◌≡◌, ◌≤◌, ◌++◌, length, OnOk, IfOk, IfSome};
 ghost use Rattle.klp_catalog_text.specs.Within.{AreTargetsWithin};
-ghost use Rattle.klp_capture_run.specs.Holders.{LagBehind, LagBehindTrace, LagOverPlan, LagOver, holder_at, holders_from, holders_in};
+ghost use Rattle.klp_capture_run.specs.Holders.{LagBehind, LagBehindTrace, LagOverPlan, LagOver, holder_at};
+ghost use Rattle.klp_capture_run.specs.Holders.{holders_from, holders_in};
 
 use klp_callback::Boxed;
 use klp_catalog::Catalog;
@@ -66,8 +67,8 @@ fn lags_over_plan(alloc: Global, plan: Plan, trace: &[u8]) -> Result<Option<Lags
     Ok(lags_behind_trace(alloc, manager, trace))
 }
 
-/// Who lags in the state that a trace leads to over a catalog, and why. None if the trace can't be read, or isn't as the
-/// rules say.
+/// Who lags in the state that a trace leads to over a catalog, and why. None if the trace can't be read, or isn't as
+/// the rules say.
 pub(crate) fn lags_over(alloc: Global, catalog: &[u8], trace: &[u8]) -> Result<Option<Lags>, Fault>
     ensures { IfOk result (λ found. IfSome found (λ lags. LagOver catalog.now trace.now lags)) }
 {

@@ -5,24 +5,16 @@
 //! trace. Nothing is claimed of what happened between two samples.
 #![tactic(auto)]
 
-mod catalog;
 mod explained;
 mod fits;
 mod followed;
-mod found;
-mod functions;
 mod holders;
 mod lines;
-mod patches;
 mod run;
 mod settle;
 mod step;
-mod transition;
 
 pub use explained::{Explained, explain};
 pub use followed::{Followed, Stay};
-pub use functions::{Functions, SeenFunction, SeenPatch};
 pub use holders::{Holder, Lags};
-pub use patches::Files;
 pub use run::Run;
-pub use transition::{End, Ending, Moved, Since};

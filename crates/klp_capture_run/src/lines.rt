@@ -1,9 +1,9 @@
 //! Lines of a trace that lead from one sample to the next.
 use crate::followed::TaskLines;
-use crate::patches::{Files, PatchLines};
 use crate::run::Run;
 use crate::step::{Facts, Named, Step};
 use klp_capture::Text;
+use klp_capture_catalog::{Files, PatchLines};
 use std::alloc::{AllocError, Global};
 
 /// Lines of a trace that lead to one sample, with a poll at one place among them, or none.

@@ -1,16 +1,15 @@
 //! A run of the rules that shows what a log shows, sample by sample.
 //!
-//! A log says what was, not what happened. Between two samples this looks for events that the rules allow, and that lead
-//! from one to the next: it tries lines of a trace on a manager, compares what is shown then, and takes them back where it
-//! isn't as the log has it. It needs no trust: what it finds is a trace, which is held against the rules as any other.
+//! A log says what was, not what happened. Between two samples this looks for events that the rules allow, and that
+//! lead from one to the next: it tries lines of a trace on a manager, compares what is shown then, and takes them back
+//! where it isn't as the log has it. It needs no trust: what it finds is a trace, which is held against the rules as
+//! any other.
 ghost use Rattle.klp_core.specs.Journaled.{IsWellFormed};
 
 use crate::fits::fits;
 use crate::followed::Followed;
-use crate::functions::Functions;
-use crate::patches::Files;
-use crate::transition::{End, Moved, since_when};
 use klp_capture::{Capture, Moment, PatchRow, Sample, Thread};
+use klp_capture_catalog::{End, Files, Functions, Moved, since_when};
 use klp_core::Manager;
 use klp_types::MAX_GROUPS;
 use std::alloc::{AllocError, Global};
@@ -104,8 +103,8 @@ impl<'a> Run<'a> {
     }
 
     /// Goes on to a sample: looks for lines that lead to it, and takes their events. False if there are none; then the
-    /// trace has the lines that were tried first. But a log that was cut off may lack the line of a force that leads to it,
-    /// so such lines aren't to be judged.
+    /// trace has the lines that were tried first. But a log that was cut off may lack the line of a force that leads to
+    /// it, so such lines aren't to be judged.
     fn advance(
         &mut self,
         alloc: Global,
@@ -239,7 +238,8 @@ impl<'a> Run<'a> {
         Ok(())
     }
 
-    /// Goes on to each sample in turn, up to this moment. Returns the number of the first sample to which nothing leads.
+    /// Goes on to each sample in turn, up to this moment. Returns the number of the first sample to which nothing
+    /// leads.
     pub(crate) fn explore(
         &mut self,
         alloc: Global,

@@ -1,9 +1,9 @@
 //! What a run knows once it has come to a sample.
 use crate::followed::{Followed, Sighting, Stay};
-use crate::patches::Files;
 use crate::run::Run;
 use crate::step::{Facts, Named, Step, state_at};
 use klp_capture::{Activity, Moment};
+use klp_capture_catalog::Files;
 use klp_core::Lag;
 use klp_types::Mode;
 use std::alloc::AllocError;

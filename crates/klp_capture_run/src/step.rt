@@ -1,9 +1,8 @@
 //! A sample, and what changed with it since the last one.
 use crate::followed::{Followed, Sighting};
-use crate::functions::{Place, files_in, moving_in};
-use crate::patches::{Files, completes, starts};
 use crate::run::Run;
 use klp_capture::{Activity, Capture, Moment, PatchRow, PatchedState, Sample, SeenTask};
+use klp_capture_catalog::{Files, SeenVersion, completes, files_in, moving_in, starts};
 use klp_types::{MAX_FRAMES, MAX_TASKS, Mode};
 use std::alloc::{AllocError, Global};
 
@@ -55,10 +54,10 @@ impl<'a> Run<'a> {
         alloc: Global,
         capture: &Capture<'a>,
         seen: &SeenTask<'a>,
-    ) -> Result<Vec<Place>, AllocError> {
+    ) -> Result<Vec<SeenVersion>, AllocError> {
         let mut places = Vec::new(alloc);
         for frame in seen.frames.of(&capture.frames).iter().rev() {
-            if let Some(place) = self.functions.place_of(*frame)
+            if let Some(place) = self.functions.seen_version(*frame)
                 && places.len() < MAX_FRAMES
             {
                 places.push(place)?;

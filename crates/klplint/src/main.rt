@@ -3,21 +3,7 @@
 //! has what is wrong with the files, and where.
 #![tactic(auto)]
 
-mod conflict;
-mod idle;
-mod judging;
-mod limits;
-mod orders;
-mod place;
-mod remark;
-mod replacing;
-mod scripts;
-mod together;
-mod words;
-
-use crate::judging::lint_over_text;
-use crate::remark::Form;
-use crate::words::CatalogText;
+use klp_lint_remarks::{CatalogText, Form, lint_over_text};
 use klp_program::{bytes_in, program_arguments, report_fault_as};
 use std::alloc::Global;
 use std::io;

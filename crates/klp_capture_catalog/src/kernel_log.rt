@@ -1,23 +1,5 @@
-//! Transitions that a log shows: which, since when, and how each ended.
-use crate::patches::Files;
+//! What the kernel's own log, in a log of `klpcap`, says of a transition: when it started, and whether it was forced.
 use klp_capture::{Capture, Moment, Sample};
-
-/// A transition that was seen.
-#[derive(Clone, Copy)]
-pub struct Moved {
-    /// The index of its patch.
-    pub patch: usize,
-    /// Whether the patch is being enabled.
-    pub target: bool,
-    /// When it started.
-    pub since: Since,
-    /// The first sample of it.
-    pub from: Moment,
-    /// The last sample of it so far.
-    pub to: Moment,
-    /// How it ended; none as long as it goes on.
-    pub end: Option<End>,
-}
 
 /// When a transition started.
 #[derive(Clone, Copy, PartialEq, Eq)]
@@ -28,40 +10,8 @@ pub enum Since {
     AtOrBefore(Moment),
 }
 
-/// The end of a transition.
-#[derive(Clone, Copy)]
-pub struct End {
-    /// The first sample that shows it.
-    pub at: Moment,
-    /// What came of it.
-    pub ending: Ending,
-}
-
-/// What came of a transition.
-#[derive(Clone, Copy, PartialEq, Eq)]
-pub enum Ending {
-    /// All tasks reached its target.
-    Complete,
-    /// It was turned round. The patch may be back at the other end already.
-    Reversed,
-}
-
-impl Moved {
-    /// Whether a patch with this target is this transition.
-    pub(crate) fn is_of(&self, patch: usize, target: bool) -> bool {
-        self.patch == patch && self.target == target
-    }
-
-    /// What came of it, by what its patch's files read once it isn't under way.
-    pub(crate) fn ending_by(&self, files: Files) -> Ending {
-        let is_enabled = matches!(files, Some((true, _)));
-        if is_enabled == self.target {
-            Ending::Complete
-        } else {
-            Ending::Reversed
-        }
-    }
-}
+/// What the kernel's log has where a transition is forced.
+const FORCED: &[u8] = b"forcing remaining tasks";
 
 /// What the kernel's log says of a patch, behind its name.
 #[derive(Clone, Copy, PartialEq, Eq)]
@@ -72,7 +22,8 @@ enum Milestone {
     Completes,
 }
 
-/// What a line of the kernel's log says of the transition of a patch: `livepatch: 'NAME': starting patching transition`.
+/// What a line of the kernel's log says of the transition of a patch: `livepatch: 'NAME': starting patching
+/// transition`.
 fn milestone_of(text: &[u8], patch: &[u8]) -> Option<Milestone> {
     let behind = text.strip_prefix(b"livepatch: '".as_slice())?;
     let behind = behind.strip_prefix(patch)?;
@@ -93,9 +44,9 @@ fn is_behind(at: Moment, sample: Moment) -> bool {
     at.0.saturating_add(CLOCKS_APART) >= sample.0
 }
 
-/// Since when a transition is under way that a sample is the first to show. `before` is the last sample that didn't show
-/// it: a start that the kernel's log has from before is that of another transition.
-pub(crate) fn since_when(
+/// Since when a transition is under way that a sample is the first to show. `before` is the last sample that didn't
+/// show it: a start that the kernel's log has from before is that of another transition.
+pub fn since_when(
     capture: &Capture<'_>,
     patch: &[u8],
     target: bool,
@@ -117,4 +68,21 @@ pub(crate) fn since_when(
         Some(at) if before.is_none_or(|before| is_behind(at, before)) => Since::Logged(at),
         _ => Since::AtOrBefore(sample.line.from),
     }
+}
+
+/// Whether bytes have others among them.
+fn contains(bytes: &[u8], wanted: &[u8]) -> bool {
+    bytes
+        .windows(wanted.len().max(1))
+        .any(|window| window == wanted)
+}
+
+/// When a transition was forced while it was recorded, by the kernel's log. That has older forces too.
+pub fn forced_in(capture: &Capture<'_>) -> Option<Moment> {
+    let first = capture.samples.first()?.line.from;
+    let line = capture
+        .log
+        .iter()
+        .find(|line| line.at >= first && contains(line.text, FORCED))?;
+    Some(line.at)
 }

@@ -2,8 +2,8 @@
 ghost use Rattle.std.specs.Prelude.{◌≡◌};
 ghost use Rattle.klp_core.specs.Journaled.{IsWellFormed};
 
+use crate::loaded_over::{Order, stands_over};
 use crate::remark::Names;
-use crate::together::{Order, stands_over};
 use klp_catalog_text::PlanPatch;
 use klp_core::Manager;
 use klp_model::{Event, Reply};

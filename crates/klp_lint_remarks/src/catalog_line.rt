@@ -16,7 +16,7 @@ pub(crate) fn word_of(which: Which) -> &'static [u8] {
 /// A place that is looked for: a patch by its number; perhaps one of its targets, by its index; and perhaps a line in
 /// it, by its first word, and by how many such lines are before it.
 #[derive(Clone, Copy)]
-pub(crate) struct Place<'a> {
+pub(crate) struct CatalogPlace<'a> {
     pub(crate) patch: usize,
     pub(crate) target: Option<usize>,
     pub(crate) word: Option<&'a [u8]>,
@@ -48,7 +48,7 @@ impl Passed {
     }
 
     /// Whether a line with this first word, which begins a patch or a target or doesn't, is at the place.
-    fn is_at(self, place: Place<'_>, word: &[u8], begins: bool) -> bool {
+    fn is_at(self, place: CatalogPlace<'_>, word: &[u8], begins: bool) -> bool {
         let targets = match place.target {
             Some(target) => target.saturating_add(1),
             None => 0,
@@ -62,7 +62,7 @@ impl Passed {
 }
 
 /// The line of the place in a catalog without a fault, counted from 1. 0 where there is no such line.
-pub(crate) fn line_of(text: &[u8], place: Place<'_>) -> u64 {
+pub(crate) fn line_of(text: &[u8], place: CatalogPlace<'_>) -> u64 {
     let mut passed = Passed {
         patches: 0,
         targets: 0,

@@ -2,11 +2,11 @@
 ghost use Rattle.std.specs.Prelude.{◌≡◌};
 ghost use Rattle.klp_core.specs.Journaled.{IsWellFormed};
 
-use crate::conflict::{Conflict, conflict_with};
+use crate::catalog_line::word_of;
 use crate::orders::{Orders, count_orders};
-use crate::place::word_of;
 use crate::remark::{Kind, Names, Remark};
 use crate::replacing::say_replacing;
+use crate::state_conflict::{Conflict, conflict_with};
 use crate::words::{Linted, LintedPatch, patch_id};
 use arrayvec::ArrayVec;
 use klp_core::Manager;

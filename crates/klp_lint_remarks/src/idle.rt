@@ -1,6 +1,6 @@
 //! What of a patch can't work, or does nothing, in any world.
 
-use crate::place::word_of;
+use crate::catalog_line::word_of;
 use crate::remark::{Kind, Remark};
 use crate::words::LintedPatch;
 use klp_catalog_text::{PlanCallback, PlanFunction, PlanPatch};

@@ -3,9 +3,9 @@ ghost use Rattle.std.specs.Prelude.{◌≡◌};
 ghost use Rattle.klp_core.specs.Journaled.{IsWellFormed};
 
 use crate::idle::names;
+use crate::loaded_over::{End, Loading, Order, end_of, events_for, stands_over};
 use crate::remark::{Kind, Names, Remark, name_of_patch};
 use crate::scripts::{Change, change_of, keys_added};
-use crate::together::{End, Loading, Order, end_of, events_for, stands_over};
 use crate::words::{LintedPatch, patch_id};
 use klp_catalog_text::PlanPatch;
 use klp_core::Manager;

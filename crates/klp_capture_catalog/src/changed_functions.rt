@@ -1,5 +1,5 @@
 //! The functions that the patches of a log change, and which patches are cumulative.
-use crate::functions::{files_in, index_of, new_symbol_of};
+use crate::named::{files_in, index_of, new_symbol_of};
 use klp_capture::{Capture, PatchRow};
 use klp_types::{MAX_FUNCTIONS, MAX_OBJECTS, MAX_SITES, MAX_TARGETS};
 use std::alloc::{AllocError, Global};

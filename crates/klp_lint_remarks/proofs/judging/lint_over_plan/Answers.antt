@@ -7,8 +7,8 @@ use Rattle.klp_catalog_text.specs.Scripts.{scripts_of}
 use Rattle.klp_program.specs.Booted.{never_ran}
 use Rattle.klp_program.proofs.ServeLemmas.{first_made, next_made, all_made, reported_of}
 use denote.Param.Object.{read_made}
-use Rattle.klplint.proofs.judging.lint_over_plan.OwnLists.{own-1, at-1-1}
-use Rattle.klplint.proofs.judging.lint_over_plan.Goals as goal
+use Rattle.klp_lint_remarks.proofs.judging.lint_over_plan.OwnLists.{own-1, at-1-1}
+use Rattle.klp_lint_remarks.proofs.judging.lint_over_plan.Goals as goal
 
 -- the callback means the script
 pub loop-callbacks-preserved : goal.loop-callbacks-preserved

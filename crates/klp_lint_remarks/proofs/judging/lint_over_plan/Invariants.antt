@@ -1,7 +1,7 @@
 use Rattle.std.proofs.Common.{◌≡◌, ◌-◌, length}
 use Rattle.klp_catalog_text.specs.Scripts.{scripts_of}
 use Rattle.klp_program.proofs.ServeLemmas.{first_made}
-use Rattle.klplint.proofs.judging.lint_over_plan.Given as goal
+use Rattle.klp_lint_remarks.proofs.judging.lint_over_plan.Given as goal
 
 -- there is a callback for each script so far
 abbrev pub invariant-loop-callbacks : goal.invariant-loop-callbacks

@@ -1,6 +1,6 @@
 //! What is found of the round trip, in words.
 
-use crate::place::{Place, line_of, word_of};
+use crate::catalog_line::{CatalogPlace, line_of, word_of};
 use crate::remark::{Form, Kind, Remark, write_about, write_kind};
 use klp_catalog_text::{PlanPatch, PlanTarget};
 use klp_core::Manager;
@@ -11,10 +11,10 @@ use std::{fmt, io};
 
 /// A catalog: what its file is called, its bytes, and how it is reported.
 #[derive(Clone, Copy)]
-pub(crate) struct CatalogText<'a> {
-    pub(crate) name: &'a str,
-    pub(crate) bytes: &'a [u8],
-    pub(crate) form: Form,
+pub struct CatalogText<'a> {
+    pub name: &'a str,
+    pub bytes: &'a [u8],
+    pub form: Form,
 }
 
 /// What a catalog says: its text, and what was read of it.
@@ -138,7 +138,7 @@ impl<'a> LintedPatch<'a> {
         word: Option<&[u8]>,
         before: usize,
     ) -> u64 {
-        let place = Place {
+        let place = CatalogPlace {
             patch: self.number,
             target,
             word,

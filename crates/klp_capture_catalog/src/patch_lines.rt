@@ -7,9 +7,9 @@ pub type Files = Option<(bool, bool)>;
 
 /// Lines about one patch.
 #[derive(Drop)]
-pub(crate) struct PatchLines<'r> {
-    pub(crate) name: &'r [u8],
-    pub(crate) text: &'r mut String,
+pub struct PatchLines<'r> {
+    pub name: &'r [u8],
+    pub text: &'r mut String,
 }
 
 impl<'r> PatchLines<'r> {
@@ -19,7 +19,7 @@ impl<'r> PatchLines<'r> {
     }
 
     /// It stood before the log began.
-    pub(crate) fn stand(&mut self) -> Result<(), AllocError> {
+    pub fn stand(&mut self) -> Result<(), AllocError> {
         self.load()?;
         self.poll()
     }
@@ -37,9 +37,9 @@ impl<'r> PatchLines<'r> {
         self.text.push_str("poll\n")
     }
 
-    /// What led from one reading of its files to the next, but for the poll that completes a transition at the end. A patch
-    /// that a cumulative one replaced does nothing.
-    pub(crate) fn change(
+    /// What led from one reading of its files to the next, but for the poll that completes a transition at the end. A
+    /// patch that a cumulative one replaced does nothing.
+    pub fn change(
         &mut self,
         before: Files,
         after: Files,
@@ -60,7 +60,7 @@ impl<'r> PatchLines<'r> {
     }
 
     /// What its files read.
-    pub(crate) fn saw(&mut self, files: Files) -> Result<(), AllocError> {
+    pub fn saw(&mut self, files: Files) -> Result<(), AllocError> {
         let name = Text(self.name);
         match files {
             Some((enabled, transition)) => {
@@ -73,7 +73,7 @@ impl<'r> PatchLines<'r> {
 }
 
 /// Whether a change of a patch's files ends with the completion of its transition.
-pub(crate) fn completes(before: Files, after: Files, is_replaced: bool) -> bool {
+pub fn completes(before: Files, after: Files, is_replaced: bool) -> bool {
     match (before, after) {
         (None | Some((_, true)), Some((true, false))) => true,
         (Some(_), None) => !is_replaced,
@@ -82,7 +82,7 @@ pub(crate) fn completes(before: Files, after: Files, is_replaced: bool) -> bool 
 }
 
 /// Whether a transition starts by a change of a patch's files: not where it is reversed, or goes on.
-pub(crate) fn starts(before: Files, after: Files, is_replaced: bool) -> bool {
+pub fn starts(before: Files, after: Files, is_replaced: bool) -> bool {
     match (before, after) {
         (None, Some(_)) => true,
         (Some((true, false)), Some((false, true))) => true,

@@ -1,6 +1,6 @@
-//! The functions that the patches of a log change: a catalog of what it names, and which of them a task is inside of.
-use crate::found::{FoundFunction, found_in, is_cumulative, is_shared};
-use crate::patches::Files;
+//! What a log names: its patches, the functions that they change, and which of these a task is inside of.
+use crate::changed_functions::{FoundFunction, found_in, is_cumulative, is_shared};
+use crate::patch_lines::Files;
 use klp_capture::{Capture, FrameLine, PatchName, PatchRow, Span, SymbolLine, patch_in};
 use klp_types::{MAX_PATCHES, MAX_SITES, MAX_SYMBOL_NAME};
 use std::alloc::{AllocError, Global};
@@ -60,10 +60,10 @@ pub(crate) struct SeenSymbol<'a> {
 
 /// A function that a task is inside of: the original, or the new one.
 #[derive(Clone, Copy, PartialEq, Eq)]
-pub(crate) struct Place {
+pub struct SeenVersion {
     /// The index of the function.
-    pub(crate) function: usize,
-    pub(crate) is_new: bool,
+    pub function: usize,
+    pub is_new: bool,
 }
 
 /// What the log names: patches, the oldest first, objects, and functions.
@@ -71,7 +71,8 @@ pub(crate) struct Place {
 pub struct Functions<'a> {
     /// The patches, by their numbers in the catalog.
     pub patches: Vec<SeenPatch<'a>>,
-    pub(crate) objects: Vec<&'a [u8]>,
+    /// The objects, by their numbers in the catalog; the first is `vmlinux`.
+    pub objects: Vec<&'a [u8]>,
     /// The functions that the patches change, patch by patch.
     pub functions: Vec<SeenFunction<'a>>,
     pub(crate) symbols: Vec<SeenSymbol<'a>>,
@@ -85,7 +86,7 @@ pub struct Functions<'a> {
 }
 
 /// What the files of a patch read in these rows, if it is there.
-pub(crate) fn files_in(rows: &[PatchRow<'_>], name: &[u8]) -> Files {
+pub fn files_in(rows: &[PatchRow<'_>], name: &[u8]) -> Files {
     match patch_in(rows, name) {
         Some(
             PatchRow::Patch {
@@ -99,7 +100,7 @@ pub(crate) fn files_in(rows: &[PatchRow<'_>], name: &[u8]) -> Files {
 }
 
 /// The patch in these rows that is in transition, with its target.
-pub(crate) fn moving_in<'a>(rows: &[PatchRow<'a>]) -> Option<(&'a [u8], bool)> {
+pub fn moving_in<'a>(rows: &[PatchRow<'a>]) -> Option<(&'a [u8], bool)> {
     for row in rows {
         if let PatchRow::Patch {
             name,
@@ -217,9 +218,9 @@ pub(crate) fn new_symbol_of<'a>(
 }
 
 impl<'a> Functions<'a> {
-    /// What a log names. `guesses` has the patch that is in transition last taken for a cumulative one: a log that was cut
-    /// off doesn't show that of it.
-    pub(crate) fn of(
+    /// What a log names. `guesses` has the patch that is in transition last taken for a cumulative one: a log that was
+    /// cut off doesn't show that of it.
+    pub fn of(
         alloc: Global,
         capture: &Capture<'a>,
         guesses: bool,
@@ -253,7 +254,7 @@ impl<'a> Functions<'a> {
     }
 
     /// What the patches are called in a trace.
-    pub(crate) fn names(&self, alloc: Global) -> Result<Vec<PatchName<'a>>, AllocError> {
+    pub fn names(&self, alloc: Global) -> Result<Vec<PatchName<'a>>, AllocError> {
         let mut names = Vec::new(alloc);
         for patch in &self.patches {
             names.push(PatchName { name: patch.name })?;
@@ -323,7 +324,8 @@ impl<'a> Functions<'a> {
         Ok(())
     }
 
-    /// Adds the symbols of each object that its functions are named by: those of the log, and others where it has too few.
+    /// Adds the symbols of each object that its functions are named by: those of the log, and others where it has too
+    /// few.
     fn add_symbols(&mut self, capture: &Capture<'a>) -> Result<(), AllocError> {
         for place in 0..self.functions.len() {
             let Some(function) = self.functions.get(place).copied() else {
@@ -375,13 +377,13 @@ impl<'a> Functions<'a> {
     }
 
     /// The function that a task is inside of, if a patch of the log changes it, or has it.
-    pub(crate) fn place_of(&self, frame: FrameLine<'_>) -> Option<Place> {
+    pub fn seen_version(&self, frame: FrameLine<'_>) -> Option<SeenVersion> {
         let function = self
             .functions
             .iter()
             .position(|function| self.is_new(function, frame));
         if let Some(function) = function {
-            return Some(Place {
+            return Some(SeenVersion {
                 function,
                 is_new: true,
             });
@@ -390,7 +392,7 @@ impl<'a> Functions<'a> {
             .functions
             .iter()
             .position(|function| self.is_original(function, frame))?;
-        Some(Place {
+        Some(SeenVersion {
             function,
             is_new: false,
         })

@@ -1,5 +1,5 @@
 //! The catalog of what a log names, as text.
-use crate::functions::{Functions, Place};
+use crate::named::{Functions, SeenVersion};
 use klp_capture::Text;
 use klp_types::MAX_SYMBOL_NAME;
 use klp_words::is_name;
@@ -15,11 +15,7 @@ fn cut_name(name: &[u8]) -> Text<'_> {
 
 impl Functions<'_> {
     /// Writes the symbol of a function, as the console spells it.
-    pub(crate) fn write_symbol(
-        &self,
-        text: &mut String,
-        function: usize,
-    ) -> Result<(), AllocError> {
+    pub fn write_symbol(&self, text: &mut String, function: usize) -> Result<(), AllocError> {
         let Some(function) = self.functions.get(function) else {
             return Ok(());
         };
@@ -30,7 +26,7 @@ impl Functions<'_> {
     }
 
     /// Writes a function that a task is inside of, as the console spells it.
-    pub(crate) fn write_place(&self, text: &mut String, place: Place) -> Result<(), AllocError> {
+    pub fn write_version(&self, text: &mut String, place: SeenVersion) -> Result<(), AllocError> {
         if !place.is_new {
             return self.write_symbol(text, place.function);
         }
@@ -86,7 +82,7 @@ impl Functions<'_> {
     }
 
     /// The text of a catalog that has what the log names.
-    pub(crate) fn catalog(&self, alloc: Global) -> Result<String, AllocError> {
+    pub fn catalog(&self, alloc: Global) -> Result<String, AllocError> {
         let handler = self.handler;
         let mut text = format!(in alloc; "handler {handler:x}\n")?;
         self.write_objects(&mut text)?;

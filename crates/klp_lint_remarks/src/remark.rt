@@ -7,7 +7,7 @@ use std::{fmt, io};
 
 /// How it is said: a line of words, or an object of JSON, which is a line too.
 #[derive(Clone, Copy, PartialEq, Eq)]
-pub(crate) enum Form {
+pub enum Form {
     Words,
     Json,
 }

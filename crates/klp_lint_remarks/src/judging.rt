@@ -5,7 +5,7 @@ ghost use Rattle.klp_catalog_text.specs.Within.{AreTargetsWithin};
 
 use crate::idle::{say_idle, say_unpicked};
 use crate::limits::{say_alike, say_near, say_room};
-use crate::together::say_together;
+use crate::loaded_over::say_together;
 use crate::words::{CatalogText, Linted, LintedPatch, patch_id};
 use klp_callback::Boxed;
 use klp_catalog::Catalog;
@@ -214,7 +214,7 @@ fn lint_parts<W: Write>(
 ///
 /// The two are done by two managers, since loading patches raises the counts of their callbacks. The catalog is read
 /// once more, since booting takes the plan.
-pub(crate) fn lint_over_text<W: Write>(
+pub fn lint_over_text<W: Write>(
     alloc: Global,
     text: CatalogText<'_>,
     script: &[u8],
