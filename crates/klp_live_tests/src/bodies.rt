@@ -4,11 +4,12 @@ ghost use Rattle.klp_types.specs.declared.limits.TheConstants.{MAX_TASKS};
 
 use crate::gates::Slow;
 use crate::names::{FIRST, NOWHERE, PATCH, PATCHED, SECOND};
+use crate::open_starts::{OpenStart, TwoSeats};
 use crate::outcomes::{Detail, show_outcomes};
-use crate::pairs::{attached, seat_of, show_cause};
+use crate::pairs::{seat_of, show_cause};
 use crossbeam_utils::rule::Protocol;
 use klp_core::Machine;
-use klp_live::{Live, Published, Seat, Start, View};
+use klp_live::{Published, Seat, Start, View};
 use klp_live_bodies::{BodyCause, Gate, Outcome, Step, TaskBody};
 use klp_model::Event;
 use klp_types::TaskId;
@@ -17,10 +18,18 @@ use std::io;
 use std::sync::Wait;
 use std::sync::atomic::{AtomicU64, Ordering};
 
-/// What the first task does, and then the second; how often a gate refuses that both share, where it is told how often it
-/// was asked; and how much is shown of that.
+/// What the first task does, and then the second; how often a gate refuses that both share, where it is told how often
+/// it was asked; and how much is shown of that.
 #[derive(Clone, Copy)]
 struct Bodies<'a>(&'a [Step], &'a [Step], Option<u64>, Detail);
+
+/// What a task does: its steps, each once the gate lets it in.
+#[derive(Drop)]
+struct Body<'a, G> {
+    task: TaskId,
+    gate: G,
+    steps: &'a [Step],
+}
 
 /// What became of a body: what its steps came to, and why it has stopped, if it has.
 #[derive(Drop)]
@@ -36,71 +45,10 @@ fn few(steps: &[Step]) -> &[Step]
     steps.get(..100).unwrap_or(steps)
 }
 
-/// Takes a seat for a task, does its steps, and gives the seat back.
-fn run_body<S: Start + Protocol<Published, View>, G: Gate + Drop, M: Machine + Drop, R: Wait>(
-    rt: &R,
-    alloc: Global,
-    live: &Live<S, M, &R>,
-    seat: Seat<S>,
-    task: TaskId,
-    gate: G,
-    steps: &[Step],
-) -> (Seat<S>, Ended)
-    requires { task < MAX_TASKS }
-{
-    let mut outcomes = Vec::new(alloc);
-    let body = TaskBody::new(attached(live, seat, task), gate);
-    let ended = body.run(rt, alloc, live, few(steps), &mut outcomes);
-    let (seat, cause) = seat_of(ended);
-    (seat, Ended { outcomes, cause })
-}
-
 /// What became of a body with so many steps.
 fn show_ended<R: Print>(rt: &R, steps: usize, ended: &Ended, detail: Detail) -> io::Result<()> {
     show_outcomes(rt, steps, &ended.outcomes, detail)?;
     show_cause(rt, ended.cause)
-}
-
-/// Takes a seat for a task, does its steps, shows what they come to, and gives the seat back.
-fn show_body<
-    S: Start + Protocol<Published, View>,
-    G: Gate + Drop,
-    M: Machine + Drop,
-    R: Wait + Print,
->(
-    rt: &R,
-    alloc: Global,
-    live: &Live<S, M, &R>,
-    seat: Seat<S>,
-    task: TaskId,
-    gate: G,
-    steps: &[Step],
-    detail: Detail,
-) -> (Seat<S>, io::Result<()>)
-    requires { task < MAX_TASKS }
-{
-    let (seat, ended) = run_body(rt, alloc, live, seat, task, gate, steps);
-    (seat, show_ended(rt, steps.len(), &ended, detail))
-}
-
-/// The body of the first task, and then that of the second.
-pub(crate) fn show_both<
-    S: Start + Protocol<Published, View>,
-    G: Gate + Drop,
-    M: Machine + Drop,
-    R: Wait + Print,
->(
-    rt: &R,
-    alloc: Global,
-    live: &Live<S, M, &R>,
-    seats: (Seat<S>, Seat<S>),
-    gates: (G, G),
-    steps: (&[Step], &[Step]),
-    detail: Detail,
-) -> ((Seat<S>, Seat<S>), io::Result<()>) {
-    let (first, came) = show_body(rt, alloc, live, seats.0, FIRST, gates.0, steps.0, detail);
-    let (second, heard) = show_body(rt, alloc, live, seats.1, SECOND, gates.1, steps.1, detail);
-    ((first, second), came.and(heard))
 }
 
 /// The first task enables a patch, which it runs once it was outside of the kernel.
@@ -158,32 +106,6 @@ fn goes_deep() -> [Step; 71] {
     steps
 }
 
-/// Bodies over a gate that counts how often it is asked.
-fn show_counted<S: Start + Protocol<Published, View>, M: Machine + Drop, R: Wait + Print>(
-    rt: &R,
-    alloc: Global,
-    live: &Live<S, M, &R>,
-    seats: (Seat<S>, Seat<S>),
-    bodies: &Bodies<'_>,
-) -> ((Seat<S>, Seat<S>), io::Result<()>) {
-    let Bodies(first, second, refuses, detail) = *bodies;
-    let asked = AtomicU64::new(0);
-    let gate = Slow {
-        asked: &asked,
-        refuses: refuses.unwrap_or(0),
-    };
-    let (seats, came) = show_both(
-        rt,
-        alloc,
-        live,
-        seats,
-        (gate, gate),
-        (first, second),
-        detail,
-    );
-    (seats, came.and(show_asked(rt, refuses, &asked)))
-}
-
 /// How often the gate was asked, where that is told.
 fn show_asked<R: Print>(rt: &R, refuses: Option<u64>, asked: &AtomicU64) -> io::Result<()> {
     if refuses.is_none() {
@@ -192,40 +114,102 @@ fn show_asked<R: Print>(rt: &R, refuses: Option<u64>, asked: &AtomicU64) -> io::
     println!(rt; "asked {}", asked.load(Ordering::SeqCst))
 }
 
-/// What the tasks do, one after the other.
-fn show_each<S: Start + Protocol<Published, View>, M: Machine + Drop, R: Wait + Print>(
-    rt: &R,
-    alloc: Global,
-    live: &Live<S, M, &R>,
-    seats: (Seat<S>, Seat<S>),
-    all: &[Bodies<'_>],
-) -> ((Seat<S>, Seat<S>), io::Result<()>) {
-    let mut seats = seats;
-    let mut came = Ok(());
-    for bodies in all {
-        let (same, shown) = show_counted(rt, alloc, live, seats, bodies);
-        seats = same;
-        came = came.and(shown);
+impl<S, M, R> OpenStart<'_, '_, S, M, R>
+where
+    S: Start + Protocol<Published, View>,
+    M: Machine + Drop,
+    R: Wait + Print,
+{
+    /// Takes a seat for a task, does its steps, and gives the seat back.
+    fn run_body<G: Gate + Drop>(&self, seat: Seat<S>, body: Body<'_, G>) -> (Seat<S>, Ended)
+        requires { body.task < MAX_TASKS }
+    {
+        let Body { task, gate, steps } = body;
+        let live = self.live;
+        let mut outcomes = Vec::new(self.alloc);
+        let body = TaskBody::new(self.attached(seat, task), gate);
+        let ended = body.run(self.rt, self.alloc, live, few(steps), &mut outcomes);
+        let (seat, cause) = seat_of(ended);
+        (seat, Ended { outcomes, cause })
     }
-    (seats, came)
-}
 
-/// A patch that is enabled, a nap, deep calls, and a gate that lets the task in late or never.
-pub(crate) fn show_bodies<S: Start + Protocol<Published, View>, M: Machine + Drop, R: Wait + Print>(
-    rt: &R,
-    alloc: Global,
-    live: &Live<S, M, &R>,
-    seats: (Seat<S>, Seat<S>),
-) -> ((Seat<S>, Seat<S>), io::Result<()>) {
-    let (enables, hears_nothing) = (enables(), hears_nothing());
-    let (naps, deep) = (naps(), goes_deep());
-    let returns = [Step::Return; 2];
-    let all = [
-        Bodies(&enables, &hears_nothing, Some(0), Detail::All),
-        Bodies(&naps, &[], None, Detail::All),
-        Bodies(&deep, &[], None, Detail::Kinds),
-        Bodies(&returns, &[], Some(999_999), Detail::Kinds),
-        Bodies(&returns, &[], Some(1_000_000), Detail::Kinds),
-    ];
-    show_each(rt, alloc, live, seats, &all)
+    /// Takes a seat for a task, does its steps, shows what they come to, and gives the seat back.
+    fn show_body<G: Gate + Drop>(
+        &self,
+        seat: Seat<S>,
+        body: Body<'_, G>,
+        detail: Detail,
+    ) -> (Seat<S>, io::Result<()>)
+        requires { body.task < MAX_TASKS }
+    {
+        let count = body.steps.len();
+        let (seat, ended) = self.run_body(seat, body);
+        (seat, show_ended(self.rt, count, &ended, detail))
+    }
+
+    /// Shows the body of the first task, and then that of the second.
+    pub(crate) fn show_both<G: Gate + Drop>(
+        &self,
+        seats: TwoSeats<S>,
+        gates: (G, G),
+        steps: (&[Step], &[Step]),
+        detail: Detail,
+    ) -> (TwoSeats<S>, io::Result<()>) {
+        let one = Body {
+            task: FIRST,
+            gate: gates.0,
+            steps: steps.0,
+        };
+        let two = Body {
+            task: SECOND,
+            gate: gates.1,
+            steps: steps.1,
+        };
+        let (first, came) = self.show_body(seats.0, one, detail);
+        let (second, heard) = self.show_body(seats.1, two, detail);
+        ((first, second), came.and(heard))
+    }
+
+    /// Shows bodies over a gate that counts how often it is asked.
+    fn show_counted(
+        &self,
+        seats: TwoSeats<S>,
+        bodies: &Bodies<'_>,
+    ) -> (TwoSeats<S>, io::Result<()>) {
+        let Bodies(first, second, refuses, detail) = *bodies;
+        let asked = AtomicU64::new(0);
+        let gate = Slow {
+            asked: &asked,
+            refuses: refuses.unwrap_or(0),
+        };
+        let (seats, came) = self.show_both(seats, (gate, gate), (first, second), detail);
+        (seats, came.and(show_asked(self.rt, refuses, &asked)))
+    }
+
+    /// Shows what the tasks do, one after the other.
+    fn show_each(&self, seats: TwoSeats<S>, all: &[Bodies<'_>]) -> (TwoSeats<S>, io::Result<()>) {
+        let mut seats = seats;
+        let mut came = Ok(());
+        for bodies in all {
+            let (same, shown) = self.show_counted(seats, bodies);
+            seats = same;
+            came = came.and(shown);
+        }
+        (seats, came)
+    }
+
+    /// Shows a patch that is enabled, a nap, deep calls, and a gate that lets the task in late or never.
+    pub(crate) fn show_bodies(&self, seats: TwoSeats<S>) -> (TwoSeats<S>, io::Result<()>) {
+        let (enables, hears_nothing) = (enables(), hears_nothing());
+        let (naps, deep) = (naps(), goes_deep());
+        let returns = [Step::Return; 2];
+        let all = [
+            Bodies(&enables, &hears_nothing, Some(0), Detail::All),
+            Bodies(&naps, &[], None, Detail::All),
+            Bodies(&deep, &[], None, Detail::Kinds),
+            Bodies(&returns, &[], Some(999_999), Detail::Kinds),
+            Bodies(&returns, &[], Some(1_000_000), Detail::Kinds),
+        ];
+        self.show_each(seats, &all)
+    }
 }

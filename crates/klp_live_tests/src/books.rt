@@ -4,6 +4,7 @@ ghost use Rattle.klp_live.specs.Opening.{IsFresh};
 ghost use Rattle.klp_live.specs.Shown.{RuleIs};
 
 use crate::entries::{self, Crowd};
+use crate::handles::Runtime;
 use crate::measure::{self, Times};
 use crate::shows::{Shown, Shows, empty};
 use crate::turns;
@@ -12,10 +13,7 @@ use klp_live::{Book, Opened, Published, Seat, Start, StartCause, StartFault, Vie
 use std::alloc::Global;
 use std::io;
 use std::marker::Brand;
-use std::rt::Clock;
-use std::sync::Wait;
 use std::sync::ledger::Blank;
-use std::thread::Threads;
 
 /// What is done with a book and its seats.
 #[derive(Drop)]
@@ -42,11 +40,7 @@ impl Use<'_> {
 }
 
 /// Does that, and ends the book.
-fn used<
-    S: Start + Protocol<Published, View> + Send,
-    M: Shows + Drop,
-    R: Threads + Wait + Clock + Print + Sync,
->(
+fn used<S: Start + Protocol<Published, View> + Send, M: Shows + Drop, R: Runtime>(
     rt: &R,
     alloc: Global,
     book: Book<S, M, &R>,
@@ -75,24 +69,20 @@ fn used<
 }
 
 /// Opens a book for that.
-fn opened<
-    S: Start + Protocol<Published, View> + Send,
-    M: Shows + Drop,
-    R: Threads + Wait + Clock + Print + Sync,
->(
+fn opened<S: Start + Protocol<Published, View> + Send, M: Shows + Drop, R: Runtime>(
     rt: &R,
     alloc: Global,
+    machine: M,
+    how: Use<'_>,
     blank: Blank,
     opened: Opened,
-    machine: M,
     places: usize,
-    how: Use<'_>,
 ) -> (M, Result<io::Result<()>, StartCause>)
+    requires fresh { IsFresh S.setting S.base (M.journaled machine) }
     requires name { blank.name ≡ S.name }
     requires parts { (blank.parts ≡ S.parts) × (blank.parts ≡ places) }
     requires book { opened.seen.book ≡ S.book }
     requires rule { RuleIs S.holds S.first S.setting S.base S.book }
-    requires fresh { IsFresh S.setting S.base (M.journaled machine) }
     requires places { (0 < places) × (places ≤ 64) }
 {
     match Book::<S, M, &R>::pair(rt, alloc, blank, opened, machine, places) {
@@ -105,7 +95,7 @@ fn opened<
 }
 
 /// A book over a machine from which nothing is to be taken back.
-fn over<M: Shows + Drop, R: Threads + Wait + Clock + Print + Sync>(
+fn over<M: Shows + Drop, R: Runtime>(
     rt: &R,
     alloc: Global,
     machine: M,
@@ -114,20 +104,13 @@ fn over<M: Shows + Drop, R: Threads + Wait + Clock + Print + Sync>(
     requires { (M.journaled machine).groups ≡ [] }
 {
     let places = how.places();
-    opened::<Brand, M, R>(
-        rt,
-        alloc,
-        Blank::new(places as u64),
-        Opened::new(),
-        machine,
-        places,
-        how,
-    )
+    let blank = Blank::new(places as u64);
+    opened::<Brand, M, R>(rt, alloc, machine, how, blank, Opened::new(), places)
 }
 
 /// A book over a machine from which all is taken back first. What came of it is told, or why there is no book. Where
 /// there is no memory for it, the machine is as it was.
-pub(crate) fn booked<M: Shows + Drop, R: Threads + Wait + Clock + Print + Sync>(
+pub(crate) fn booked<M: Shows + Drop, R: Runtime>(
     rt: &R,
     alloc: Global,
     machine: M,

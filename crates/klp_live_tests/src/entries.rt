@@ -1,6 +1,7 @@
 //! What an entry costs, alone and beside others while one thread submits, and what a look at the same table costs under
 //! a read lock.
 use crate::books::{Use, booked};
+use crate::handles::Runtime;
 use crate::measure::{Seated, Takes, since, turn};
 use crate::names::{FIRST, PATCH, PATCHED};
 use crate::shows::{Shows, apply, empty};
@@ -32,8 +33,8 @@ const DEAR: u64 = 10;
 /// How many threads look at most.
 const LOOKERS: usize = 4;
 
-/// How many threads look, beside one that submits, and what the slowest of them took for its looks in the best round, in
-/// nanoseconds. With no thread beside, one looks alone.
+/// How many threads look, beside one that submits, and what the slowest of them took for its looks in the best round,
+/// in nanoseconds. With no thread beside, one looks alone.
 #[derive(Clone, Copy)]
 pub(crate) struct Crowd {
     threads: usize,
@@ -249,7 +250,7 @@ fn locked<M: Machine, R: Threads + Wait + Clock + Sync>(
 }
 
 /// One round with each number of threads.
-pub(crate) fn crowds<M: Shows + Drop, R: Threads + Wait + Clock + Print + Sync>(
+pub(crate) fn crowds<M: Shows + Drop, R: Runtime>(
     rt: &R,
     alloc: Global,
     machine: M,
@@ -265,7 +266,7 @@ pub(crate) fn crowds<M: Shows + Drop, R: Threads + Wait + Clock + Print + Sync>(
 }
 
 /// Whether an entry costs as little as what waits for nobody.
-pub(crate) fn show_quick<M: Shows + Drop, R: Threads + Wait + Clock + Print + Sync>(
+pub(crate) fn show_quick<M: Shows + Drop, R: Runtime>(
     rt: &R,
     alloc: Global,
     machine: M,

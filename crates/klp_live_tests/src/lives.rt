@@ -1,5 +1,5 @@
-//! Has two tasks run the steps of each file, over its catalog, as the program `klpsim` does: what is written has to be as
-//! it stands there, however the two threads come to run.
+//! Has two tasks run the steps of each file, over its catalog, as the program `klpsim` does: what is written has to be
+//! as it stands there, however the two threads come to run.
 
 use klp_live_run::live;
 use std::alloc::Global;
@@ -8,8 +8,8 @@ use std::sync::Wait;
 use std::thread::Threads;
 use std::{fs, io};
 
-/// The files, a line each: the name of the steps and of what is written, `NAME.steps` and `NAME.output`, and that of the
-/// catalog, `CATALOG.catalog`. Lines that begin with `#` say what the next ones show.
+/// The files, a line each: the name of the steps and of what is written, `NAME.steps` and `NAME.output`, and that of
+/// the catalog, `CATALOG.catalog`. Lines that begin with `#` say what the next ones show.
 const INDEX: &str = "lives";
 
 /// A file of two tasks.

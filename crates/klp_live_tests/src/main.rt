@@ -6,8 +6,8 @@
 //! can be refused in its turn (`tools/hostile live`).
 //!
 //! Of bodies and jobs: that two threads run over one lock and are inside of their bodies at one time, that a call reads
-//! what is published and not what its task was told alone, and that events are taken and gates pass where they should. It
-//! also runs the files of steps of its folder as `klpsim live` does.
+//! what is published and not what its task was told alone, and that events are taken and gates pass where they should.
+//! It also runs the files of steps of its folder as `klpsim live` does.
 //!
 //! With a number as its word it tells what an event and an entry cost, and how many of them two bodies come to in a
 //! second, in the best of so many rounds (docs/PERFORMANCE.md).
@@ -18,10 +18,12 @@ mod books;
 mod booted;
 mod entries;
 mod gates;
+mod handles;
 mod lives;
 mod measure;
 mod meeting;
 mod names;
+mod open_starts;
 mod outcomes;
 mod owner;
 mod pairs;
@@ -33,15 +35,14 @@ mod starts;
 mod turns;
 
 use crate::booted::{CATALOG, Fault, SMALL, large};
+use crate::handles::Runtime;
 use crate::meeting::show_turns;
 use crate::owner::managed;
 use crate::passes::Story;
 use crate::runs::Work;
 use std::alloc::Global;
 use std::env;
-use std::rt::{Clock, Files};
-use std::sync::Wait;
-use std::thread::Threads;
+use std::rt::Files;
 
 /// The tests of the book, and of passes at starts with so many seats.
 const BOOK: [Work; 7] = [
@@ -55,7 +56,7 @@ const BOOK: [Work; 7] = [
 ];
 
 /// The tests of the book, each over a manager of its own.
-fn run_book<R: Threads + Wait + Clock + Print + Sync>(rt: &R, alloc: Global) -> Result<(), Fault> {
+fn run_book<R: Runtime>(rt: &R, alloc: Global) -> Result<(), Fault> {
     for work in BOOK {
         managed(rt, alloc, CATALOG, work)?;
     }
@@ -63,22 +64,14 @@ fn run_book<R: Threads + Wait + Clock + Print + Sync>(rt: &R, alloc: Global) -> 
 }
 
 /// Measures so many rounds: of the book over a large catalog, and of two bodies.
-fn measured<R: Threads + Wait + Clock + Print + Sync>(
-    rt: &R,
-    alloc: Global,
-    rounds: u64,
-) -> Result<(), Fault> {
+fn measured<R: Runtime>(rt: &R, alloc: Global, rounds: u64) -> Result<(), Fault> {
     let text = large(alloc)?;
     managed(rt, alloc, text.as_str().as_bytes(), Work::Costs(rounds))?;
     managed(rt, alloc, SMALL, Work::Rates(rounds))
 }
 
 /// What the program's word says: the tests of the book, or so many rounds that are measured.
-fn run_word<R: Threads + Wait + Clock + Print + Sync>(
-    rt: &R,
-    alloc: Global,
-    word: &str,
-) -> Result<(), Fault> {
+fn run_word<R: Runtime>(rt: &R, alloc: Global, word: &str) -> Result<(), Fault> {
     if word == "book" {
         return run_book(rt, alloc);
     }
@@ -86,9 +79,7 @@ fn run_word<R: Threads + Wait + Clock + Print + Sync>(
 }
 
 /// All tests.
-fn run_all<R: Threads + Wait + Clock + Print + Files + AllocGlobal + Sync>(
-    rt: &R,
-) -> Result<(), Fault> {
+fn run_all<R: Runtime + Files + AllocGlobal>(rt: &R) -> Result<(), Fault> {
     run_book(rt, rt.alloc())?;
     show_turns(rt)?;
     managed(rt, rt.alloc(), SMALL, Work::Bodies)?;

@@ -1,6 +1,7 @@
 //! What an event costs that is admitted, beside what it costs where it is only applied.
 use crate::books::{Use, booked};
 use crate::entries::{Crowd, crowds, tell_crowd};
+use crate::handles::Runtime;
 use crate::names::{FIRST, PATCH};
 use crate::shows::{Shows, apply, empty};
 use crossbeam_utils::rule::Protocol;
@@ -11,7 +12,6 @@ use std::alloc::Global;
 use std::io;
 use std::rt::Clock;
 use std::sync::Wait;
-use std::thread::Threads;
 use std::time::Instant;
 
 /// How often a task enters the kernel and leaves it.
@@ -154,9 +154,9 @@ impl Figures {
     }
 }
 
-/// One round: all events are applied, and admitted, and functions are entered. It counts for nothing where there is no
-/// memory for a book.
-fn round<M: Shows + Drop, R: Threads + Wait + Clock + Print + Sync>(
+/// Measures one round: all events are applied, and admitted, and functions are entered. It counts for nothing where there
+/// is no memory for a book.
+fn round<M: Shows + Drop + Send, R: Runtime>(
     rt: &R,
     alloc: Global,
     machine: M,
@@ -173,7 +173,25 @@ fn round<M: Shows + Drop, R: Threads + Wait + Clock + Print + Sync>(
     (machine, applied.and(admitted.unwrap_or(Ok(()))))
 }
 
-fn print_line<R: Print>(rt: &R, best: &Figures) -> io::Result<()> {
+/// Measures so many rounds over a machine, and prints the best.
+pub(crate) fn rounds_of<M: Shows + Drop + Send, R: Runtime>(
+    rt: &R,
+    alloc: Global,
+    machine: M,
+    rounds: u64,
+) -> io::Result<()> {
+    let mut machine = machine;
+    let mut best = Figures::new();
+    let mut ended = Ok(());
+    for _round in 0..rounds {
+        let (same, took) = round(rt, alloc, machine, &mut best);
+        machine = same;
+        ended = ended.and(took);
+    }
+    ended.and(print_best(rt, &best))
+}
+
+fn print_best<R: Print>(rt: &R, best: &Figures) -> io::Result<()> {
     let Figures {
         applied,
         admitted,
@@ -191,22 +209,4 @@ fn print_line<R: Print>(rt: &R, best: &Figures) -> io::Result<()> {
         tell_crowd(rt, crowd)?;
     }
     Ok(())
-}
-
-/// So many rounds, and what they came to.
-pub(crate) fn rounds_of<M: Shows + Drop, R: Threads + Wait + Clock + Print + Sync>(
-    rt: &R,
-    alloc: Global,
-    machine: M,
-    rounds: u64,
-) -> io::Result<()> {
-    let mut machine = machine;
-    let mut best = Figures::new();
-    let mut ended = Ok(());
-    for _round in 0..rounds {
-        let (same, took) = round(rt, alloc, machine, &mut best);
-        machine = same;
-        ended = ended.and(took);
-    }
-    ended.and(print_line(rt, &best))
 }

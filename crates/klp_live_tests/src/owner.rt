@@ -1,14 +1,12 @@
 //! The one owner of a manager: it boots one, and hands it on to what is generic over it and so sees no box.
 use crate::booted::Fault;
+use crate::handles::Runtime;
 use crate::runs::{Work, do_work};
 use klp_catalog::{AssembleFault, Catalog};
 use klp_core::Manager;
 use klp_program::boot;
 use std::alloc::Global;
 use std::io;
-use std::rt::Clock;
-use std::sync::Wait;
-use std::thread::Threads;
 
 /// Boots a manager over a catalog without callbacks: the tests make none.
 fn booted(alloc: Global, text: &[u8]) -> Result<Manager, klp_program::Fault> {
@@ -20,17 +18,12 @@ fn booted(alloc: Global, text: &[u8]) -> Result<Manager, klp_program::Fault> {
 }
 
 /// Hands a manager to `do_work`, which takes any machine that can be sent to another thread.
-fn hand_on<R: Threads + Wait + Clock + Print + Sync>(
-    rt: &R,
-    alloc: Global,
-    manager: Manager,
-    work: Work,
-) -> io::Result<()> {
+fn hand_on<R: Runtime>(rt: &R, alloc: Global, manager: Manager, work: Work) -> io::Result<()> {
     do_work::<Manager, R>(rt, alloc, manager, work)
 }
 
 /// Boots a manager over a catalog, and does something with it.
-pub(crate) fn managed<R: Threads + Wait + Clock + Print + Sync>(
+pub(crate) fn managed<R: Runtime>(
     rt: &R,
     alloc: Global,
     text: &[u8],

@@ -1,21 +1,21 @@
-//! What becomes of the seats of two tasks. Who has a seat hands it on, and has no other way out meanwhile: each would be
-//! proved for itself.
+//! What becomes of the seats of two tasks. Who has a seat hands it on, and has no other way out meanwhile: each would
+//! be proved for itself.
 ghost use Rattle.std.specs.Prelude.{◌<◌, ◌^◌, IsSome, vec_len};
 ghost use Rattle.klp_types.specs.declared.limits.TheConstants.{MAX_TASKS};
 ghost use Rattle.klp_live_bodies.specs.Jobs.{body_of};
 
+use crate::handles::Runtime;
 use crate::measure::since;
 use crate::names::{FIRST, SECOND};
+use crate::open_starts::{OpenStart, TwoSeats};
 use crossbeam_utils::rule::Protocol;
 use klp_core::Machine;
-use klp_live::{Live, Published, Seat, Start, TaskPass, View};
+use klp_live::{Published, Seat, Start, TaskPass, View};
 use klp_live_bodies::{BodyCause, BodyFault, Gate, Job, Step, TaskBody, run_two};
 use klp_types::TaskId;
 use std::alloc::{AllocError, Global};
 use std::io;
-use std::rt::Clock;
 use std::sync::Wait;
-use std::thread::Threads;
 use std::time::Instant;
 
 /// More steps than any job of the tests has.
@@ -26,38 +26,6 @@ const STEPS: usize = 100_000;
 pub(crate) struct Steps {
     pub(crate) first: Vec<Step>,
     pub(crate) second: Vec<Step>,
-}
-
-/// The seat of a task, by its pass.
-pub(crate) fn attached<S: Start + Protocol<Published, View>, M: Machine + Drop, R: Wait + Drop>(
-    live: &Live<S, M, R>,
-    seat: Seat<S>,
-    task: TaskId,
-) -> TaskPass<S>
-    requires { task < MAX_TASKS }
-{
-    match live.attach(seat, task) {
-        Ok(pass) => pass,
-        Err(_) => unreachable!(),
-    }
-}
-
-/// The job of a task.
-fn job_of<S: Start + Protocol<Published, View>, G: Gate + Drop, M: Machine + Drop, R: Wait + Drop>(
-    alloc: Global,
-    live: &Live<S, M, R>,
-    seat: Seat<S>,
-    task: TaskId,
-    gate: G,
-    steps: Vec<Step>,
-) -> Job<S, G>
-    requires { task < MAX_TASKS }
-    ensures { IsSome (body_of result) }
-{
-    let pass = attached(live, seat, task);
-    let mut steps = steps;
-    steps.truncate(STEPS);
-    Job::new(alloc, TaskBody::new(pass, gate), steps)
 }
 
 /// The seat of a body that has ended, and why it has stopped, if it has.
@@ -84,27 +52,6 @@ pub(crate) struct Ran {
     pub(crate) have_ended: bool,
     /// The nanoseconds until both had ended.
     pub(crate) took: u64,
-}
-
-/// The nanoseconds that both jobs take.
-fn run_timed<
-    S: Start + Protocol<Published, View> + Send + Sync,
-    G: Gate + Drop + Send,
-    M: Machine + Drop + Send,
-    R: Threads + Wait + Clock + Sync,
->(
-    rt: &R,
-    alloc: Global,
-    live: &Live<S, M, &R>,
-    one: &mut Job<S, G>,
-    two: &mut Job<S, G>,
-) -> io::Result<u64>
-    requires first { IsSome (body_of one.old) }
-    requires second { IsSome (body_of two.old) }
-{
-    let start = Instant::now(rt);
-    run_two(rt, alloc, live, one, two);
-    since(rt, start?)
 }
 
 /// The seat of a job, and why its body has stopped, if it has.
@@ -135,32 +82,72 @@ fn ends_of<S: Start + Protocol<Published, View>, G: Gate + Drop, R: Print>(
     one: Job<S, G>,
     two: Job<S, G>,
     took: io::Result<u64>,
-) -> ((Seat<S>, Seat<S>), io::Result<Ran>) {
+) -> (TwoSeats<S>, io::Result<Ran>) {
     let (first, cause) = end_of(one);
     let (second, other) = end_of(two);
     ((first, second), show_ran(rt, (cause, other), took))
 }
 
-/// Both tasks do their steps, where there is memory for them, in threads of their own.
-pub(crate) fn run_pair<
+impl<S, M, R> OpenStart<'_, '_, S, M, R>
+where
+    S: Start + Protocol<Published, View>,
+    M: Machine + Drop,
+    R: Wait,
+{
+    /// Makes the job of a task.
+    fn job_of<G: Gate + Drop>(
+        &self,
+        seat: Seat<S>,
+        task: TaskId,
+        gate: G,
+        steps: Vec<Step>,
+    ) -> Job<S, G>
+        requires { task < MAX_TASKS }
+        ensures { IsSome (body_of result) }
+    {
+        let pass = self.attached(seat, task);
+        let mut steps = steps;
+        steps.truncate(STEPS);
+        Job::new(self.alloc, TaskBody::new(pass, gate), steps)
+    }
+}
+
+impl<S, M, R> OpenStart<'_, '_, S, M, R>
+where
     S: Start + Protocol<Published, View> + Send + Sync,
-    G: Gate + Drop + Send,
     M: Machine + Drop + Send,
-    R: Threads + Wait + Print + Clock + Sync,
->(
-    rt: &R,
-    alloc: Global,
-    live: &Live<S, M, &R>,
-    seats: (Seat<S>, Seat<S>),
-    gates: (G, G),
-    steps: Result<Steps, AllocError>,
-) -> ((Seat<S>, Seat<S>), io::Result<Ran>) {
-    let Steps { first, second } = match steps {
-        Ok(steps) => steps,
-        Err(error) => return (seats, Err(io::Error::from(error))),
-    };
-    let mut one = job_of(alloc, live, seats.0, FIRST, gates.0, first);
-    let mut two = job_of(alloc, live, seats.1, SECOND, gates.1, second);
-    let took = run_timed(rt, alloc, live, &mut one, &mut two);
-    ends_of(rt, one, two, took)
+    R: Runtime,
+{
+    /// Runs two jobs, and returns the nanoseconds that both take.
+    fn run_timed<G: Gate + Drop + Send>(
+        &self,
+        one: &mut Job<S, G>,
+        two: &mut Job<S, G>,
+    ) -> io::Result<u64>
+        requires first { IsSome (body_of one.old) }
+        requires second { IsSome (body_of two.old) }
+    {
+        let rt = self.rt;
+        let live = self.live;
+        let start = Instant::now(rt);
+        run_two(rt, self.alloc, live, one, two);
+        since(rt, start?)
+    }
+
+    /// Has both tasks do their steps, where there is memory for them, in threads of their own.
+    pub(crate) fn run_pair<G: Gate + Drop + Send>(
+        &self,
+        seats: TwoSeats<S>,
+        gates: (G, G),
+        steps: Result<Steps, AllocError>,
+    ) -> (TwoSeats<S>, io::Result<Ran>) {
+        let Steps { first, second } = match steps {
+            Ok(steps) => steps,
+            Err(error) => return (seats, Err(io::Error::from(error))),
+        };
+        let mut one = self.job_of(seats.0, FIRST, gates.0, first);
+        let mut two = self.job_of(seats.1, SECOND, gates.1, second);
+        let took = self.run_timed(&mut one, &mut two);
+        ends_of(self.rt, one, two, took)
+    }
 }

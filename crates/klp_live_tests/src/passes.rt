@@ -3,14 +3,13 @@ ghost use Rattle.std.specs.Prelude.{◌<◌};
 ghost use Rattle.klp_types.specs.declared.limits.TheConstants.{MAX_TASKS};
 
 use crate::names::{FIRST, LATER, NOWHERE, PATCH, PATCHED, SECOND};
+use crate::open_starts::{OpenStart, TwoSeats};
 use crate::outcomes::{Answered, answer_of, show_answer, show_found};
-use crate::pairs::attached;
 use crossbeam_utils::rule::Protocol;
 use klp_core::Machine;
-use klp_live::{Live, Published, Seat, Start, TaskPass, View};
+use klp_live::{Published, Start, TaskPass, View};
 use klp_model::Event;
 use klp_types::{Site, TaskId};
-use std::alloc::Global;
 use std::io;
 use std::sync::Wait;
 
@@ -88,79 +87,6 @@ fn absent() -> [Turn; 6] {
     ALL
 }
 
-/// Submits an event, of which the other pass hears if it is to.
-fn submitted<S: Start + Protocol<Published, View>, M: Machine + Drop, R: Wait>(
-    rt: &R,
-    alloc: Global,
-    live: &Live<S, M, &R>,
-    pass: &mut TaskPass<S>,
-    other: &mut TaskPass<S>,
-    event: Event,
-    is_heard: bool,
-) -> Answered {
-    let came = pass.submit(rt, alloc, live, event);
-    if is_heard && let Ok(receipt) = &came {
-        other.hear(receipt);
-    }
-    answer_of(came)
-}
-
-/// A pass does something, and what comes of it is shown.
-fn show_act<S: Start + Protocol<Published, View>, M: Machine + Drop, R: Wait + Print>(
-    rt: &R,
-    alloc: Global,
-    live: &Live<S, M, &R>,
-    pass: &mut TaskPass<S>,
-    other: &mut TaskPass<S>,
-    act: Act,
-) -> io::Result<()> {
-    match act {
-        Act::Enter(site) => show_found(rt, &pass.enter(site)),
-        Act::Submit(event) => {
-            let came = submitted(rt, alloc, live, pass, other, event, false);
-            show_answer(rt, &came)
-        }
-        Act::PrintLine(event) => {
-            let came = submitted(rt, alloc, live, pass, other, event, true);
-            show_answer(rt, &came)
-        }
-    }
-}
-
-fn show_turns<S: Start + Protocol<Published, View>, M: Machine + Drop, R: Wait + Print>(
-    rt: &R,
-    alloc: Global,
-    live: &Live<S, M, &R>,
-    first: &mut TaskPass<S>,
-    second: &mut TaskPass<S>,
-    turns: &[Turn],
-) -> io::Result<()> {
-    for turn in turns {
-        match *turn {
-            Turn::First(act) => show_act(rt, alloc, live, first, second, act)?,
-            Turn::Second(act) => show_act(rt, alloc, live, second, first, act)?,
-        }
-    }
-    Ok(())
-}
-
-/// What the passes do of this story.
-fn show_story<S: Start + Protocol<Published, View>, M: Machine + Drop, R: Wait + Print>(
-    rt: &R,
-    alloc: Global,
-    live: &Live<S, M, &R>,
-    first: &mut TaskPass<S>,
-    second: &mut TaskPass<S>,
-    story: Story,
-) -> io::Result<()> {
-    match story {
-        Story::Heard => show_turns(rt, alloc, live, first, second, &heard()),
-        Story::Unheard => show_turns(rt, alloc, live, first, second, &unheard()),
-        Story::Absent => show_turns(rt, alloc, live, first, second, &absent()),
-        Story::Idle => Ok(()),
-    }
-}
-
 /// The task that takes the first seat.
 fn first_of(story: Story) -> TaskId
     ensures { result < MAX_TASKS }
@@ -171,16 +97,79 @@ fn first_of(story: Story) -> TaskId
     }
 }
 
-/// Two tasks take the two seats, and hand them back.
-pub(crate) fn passed<S: Start + Protocol<Published, View>, M: Machine + Drop, R: Wait + Print>(
-    rt: &R,
-    alloc: Global,
-    live: &Live<S, M, &R>,
-    seats: (Seat<S>, Seat<S>),
-    story: Story,
-) -> ((Seat<S>, Seat<S>), io::Result<()>) {
-    let mut first = attached(live, seats.0, first_of(story));
-    let mut second = attached(live, seats.1, SECOND);
-    let came = show_story(rt, alloc, live, &mut first, &mut second, story);
-    ((first.detach(), second.detach()), came)
+impl<S, M, R> OpenStart<'_, '_, S, M, R>
+where
+    S: Start + Protocol<Published, View>,
+    M: Machine + Drop,
+    R: Wait + Print,
+{
+    /// Submits an event, of which the other pass hears if it is to.
+    fn submitted(
+        &self,
+        pass: &mut TaskPass<S>,
+        other: &mut TaskPass<S>,
+        event: Event,
+        is_heard: bool,
+    ) -> Answered {
+        let live = self.live;
+        let came = pass.submit(self.rt, self.alloc, live, event);
+        if is_heard && let Ok(receipt) = &came {
+            other.hear(receipt);
+        }
+        answer_of(came)
+    }
+
+    /// Has a pass do something, and shows what comes of it.
+    fn show_act(
+        &self,
+        pass: &mut TaskPass<S>,
+        other: &mut TaskPass<S>,
+        act: Act,
+    ) -> io::Result<()> {
+        let rt = self.rt;
+        match act {
+            Act::Enter(site) => show_found(rt, &pass.enter(site)),
+            Act::Submit(event) => show_answer(rt, &self.submitted(pass, other, event, false)),
+            Act::PrintLine(event) => show_answer(rt, &self.submitted(pass, other, event, true)),
+        }
+    }
+
+    /// Has the passes do these turns.
+    fn show_turns(
+        &self,
+        first: &mut TaskPass<S>,
+        second: &mut TaskPass<S>,
+        turns: &[Turn],
+    ) -> io::Result<()> {
+        for turn in turns {
+            match *turn {
+                Turn::First(act) => self.show_act(first, second, act)?,
+                Turn::Second(act) => self.show_act(second, first, act)?,
+            }
+        }
+        Ok(())
+    }
+
+    /// Shows what the passes do of this story.
+    fn show_story(
+        &self,
+        first: &mut TaskPass<S>,
+        second: &mut TaskPass<S>,
+        story: Story,
+    ) -> io::Result<()> {
+        match story {
+            Story::Heard => self.show_turns(first, second, &heard()),
+            Story::Unheard => self.show_turns(first, second, &unheard()),
+            Story::Absent => self.show_turns(first, second, &absent()),
+            Story::Idle => Ok(()),
+        }
+    }
+
+    /// Has two tasks take the two seats, and hand them back.
+    pub(crate) fn passed(&self, seats: TwoSeats<S>, story: Story) -> (TwoSeats<S>, io::Result<()>) {
+        let mut first = self.attached(seats.0, first_of(story));
+        let mut second = self.attached(seats.1, SECOND);
+        let came = self.show_story(&mut first, &mut second, story);
+        ((first.detach(), second.detach()), came)
+    }
 }

@@ -1,23 +1,22 @@
-//! What two bodies come to in a second: events that both submit under the one lock, entries that both make, and events of
-//! one beside entries of the other.
+//! What two bodies come to in a second: events that both submit under the one lock, entries that both make, and events
+//! of one beside entries of the other.
 ghost use Rattle.std.specs.Prelude.{◌≡◌, []};
 
 use crate::gates::Open;
+use crate::handles::Runtime;
 use crate::names::{FIRST, PATCHED, SECOND};
-use crate::pairs::{Ran, Steps, run_pair};
+use crate::open_starts::{OpenStart, TwoSeats};
+use crate::pairs::{Ran, Steps};
 use crate::shows::{Shows, empty, prepare};
-use crate::starts::{Run, started};
+use crate::starts::{HandedBack, Run, started};
 use crossbeam_utils::rule::Protocol;
 use klp_core::Machine;
-use klp_live::{Live, Published, Seat, Start, View};
+use klp_live::{Published, Start, View};
 use klp_live_bodies::Step;
 use klp_model::Event;
 use klp_types::TaskId;
 use std::alloc::{AllocError, Global};
 use std::io;
-use std::rt::Clock;
-use std::sync::Wait;
-use std::thread::Threads;
 
 /// How many events a body submits in a round: two bodies fill half of the journal.
 const EVENTS: u64 = 1_000;
@@ -55,7 +54,7 @@ pub(crate) struct Best([Timed; 3]);
 
 impl Best {
     /// Before the first round.
-    fn new() -> Best {
+    pub(crate) fn new() -> Best {
         Best([
             Timed::of(Work::Submits, Work::Submits),
             Timed::of(Work::Enters, Work::Enters),
@@ -89,48 +88,54 @@ fn both_steps(alloc: Global, works: (Work, Work)) -> Result<Steps, AllocError> {
     Ok(Steps { first, second })
 }
 
-/// One round of each that both do.
-pub(crate) fn round<
-    S: Start + Protocol<Published, View> + Send + Sync,
-    M: Machine + Drop + Send,
-    R: Threads + Wait + Print + Clock + Sync,
->(
-    rt: &R,
-    alloc: Global,
-    live: &Live<S, M, &R>,
-    seats: (Seat<S>, Seat<S>),
-    best: &mut Best,
-) -> ((Seat<S>, Seat<S>), io::Result<()>) {
-    let mut seats = seats;
-    let mut ended = Ok(());
-    for timed in best.0.iter_mut() {
-        let steps = both_steps(alloc, timed.works);
-        let (same, ran) = run_pair(rt, alloc, live, seats, (Open, Open), steps);
-        seats = same;
-        ended = ended.and(keep(timed, ran));
-    }
-    (seats, ended)
-}
-
 fn keep(timed: &mut Timed, ran: io::Result<Ran>) -> io::Result<()> {
     timed.took = timed.took.min(ran?.took);
     Ok(())
 }
 
-/// One round over a machine from which all is taken back first.
-fn again<M: Shows + Drop + Send, R: Threads + Wait + Print + Clock + Sync>(
+/// How many in a second.
+fn rate(count: u64, took: u64) -> u128 {
+    u128::from(count) * 1_000_000_000 / u128::from(took.max(1))
+}
+
+impl<S, M, R> OpenStart<'_, '_, S, M, R>
+where
+    S: Start + Protocol<Published, View> + Send + Sync,
+    M: Machine + Drop + Send,
+    R: Runtime,
+{
+    /// Has the two seats run one round of each that both do.
+    pub(crate) fn round(
+        &self,
+        seats: TwoSeats<S>,
+        best: &mut Best,
+    ) -> (TwoSeats<S>, io::Result<()>) {
+        let mut seats = seats;
+        let mut ended = Ok(());
+        for timed in best.0.iter_mut() {
+            let steps = both_steps(self.alloc, timed.works);
+            let (same, ran) = self.run_pair(seats, (Open, Open), steps);
+            seats = same;
+            ended = ended.and(keep(timed, ran));
+        }
+        (seats, ended)
+    }
+}
+
+/// Measures one round over a machine, from which all is taken back first.
+fn measured<M: Shows + Drop + Send, R: Runtime>(
     rt: &R,
     alloc: Global,
     machine: M,
     best: &mut Best,
-) -> (Result<M, &'static str>, io::Result<()>) {
+) -> HandedBack<M> {
     let mut machine = machine;
     empty(&mut machine);
     started(rt, alloc, machine, 2, Run::Round(best))
 }
 
-/// So many rounds over a machine with two tasks, and what they came to.
-pub(crate) fn rounds_of<M: Shows + Drop + Send, R: Threads + Wait + Print + Clock + Sync>(
+/// Measures so many rounds over a machine with two tasks, and prints the best.
+pub(crate) fn rounds_of<M: Shows + Drop + Send, R: Runtime>(
     rt: &R,
     alloc: Global,
     machine: M,
@@ -141,22 +146,17 @@ pub(crate) fn rounds_of<M: Shows + Drop + Send, R: Threads + Wait + Print + Cloc
     let mut ended = Ok(());
     prepare(&mut machine);
     for _round in 0..rounds {
-        let (same, ran) = again(rt, alloc, machine, &mut best);
+        let (same, ran) = measured(rt, alloc, machine, &mut best);
         ended = ended.and(ran);
         match same {
             Ok(same) => machine = same,
             Err(missing) => return println!(rt; "{missing}"),
         }
     }
-    ended.and(print_line(rt, &best))
+    ended.and(print_best(rt, &best))
 }
 
-/// How many in a second.
-fn rate(count: u64, took: u64) -> u128 {
-    u128::from(count) * 1_000_000_000 / u128::from(took.max(1))
-}
-
-fn print_line<R: Print>(rt: &R, best: &Best) -> io::Result<()> {
+fn print_best<R: Print>(rt: &R, best: &Best) -> io::Result<()> {
     let [submit, enter, beside] = best.0;
     println!(rt;
         "both submit: {} events a second\n\

@@ -1,13 +1,11 @@
 //! What is done with a machine: a test, or so many rounds that are measured.
+use crate::handles::Runtime;
 use crate::passes::Story;
 use crate::shows::Shows;
 use crate::starts::{Run, show_start};
 use crate::{entries, measure, rates, turns};
 use std::alloc::Global;
 use std::io;
-use std::rt::Clock;
-use std::sync::Wait;
-use std::thread::Threads;
 
 #[derive(Clone, Copy)]
 pub(crate) enum Work {
@@ -26,7 +24,7 @@ pub(crate) enum Work {
 }
 
 /// Does that with the machine, which goes then.
-pub(crate) fn do_work<M: Shows + Drop + Send, R: Threads + Wait + Clock + Print + Sync>(
+pub(crate) fn do_work<M: Shows + Drop + Send, R: Runtime>(
     rt: &R,
     alloc: Global,
     machine: M,

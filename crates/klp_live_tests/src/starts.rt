@@ -3,10 +3,10 @@ ghost use Rattle.std.specs.Prelude.{◌≡◌, ◌<◌, ◌≤◌, []};
 ghost use Rattle.klp_live.specs.Opening.{IsFresh};
 ghost use Rattle.klp_live.specs.Shown.{RuleIs};
 
-use crate::bodies::show_bodies;
-use crate::meeting::{show_apart, show_meetings};
-use crate::passes::{Story, passed};
-use crate::rates::{self, Best};
+use crate::handles::Runtime;
+use crate::open_starts::{OpenStart, TwoSeats};
+use crate::passes::Story;
+use crate::rates::Best;
 use crate::shows::{Shown, Shows, prepare};
 use crossbeam_utils::rule::Protocol;
 use klp_core::Machine;
@@ -14,10 +14,7 @@ use klp_live::{Live, Opened, Published, Seat, Start, StartCause, View};
 use std::alloc::Global;
 use std::io;
 use std::marker::Brand;
-use std::rt::Clock;
-use std::sync::Wait;
 use std::sync::ledger::Blank;
-use std::thread::Threads;
 
 /// What the seats of a start do.
 #[derive(Drop)]
@@ -28,46 +25,11 @@ pub(crate) enum Run<'a> {
     Round(&'a mut Best),
 }
 
-/// All bodies of the tests.
-fn all_bodies<
-    S: Start + Protocol<Published, View> + Send + Sync,
-    M: Machine + Drop + Send,
-    R: Threads + Wait + Print + Clock + Sync,
->(
-    rt: &R,
-    alloc: Global,
-    live: &Live<S, M, &R>,
-    seats: (Seat<S>, Seat<S>),
-) -> ((Seat<S>, Seat<S>), io::Result<()>) {
-    let (seats, came) = show_bodies(rt, alloc, live, seats);
-    let (seats, apart) = show_apart(rt, alloc, live, seats);
-    let (seats, met) = show_meetings(rt, alloc, live, seats);
-    (seats, came.and(apart).and(met))
-}
-
-/// All that two seats do, which are handed back.
-fn both_run<
-    S: Start + Protocol<Published, View> + Send + Sync,
-    M: Machine + Drop + Send,
-    R: Threads + Wait + Print + Clock + Sync,
->(
-    rt: &R,
-    alloc: Global,
-    live: &Live<S, M, &R>,
-    seats: (Seat<S>, Seat<S>),
-    run: Run<'_>,
-) -> ((Seat<S>, Seat<S>), io::Result<()>) {
-    match run {
-        Run::Passes(story) => passed(rt, alloc, live, seats, story),
-        Run::Bodies => all_bodies(rt, alloc, live, seats),
-        Run::Round(best) => rates::round(rt, alloc, live, seats, best),
-    }
-}
+/// The machine, or what is told where there is none any more; and what came of the run.
+pub(crate) type HandedBack<M> = (Result<M, &'static str>, io::Result<()>);
 
 /// Takes the last two seats, where there are two.
-fn take_two<S: Start + Protocol<Published, View>>(
-    seats: &mut Vec<Seat<S>>,
-) -> Option<(Seat<S>, Seat<S>)> {
+fn take_two<S: Start + Protocol<Published, View>>(seats: &mut Vec<Seat<S>>) -> Option<TwoSeats<S>> {
     if seats.len() < 2 {
         return None;
     }
@@ -77,32 +39,43 @@ fn take_two<S: Start + Protocol<Published, View>>(
 }
 
 /// Puts two seats back. There is room for them: so none of the pushes fails, or the start wouldn't end.
-fn put_back<S: Start + Protocol<Published, View>>(
-    seats: &mut Vec<Seat<S>>,
-    two: (Seat<S>, Seat<S>),
-) {
+fn put_back<S: Start + Protocol<Published, View>>(seats: &mut Vec<Seat<S>>, two: TwoSeats<S>) {
     let _ = seats.push(two.0);
     let _ = seats.push(two.1);
 }
 
-/// Two of the seats run, where there are two.
-fn all_run<
+impl<S, M, R> OpenStart<'_, '_, S, M, R>
+where
     S: Start + Protocol<Published, View> + Send + Sync,
     M: Machine + Drop + Send,
-    R: Threads + Wait + Print + Clock + Sync,
->(
-    rt: &R,
-    alloc: Global,
-    live: &Live<S, M, &R>,
-    seats: &mut Vec<Seat<S>>,
-    run: Run<'_>,
-) -> io::Result<()> {
-    let Some(two) = take_two(seats) else {
-        return Ok(());
-    };
-    let (two, came) = both_run(rt, alloc, live, two, run);
-    put_back(seats, two);
-    came
+    R: Runtime,
+{
+    /// Runs all bodies of the tests.
+    fn all_bodies(&self, seats: TwoSeats<S>) -> (TwoSeats<S>, io::Result<()>) {
+        let (seats, came) = self.show_bodies(seats);
+        let (seats, apart) = self.show_apart(seats);
+        let (seats, met) = self.show_meetings(seats);
+        (seats, came.and(apart).and(met))
+    }
+
+    /// Does all that two seats do.
+    fn both_run(&self, seats: TwoSeats<S>, run: Run<'_>) -> (TwoSeats<S>, io::Result<()>) {
+        match run {
+            Run::Passes(story) => self.passed(seats, story),
+            Run::Bodies => self.all_bodies(seats),
+            Run::Round(best) => self.round(seats, best),
+        }
+    }
+
+    /// Has two of the seats run, where there are two.
+    fn all_run(&self, seats: &mut Vec<Seat<S>>, run: Run<'_>) -> io::Result<()> {
+        let Some(two) = take_two(seats) else {
+            return Ok(());
+        };
+        let (two, came) = self.both_run(two, run);
+        put_back(seats, two);
+        came
+    }
 }
 
 /// What is told where there is no start. There are as many places as seats, so that one is refused is never told.
@@ -113,13 +86,9 @@ fn why_no_start(cause: StartCause) -> &'static str {
     }
 }
 
-/// Starts, has the seats run, and ends. There is no machine where there was no memory for a start, or a seat is missing in
-/// the end: which of them is told in its place.
-fn opened<
-    S: Start + Protocol<Published, View> + Send + Sync,
-    M: Machine + Drop + Send,
-    R: Threads + Wait + Print + Clock + Sync,
->(
+/// Starts, has the seats run, and ends. There is no machine where there was no memory for a start, or a seat is missing
+/// in the end: which of them is told in its place.
+fn opened<S: Start + Protocol<Published, View> + Send + Sync, M: Machine + Drop + Send, R: Runtime>(
     rt: &R,
     alloc: Global,
     blank: Blank,
@@ -127,7 +96,7 @@ fn opened<
     machine: M,
     places: usize,
     run: Run<'_>,
-) -> (Result<M, &'static str>, io::Result<()>)
+) -> HandedBack<M>
     requires name { blank.name ≡ S.name }
     requires parts { (blank.parts ≡ S.parts) × (blank.parts ≡ places) }
     requires book { opened.seen.book ≡ S.book }
@@ -138,7 +107,12 @@ fn opened<
     match Live::<S, M, &R>::start(rt, alloc, blank, opened, machine, places) {
         Ok((live, seats)) => {
             let mut seats = seats;
-            let came = all_run(rt, alloc, &live, &mut seats, run);
+            let open = OpenStart {
+                rt,
+                alloc,
+                live: &live,
+            };
+            let came = open.all_run(&mut seats, run);
             (live.close(rt, seats).ok().ok_or("no end"), came)
         }
         Err(fault) => (Err(why_no_start(fault.cause)), Ok(())),
@@ -146,25 +120,18 @@ fn opened<
 }
 
 /// A start over a machine from which nothing is to be taken back, with 1 to 64 seats.
-pub(crate) fn started<M: Machine + Drop + Send, R: Threads + Wait + Print + Clock + Sync>(
+pub(crate) fn started<M: Machine + Drop + Send, R: Runtime>(
     rt: &R,
     alloc: Global,
     machine: M,
     places: usize,
     run: Run<'_>,
-) -> (Result<M, &'static str>, io::Result<()>)
+) -> HandedBack<M>
     requires { (M.journaled machine).groups ≡ [] }
 {
     let places = places.clamp(1, 64);
-    opened::<Brand, M, R>(
-        rt,
-        alloc,
-        Blank::new(places as u64),
-        Opened::new(),
-        machine,
-        places,
-        run,
-    )
+    let blank = Blank::new(places as u64);
+    opened::<Brand, M, R>(rt, alloc, blank, Opened::new(), machine, places, run)
 }
 
 /// Takes all back, and tells how much that was and whether the machine is as it was before its start.
@@ -175,7 +142,7 @@ fn show_end<M: Machine, R: Print>(rt: &R, machine: &mut M, before: &Shown) -> io
 }
 
 /// A start over a machine with two tasks. In the end all is taken back, and it is as it was.
-pub(crate) fn show_start<M: Shows + Drop + Send, R: Threads + Wait + Print + Clock + Sync>(
+pub(crate) fn show_start<M: Shows + Drop + Send, R: Runtime>(
     rt: &R,
     alloc: Global,
     machine: M,

@@ -1,5 +1,6 @@
 //! Two seats at the book of a manager: what each of their events is answered, and what calls run after it.
 use crate::books::{Use, booked};
+use crate::handles::Runtime;
 use crate::names::{FIRST, SECOND};
 use crate::outcomes::{Answered, answer_of, show_answer};
 use crate::shows::{Shown, Shows};
@@ -9,9 +10,7 @@ use klp_model::Event;
 use klp_types::{ObjId, PatchId, ShadowKey, ShadowValue, Site, TaskId};
 use std::alloc::Global;
 use std::io;
-use std::rt::Clock;
 use std::sync::Wait;
-use std::thread::Threads;
 
 /// Which seat has the event, and the event.
 #[derive(Clone, Copy)]
@@ -191,7 +190,7 @@ pub(crate) fn all_taken<S: Start + Protocol<Published, View>, M: Shows + Drop, R
 }
 
 /// Opens a book over the machine for that, and once more where memory is refused.
-pub(crate) fn twice<M: Shows + Drop, R: Threads + Wait + Clock + Print + Sync>(
+pub(crate) fn twice<M: Shows + Drop, R: Runtime>(
     rt: &R,
     alloc: Global,
     machine: M,

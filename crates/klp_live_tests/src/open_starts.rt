@@ -1,0 +1,44 @@
+//! A start that is open. Its methods are the tests, each in the module of what it tests.
+ghost use Rattle.std.specs.Prelude.{◌<◌};
+ghost use Rattle.klp_types.specs.declared.limits.TheConstants.{MAX_TASKS};
+
+use crossbeam_utils::rule::Protocol;
+use klp_core::Machine;
+use klp_live::{Live, Published, Seat, Start, TaskPass, View};
+use klp_types::TaskId;
+use std::alloc::Global;
+use std::sync::Wait;
+
+/// The seats of the two tasks. A test takes both and hands them back.
+pub(crate) type TwoSeats<S> = (Seat<S>, Seat<S>);
+
+/// A start that is open, with the runtime and the memory that its tasks use.
+#[derive_where(Clone, Copy)]
+pub(crate) struct OpenStart<'l, 'r, S, M, R>
+where
+    S: Start + Protocol<Published, View>,
+    M: Machine + Drop,
+    R: Wait,
+{
+    pub(crate) rt: &'r R,
+    pub(crate) alloc: Global,
+    pub(crate) live: &'l Live<S, M, &'r R>,
+}
+
+impl<S, M, R> OpenStart<'_, '_, S, M, R>
+where
+    S: Start + Protocol<Published, View>,
+    M: Machine + Drop,
+    R: Wait,
+{
+    /// Gives a task a seat, and returns its pass.
+    pub(crate) fn attached(&self, seat: Seat<S>, task: TaskId) -> TaskPass<S>
+        requires { task < MAX_TASKS }
+    {
+        let live = self.live;
+        match live.attach(seat, task) {
+            Ok(pass) => pass,
+            Err(_) => unreachable!(),
+        }
+    }
+}
