@@ -1,6 +1,6 @@
-//! Runs the scripts of the examples, also without memory, and measures what an event costs and what the program costs as
-//! a whole. It is run in the folder of its data; its word is the number of rounds that are measured. The gate runs one
-//! round, for which no time is told.
+//! Runs the scripts of the examples, also without memory, and measures what an event costs and what the program costs
+//! as a whole. It is run in the folder of its data; its word is the number of rounds that are measured. The gate runs
+//! one round, for which no time is told.
 #![tactic(auto)]
 
 mod bench;

@@ -9,8 +9,8 @@ use std::alloc::{AllocError, Global};
 use std::rt::Files;
 use std::{fs, io};
 
-/// Catalogs that are refused, each behind a line of what is written to standard error, with a mark in front. A line feed
-/// before a mark isn't the catalog's, so an empty line ends its last line, and else that has no end.
+/// Catalogs that are refused, each behind a line of what is written to standard error, with a mark in front. A line
+/// feed before a mark isn't the catalog's, so an empty line ends its last line, and else that has no end.
 const CATALOGS: &str = "refused.catalogs";
 
 const CATALOG_MARK: &str = "\n=== ";

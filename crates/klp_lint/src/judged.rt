@@ -36,7 +36,8 @@ fn judge<V: Variables>(
 ) -> Result<(), Premise>
     ensures undone { IfOk result (λ _. EachRestores (V.values variables.now) (acting modules.now 0 targets.now)) }
     ensures apart { IfOk result (λ _. AreApart (acting modules.now 0 targets.now)) }
-    ensures err { IfErr result (λ premise. FailsOf (V.values variables.now) (acting modules.now 0 targets.now) premise) }
+    ensures err { IfErr result
+        (λ premise. FailsOf (V.values variables.now) (acting modules.now 0 targets.now) premise) }
 {
     match first_left(variables, modules, 0, targets) {
         Some((place, left)) => Err(premise_of(place, left)),

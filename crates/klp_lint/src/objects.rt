@@ -39,7 +39,8 @@ fn next_acting<'a>(modules: &Modules, place: usize, targets: &'a [PlanTarget]) -
     requires { place + length targets.now < 2 ^ 64 }
     ensures { MatchOption result (acting modules.now place targets.now ≡ [])
         (λ next. (acting modules.now place targets.now
-        ≡ (next.place, patch_object modules.now.names next.target.now) ∷ acting modules.now (next.place + 1) next.behind.now)
+        ≡ (next.place, patch_object modules.now.names next.target.now)
+        ∷ acting modules.now (next.place + 1) next.behind.now)
         × (next.place + 1 + length next.behind.now ≤ place + length targets.now)
         × (length next.behind.now < length targets.now)) }
 {

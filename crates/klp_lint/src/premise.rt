@@ -12,8 +12,8 @@ pub enum Pair {
     Post,
 }
 
-/// What an object's callbacks leave changed: the second callback of the pair leaves the variable with another value than
-/// the first found.
+/// What an object's callbacks leave changed: the second callback of the pair leaves the variable with another value
+/// than the first found.
 #[derive(Clone, Copy, PartialEq, Eq)]
 pub(crate) struct Left {
     pub(crate) pair: Pair,

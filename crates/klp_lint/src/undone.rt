@@ -2,7 +2,8 @@
 ghost use Rattle.std.specs.Prelude.{◌≡◌, ◌↔◌, IsTrue, MatchOption};
 ghost use Rattle.klp_types.specs.declared.shadow.ShadowKey.{ShadowKey as AnyKey};
 ghost use Rattle.klp_types.specs.declared.edit.Edit.TheVariants as AnyEdit;
-ghost use Rattle.klp_lint.specs.Undone.{AreRestored, AreHarmless, IsHarmless, IsLeft, IsRestored, found_by, left_behind};
+ghost use Rattle.klp_lint.specs.Undone.{AreRestored, AreHarmless, IsHarmless, IsLeft, IsRestored, found_by};
+ghost use Rattle.klp_lint.specs.Undone.{left_behind};
 
 use crate::edits::{all_edits, edits_for, made_of};
 use crate::premise::{Left, Pair};

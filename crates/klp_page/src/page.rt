@@ -3,7 +3,8 @@ ghost use Rattle.std.specs.Prelude.{◌≡◌, length, count_by, IfOk, IfErr};
 ghost use Rattle.klp_catalog_text.specs.Within.{AreTargetsWithin};
 ghost use Rattle.klp_page.specs.Rows.{last_view};
 ghost use Rattle.klp_page.specs.Text.{page_text};
-ghost use Rattle.klp_page.specs.Pages.{is_refused, IsTitle, IsPage, IsPageOfRun, IsScriptFault, IsPageOver, IsFaultOver};
+ghost use Rattle.klp_page.specs.Pages.{is_refused, IsTitle, IsPage, IsPageOfRun, IsScriptFault, IsPageOver};
+ghost use Rattle.klp_page.specs.Pages.{IsFaultOver};
 ghost use Rattle.klp_page.specs.Pages.{IsPageOf, IsFaultOf, Writes};
 
 use crate::head::{Differing, Title, add_front, add_story_and_drawing, transitions};

@@ -4,7 +4,8 @@ ghost use Rattle.klp_types.specs.declared.limits.TheConstants.{MAX_TASKS};
 ghost use Rattle.klp_manager_state.specs.Managed.{setting_of};
 ghost use Rattle.klp_views.specs.Views.{IsView, act_of};
 ghost use Rattle.klp_console.specs.Lines.{lines_of};
-ghost use Rattle.klp_page.specs.Rows.{IsAnsweredBy, IsScriptRow, AddsRow, AreRows, holders_from, holders_shown, is_quiet};
+ghost use Rattle.klp_page.specs.Rows.{IsAnsweredBy, IsScriptRow, AddsRow, AreRows, holders_from, holders_shown};
+ghost use Rattle.klp_page.specs.Rows.{is_quiet};
 ghost use Rattle.klp_page.specs.Rows.{last_view};
 ghost use Rattle.klp_page.specs.Pages.{HasRows, IsScriptFault};
 

@@ -4,7 +4,8 @@ ghost use Rattle.std.specs.Fmt.{decimal};
 ghost use Rattle.klp_markup.specs.Adds.{Adds};
 ghost use Rattle.klp_names.specs.Names.{since_start};
 ghost use Rattle.klp_page.specs.Text.{mark_text, refused_text, open_text, time_text, shown_text, start_text, row_text};
-ghost use Rattle.klp_page.specs.Text.{fold_start, fold_end, rows_text, differing_text, kernel_answer, difference_text, kernel_text};
+ghost use Rattle.klp_page.specs.Text.{fold_start, fold_end, rows_text, differing_text, kernel_answer, difference_text};
+ghost use Rattle.klp_page.specs.Text.{kernel_text};
 
 use crate::style::{
     ANSWER, ANSWER_END, CARD_NUMBER, CARD_ROW, CARDS, CARDS_END, DIFFERENCE, DIFFERING, FOLD,

@@ -57,8 +57,8 @@ fn files_with<'a>(catalog: &'a str, words: &'a [String], is_trace: bool) -> Opti
     }
 }
 
-/// Returns the paths that these arguments name: of a catalog, of a script or a trace, and perhaps of names. `None` if they
-/// are others.
+/// Returns the paths that these arguments name: of a catalog, of a script or a trace, and perhaps of names. `None` if
+/// they are others.
 fn files_in<'a>(given: &'a [String]) -> Option<PageFiles<'a>>
     ensures { option_map meaning result ≡ page_files (map string_bytes given.now) }
 {
@@ -71,8 +71,8 @@ fn files_in<'a>(given: &'a [String]) -> Option<PageFiles<'a>>
     }
 }
 
-/// Reads the program's arguments: the paths of a catalog, of a script or behind `--trace` of a trace, and of names, which may
-/// be left out. Refuses other arguments with a message on `err`, and returns the exit status as `Err`.
+/// Reads the program's arguments: the paths of a catalog, of a script or behind `--trace` of a trace, and of names,
+/// which may be left out. Refuses other arguments with a message on `err`, and returns the exit status as `Err`.
 pub fn page_words<'a, W: Write>(given: &'a [String], err: &mut W) -> Result<PageFiles<'a>, u8>
     ensures { MatchResult result
         (λ files. page_files (map string_bytes given.now) ≡ Some (meaning files))

@@ -1,5 +1,6 @@
 ghost use Rattle.std.specs.Prelude.{◌≡◌};
-ghost use Rattle.klp_program.specs.declared.fault.Fault.TheVariants.{NoMemory, Text, Image, Assemble, Boot, Serve, Trace};
+ghost use Rattle.klp_program.specs.declared.fault.Fault.TheVariants.{NoMemory, Text, Image, Assemble, Boot, Serve};
+ghost use Rattle.klp_program.specs.declared.fault.Fault.TheVariants.{Trace};
 
 use klp_catalog::{AssembleFault, TextFault};
 use klp_console::ServeFault;

@@ -14,7 +14,7 @@ use Rattle.klp_model.specs.EventCalls.{calls}
 use Rattle.klp_model.specs.State.{with_world}
 use Rattle.klp_model.specs.Step.{accepted}
 use Rattle.klp_catalog.specs.Catalog.{Catalog}
-use Rattle.klp_world.specs.declared.table.NotAdded.TheVariants as NotAdded
+use Rattle.klp_world.specs.declared.shadow_table.NotAdded.TheVariants as NotAdded
 use Rattle.klp_world.specs.Changes.{Changes}
 use Rattle.klp_manager_state.specs.declared.state.ManagerState.{ManagerState}
 use Rattle.klp_manager_state.specs.Alone.{IsWorldTaken}

@@ -1,5 +1,5 @@
-//! A catalog of another number of callbacks than its text has scripts. The contract leaves open which fault is told where
-//! memory could be short too, and no program comes to it.
+//! A catalog of another number of callbacks than its text has scripts. The contract leaves open which fault is told
+//! where memory could be short too, and no program comes to it.
 use crate::managed::{Given, outcome};
 use klp_catalog::AssembleFault;
 use klp_program::Fault;

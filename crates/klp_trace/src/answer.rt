@@ -5,7 +5,8 @@ ghost use Rattle.klp_words.specs.Words.{decimal_of, shadow_value_of};
 ghost use Rattle.klp_words.specs.Split.{separates, words_between};
 ghost use Rattle.klp_words.specs.declared.split.Separators.TheVariants.{Spaces};
 ghost use Rattle.klp_trace.specs.Names.{frames_of, flag_of};
-ghost use Rattle.klp_trace.specs.Answers.{next_as, pre_failed_of, reply_with, reply_in, is_line_of, as_written, refusal_of, answer_of};
+ghost use Rattle.klp_trace.specs.Answers.{next_as, pre_failed_of, reply_with, reply_in, is_line_of, as_written};
+ghost use Rattle.klp_trace.specs.Answers.{refusal_of, answer_of};
 
 use crate::names::{flag_of, frames_of, object_of, patch_of};
 use crate::text::{refusal_line, reply_text};

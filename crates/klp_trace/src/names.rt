@@ -1,6 +1,7 @@
 //! What the names and numbers of a trace mean.
 ghost use Rattle.std.specs.Prelude.{◌≡◌};
-ghost use Rattle.klp_trace.specs.Names.{task_of, patch_of, object_of, new_function_of, version_of, versions_of, frames_of, site_of_version, state_of, flag_of};
+ghost use Rattle.klp_trace.specs.Names.{task_of, patch_of, object_of, new_function_of, version_of, versions_of};
+ghost use Rattle.klp_trace.specs.Names.{frames_of, site_of_version, state_of, flag_of};
 
 use klp_console::site_of;
 use klp_core::Manager;

@@ -147,7 +147,8 @@ fn pre_failed_text(
     status: i32,
 ) -> Result<String, AllocError>
     ensures { IfOk result (λ text. string_bytes text
-        ≡ codes "prefailed " ++ patch.now ++ codes " " ++ object.now ++ codes " " ++ signed_decimal status ++ codes "\n") }
+        ≡ codes "prefailed " ++ patch.now ++ codes " " ++ object.now ++ codes " " ++ signed_decimal status
+        ++ codes "\n") }
 {
     let status = format!(in alloc; " {status}\n")?;
     let mut text = String::from_str(alloc, "prefailed ")?;

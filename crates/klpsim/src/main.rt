@@ -20,8 +20,8 @@ use std::thread::Threads;
 
 const NAME: &str = "klpsim";
 
-// Standard input is served over a catalog, the built-in one where no file is named. The answer is the exit status, which is
-// 1 too where the catalog isn't read.
+// Standard input is served over a catalog, the built-in one where no file is named. The answer is the exit status,
+// which is 1 too where the catalog isn't read.
 fn serve(rt: &HostRuntime, path: Option<String>) -> u8
     ensures { (result ≡ 1) ⊎ ((text : List ℕ) × (path ≡ None → text ≡ CATALOG.now) × IsServed text result) }
 {
@@ -32,9 +32,9 @@ fn serve(rt: &HostRuntime, path: Option<String>) -> u8
     }
 }
 
-// Two tasks run the steps of a file over a catalog, and standard output gets what came of it. The answer is the exit status,
-// which is 1 too where a file isn't read.
-// It takes a handle of its own, since the runtime has threads in `main` alone.
+// Two tasks run the steps of a file over a catalog, and standard output gets what came of it. The answer is the exit
+// status, which is 1 too where a file isn't read. It takes a handle of its own, since the runtime has threads in `main`
+// alone.
 fn race<R: Threads + Wait + Sync + Files + Print + AllocGlobal, E: Write>(
     rt: &R,
     catalog: &str,
