@@ -101,8 +101,21 @@ def lost_code():
     return lost
 
 
+def lost_places():
+    """The functions of the glossary's table that don't stand in the files that it names."""
+    lost = []
+    table = text("docs/GLOSSARY.md").split("## Where it is done")[1].split("|---|---|---|")[1]
+    for names, places in re.findall(r"^\| [^|]+ \| ([^|]+) \| ([^|]+) \|$", table, re.M):
+        parts = [it.split(":") for it in places.split(";") if ":" in it]
+        files = [f"crates/{crate.strip()}/src/{name.strip()}.rt" for crate, own in parts for name in own.split(",") if name.strip() != ".."]
+        code = "".join(text(it) for it in files if os.path.exists(f"{TOP}/{it}"))
+        lost += [it for it in files if not os.path.exists(f"{TOP}/{it}")]
+        lost += [it for it in re.findall(r"`(?:\w+::)?(\w+)`", names) if not re.search(rf"\b(?:fn|struct) {it}\b", code)]
+    return lost
+
+
 def cases():
     runs = [(f"{it}, {len(blocks(it))} blocks", functools.partial(run_all, it)) for it in ("README.md", "docs/ADMIN.md")]
-    return [*runs, ("documents, links", lost_links), ("documents, commands", lost_commands),
+    return [*runs, ("documents, links", lost_links), ("documents, places", lost_places), ("documents, commands", lost_commands),
             ("documents, headings that code cites", lost_citations), ("REVIEW.md, numbers of lines", counted_lines),
             ("documents, code", lost_code)]
