@@ -1,12 +1,8 @@
 -- Laws of the tables that look-ups go by.
-use Rattle.std.proofs.Common.{◌≡◌, ℕ, zero, suc, ◌+◌, ◌-◌, ◌<◌, ◌≤◌, List, [], ◌∷◌, ◌++◌, length, get_or, map, take, Bool, true, false, cond, Option, Some, None, refl, ap, sym, ◌∙◌, subst, arith, length-append, inl, inr, nat_eq, ltb, eqb}
-use Rattle.std.specs.Prelude.{option_map, ◌==◌, slice_get, count_by, position, unwrap_or, Vec, not, bytes_eq, slice_set}
-use Rattle.std.specs.declared.alloc.Global.{Global}
-use Rattle.std.specs.List.{position_or_len}
+use Rattle.std.proofs.Common.{◌≡◌, ℕ, zero, suc, ◌+◌, ◌-◌, ◌<◌, ◌≤◌, List, [], ◌∷◌, ◌++◌, length, get_or, map, take, Bool, true, false, cond, Option, Some, None, refl, ap, sym, ◌∙◌, subst, arith, length-append, inl, inr, nat_eq}
+use Rattle.std.specs.Prelude.{option_map, ◌==◌, slice_get, count_by, position, bytes_eq, slice_set}
 use Rattle.std.proofs.lemmas.List.{take_more, length-map, length-take}
-use Rattle.std.proofs.lemmas.List.Folds.{position_or_len_push}
-use Rattle.std.proofs.lemmas.List.Sums.{prefix_len-le-length}
-use Rattle.std.proofs.lemmas.Bool.{ltb-false, ltb-true, lt-ltb, le-ltb, cases_lt, eq-eqb, ne_eqb}
+use Rattle.std.proofs.lemmas.Bool.{lt-ltb, le-ltb, cases_lt}
 use Rattle.std.proofs.lemmas.Option.{slice_get-map, slice_get_within, slice_get_past, get_or_from_slice_get}
 use Rattle.indexmap.specs.IndexMap.{IndexMap, get}
 use Rattle.std.specs.List.{All}
@@ -51,76 +47,11 @@ site_more first place number symbols before after below so_far more =
     let size : length (take place symbols) ≡ place = length-take_all place symbols (omega (arith, below)) in
     rw (take_more symbols place 0 below, sites_where-push (λ other. other == number) first (take place symbols) (get_or symbols place 0), size, ← so_far) more
 
--- ---- objects by name
-
-place_none : {A : Type 0} (test : A → Bool) (xs : List A) → position test xs ≡ None → position_or_len test xs ≡ length xs
-place_none test xs h =
-    let past : length xs ≤ position_or_len test xs = ltb-false (position_or_len test xs) (length xs) (not_found _ _ h) in
-    omega (arith, past, prefix_len-le-length (λ x. not (test x)) xs)
-  where
-    not_found : (b : Bool) (n : ℕ) → cond b (Some n) None ≡ None → b ≡ false
-    not_found true n h = let no : ⊥ = cc in absurd no
-    not_found false n h = refl
-
--- the first of them stays the first
-pub position-push_found : {A : Type 0} (test : A → Bool) (xs : List A) (y : A) (n : ℕ) →
-    position test xs ≡ Some n → position test (xs ++ y ∷ []) ≡ Some n
-position-push_found test xs y n h = by (ltb (position_or_len test xs) (length xs)) refl h
-  where
-    by : (b : Bool) → ltb (position_or_len test xs) (length xs) ≡ b →
-        cond b (Some (position_or_len test xs)) None ≡ Some n → position test (xs ++ y ∷ []) ≡ Some n
-    by true e h =
-        let inside : position_or_len test xs < length xs = ltb-true _ _ e in
-        let differ : eqb (position_or_len test xs) (length xs) ≡ false = ne_eqb _ _ (λ same. let no : ⊥ = omega (arith, inside, same) in no) in
-        let same : position_or_len test (xs ++ y ∷ []) ≡ position_or_len test xs =
-        position_or_len_push test xs y ∙ ap (λ b. cond b (length xs + cond (test y) 0 1) (position_or_len test xs)) differ in
-        let below : position_or_len test xs < length (xs ++ y ∷ []) = omega (arith, inside, length-append xs (y ∷ [])) in
-        rw (same, lt-ltb _ _ below) h
-    by false e h = let no : ⊥ = cc in absurd no
-
--- and where none was, it is the new one, if that is one
-pub position-push_none : {A : Type 0} (test : A → Bool) (xs : List A) (y : A) →
-    position test xs ≡ None → position test (xs ++ y ∷ []) ≡ cond (test y) (Some (length xs)) None
-position-push_none test xs y h =
-    let end : position_or_len test xs ≡ length xs = place_none test xs h in
-    let at : position_or_len test (xs ++ y ∷ []) ≡ length xs + cond (test y) 0 1 =
-    position_or_len_push test xs y ∙ ap (λ b. cond b (length xs + cond (test y) 0 1) (position_or_len test xs)) (eq-eqb _ _ end) in
-    by (test y) refl at
-  where
-    by : (b : Bool) → test y ≡ b → position_or_len test (xs ++ y ∷ []) ≡ length xs + cond (test y) 0 1 →
-        position test (xs ++ y ∷ []) ≡ cond (test y) (Some (length xs)) None
-    by true e at =
-        let here : position_or_len test (xs ++ y ∷ []) ≡ length xs = omega (arith, at ∙ ap (λ b. length xs + cond b 0 1) e) in
-        let below : length xs < length (xs ++ y ∷ []) = omega (arith, length-append xs (y ∷ [])) in
-        rw (here, lt-ltb _ _ below, e) refl
-    by false e at =
-        let here : position_or_len test (xs ++ y ∷ []) ≡ length (xs ++ y ∷ []) =
-        omega (arith, at ∙ ap (λ b. length xs + cond b 0 1) e, length-append xs (y ∷ [])) in
-        rw (here, le-ltb (length (xs ++ y ∷ [])) (length (xs ++ y ∷ [])) (omega arith), e) refl
-
--- one object more
-pub object_more : (objects : List NumberedObject) (place number : ℕ) (object : NumberedObject) (before after : Option ℕ) →
-    place < length objects → object ≡ get_or objects place object →
-    before ≡ position (λ (object : NumberedObject). object.name == number) (take place objects) →
-    after ≡ cond (object.name == number) (Some (unwrap_or before place)) before →
-    after ≡ position (λ (object : NumberedObject). object.name == number) (take (place + 1) objects)
-object_more objects place number object (Some n) after below is so_far more =
-    rw (take_more objects place object below, ← is)
-    (more ∙ (either (object.name == number) ∙ sym (position-push_found (λ (object : NumberedObject). object.name == number) (take place objects) object n (sym so_far))))
-  where
-    either : (b : Bool) → cond b (Some n) (Some n) ≡ Some n
-    either true = refl
-    either false = refl
-object_more objects place number object None after below is so_far more =
-    let size : length (take place objects) ≡ place = length-take_all place objects (omega (arith, below)) in
-    let new = position-push_none (λ (object : NumberedObject). object.name == number) (take place objects) object (sym so_far) in
-    rw (take_more objects place object below, ← is) (more ∙ (ap (λ n. cond (object.name == number) (Some n) None) (sym size) ∙ sym new))
-
 -- ---- sites by object
 
 -- one table more
 pub tables_more : {S : Type 0} (objects : List NumberedObject) (place : ℕ) (object : NumberedObject)
-    (tables more : List (IndexMap ℕ (Vec ℕ Global) S)) (table : IndexMap ℕ (Vec ℕ Global) S) → length tables ≡ place →
+    (tables more : List (IndexMap ℕ (List ℕ) S)) (table : IndexMap ℕ (List ℕ) S) → length tables ≡ place →
     AreSiteTables objects tables → slice_get objects place ≡ Some object →
     IsSiteTable (numbered_first_site objects place) object.symbols.items table → more ≡ tables ++ table ∷ [] → AreSiteTables objects more
 tables_more objects place object tables more table size so_far here new pushed = λ o x t at_object at_table.
@@ -271,8 +202,8 @@ not_past [] o below none = omega (arith, below)
 not_past (x ∷ xs) zero below none = let no : ⊥ = cc in no
 not_past (x ∷ xs) (suc o) below none = not_past xs o (omega (arith, below)) none
 
-pub resolved_tabled : {S : Type 0} (texts : List (List ℕ)) (objects : List NumberedObject) (tables : List (IndexMap ℕ (Vec ℕ Global) S))
-    (o place number : ℕ) (name : List ℕ) (table : IndexMap ℕ (Vec ℕ Global) S) (found : Option (Vec ℕ Global)) →
+pub resolved_tabled : {S : Type 0} (texts : List (List ℕ)) (objects : List NumberedObject) (tables : List (IndexMap ℕ (List ℕ) S))
+    (o place number : ℕ) (name : List ℕ) (table : IndexMap ℕ (List ℕ) S) (found : Option (List ℕ)) →
     All (HasTexts texts) objects → IsApart texts → HasSites objects tables → position (bytes_eq name) texts ≡ Some number →
     slice_get tables o ≡ Some table → get nat_eq table number ≡ found →
     resolved (names_from texts objects) o name place ≡ picked (sites_in found) place

@@ -1,4 +1,5 @@
 pub mod Names
 pub mod Kept
 pub mod Undo
+pub mod NamedSites
 pub mod Tables

@@ -1,6 +1,5 @@
 -- The tables for look-ups, and when they are right for the numbered objects.
-use Rattle.std.specs.Prelude.{◌≡◌, ℕ, ◌+◌, ◌==◌, nat_eq, Bool, List, [], ◌∷◌, ◌++◌, length, take, slice_get, position, count_by, Option, Some, None, Vec}
-use Rattle.std.specs.declared.alloc.Global.{Global}
+use Rattle.std.specs.Prelude.{◌≡◌, ℕ, ◌+◌, ◌==◌, nat_eq, Bool, List, [], ◌∷◌, ◌++◌, length, take, slice_get, count_by, Option, Some, None}
 use Rattle.indexmap.specs.IndexMap.{IndexMap, get}
 use Rattle.klp_modules.specs.Names.{sites_where}
 use Rattle.klp_modules.specs.Kept.{numbered_first_site, IsKept}
@@ -8,26 +7,22 @@ use Rattle.klp_modules.specs.declared.numbered.NumberedObject.{NumberedObject}
 use Rattle.klp_modules.specs.declared.numbered.NumberedSymbol.{NumberedSymbol}
 use Rattle.klp_modules.specs.declared.tables.Tables.{Tables}
 
--- the table has, for the number of each name, the first object of that name
-abbrev pub HasObjects : {S : Type 0} → List NumberedObject → IndexMap ℕ ℕ S → Type 0
-HasObjects objects table = (number : ℕ) → get nat_eq table number ≡ position (λ (object : NumberedObject). object.name == number) objects
-
 -- the sites that a table has for a number
-abbrev pub sites_in : Option (Vec ℕ Global) → List ℕ
+abbrev pub sites_in : Option (List ℕ) → List ℕ
 sites_in None = []
-sites_in (Some sites) = sites.items
+sites_in (Some sites) = sites
 
 -- the table has, for the number of each name, the sites of the symbols of that name; the first symbol has this site
-abbrev pub IsSiteTable : {S : Type 0} → ℕ → List ℕ → IndexMap ℕ (Vec ℕ Global) S → Type 0
+abbrev pub IsSiteTable : {S : Type 0} → ℕ → List ℕ → IndexMap ℕ (List ℕ) S → Type 0
 IsSiteTable first symbols table = (number : ℕ) → sites_in (get nat_eq table number) ≡ sites_where (λ other. other == number) first symbols
 
 -- each of these tables is right for its object
-abbrev pub AreSiteTables : {S : Type 0} → List NumberedObject → List (IndexMap ℕ (Vec ℕ Global) S) → Type 0
-AreSiteTables {S} objects tables = (o : ℕ) (object : NumberedObject) (table : IndexMap ℕ (Vec ℕ Global) S) →
+abbrev pub AreSiteTables : {S : Type 0} → List NumberedObject → List (IndexMap ℕ (List ℕ) S) → Type 0
+AreSiteTables {S} objects tables = (o : ℕ) (object : NumberedObject) (table : IndexMap ℕ (List ℕ) S) →
     slice_get objects o ≡ Some object → slice_get tables o ≡ Some table → IsSiteTable (numbered_first_site objects o) object.symbols.items table
 
 -- each object has its table
-pub record HasSites {S : Type 0} (objects : List NumberedObject) (tables : List (IndexMap ℕ (Vec ℕ Global) S)) : Type 0 where
+pub record HasSites {S : Type 0} (objects : List NumberedObject) (tables : List (IndexMap ℕ (List ℕ) S)) : Type 0 where
   pub each : length tables ≡ length objects
   pub sites : AreSiteTables objects tables
 
@@ -45,7 +40,6 @@ placed_symbols number (object ∷ objects) = placed number 0 object.symbols.item
 
 -- the tables are right for these objects
 pub record AreTabled (objects : List NumberedObject) (tables : Tables) : Type 0 where
-  pub by_name : HasObjects objects tables.named
   pub by_object : HasSites objects tables.sites.items
   pub by_site : tables.symbols.items ≡ placed_symbols 0 objects
 

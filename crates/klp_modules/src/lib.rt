@@ -13,6 +13,7 @@
 mod fault;
 pub mod laws;
 mod modules;
+mod named_sites;
 mod numbered;
 mod tables;
 

@@ -1,6 +1,8 @@
 ghost use Rattle.std.specs.Prelude.{◌≡◌, ◌<◌, length, slice_set, slice_get, slice_index_or, false, option_map, IfOk};
-ghost use Rattle.std.specs.Prelude.{IfSome};
-ghost use Rattle.klp_modules.specs.Names.{ObjectNames, names_of_object, Named, opening, object_named, picked, resolved};
+ghost use Rattle.std.specs.Prelude.{IfSome, ◌==◌, ◌+◌, position};
+ghost use Rattle.klp_types.specs.Image.{symbols_of};
+ghost use Rattle.klp_modules.specs.declared.numbered.NumberedObject.{NumberedObject as NumberedObjectValue};
+ghost use Rattle.klp_modules.specs.Names.{ObjectNames, names_of_object, Named, opening, object_named, resolved};
 ghost use Rattle.klp_modules.specs.Names.{symbol_at_site};
 ghost use Rattle.klp_modules.specs.Kept.{texts_of, text_at, AddsName, AddsObject, AreNumbered};
 ghost use Rattle.klp_modules.specs.Undo.{put_back};
@@ -63,14 +65,15 @@ impl Modules {
     }
 
     /// Returns the number of the object with this name, the first if several have it. `None` if there is none. It
-    /// takes two look-ups.
+    /// takes a look-up, and a walk over the objects, of which there are few.
     pub fn object(&self, name: &str) -> Option<ObjId>
         ensures { result ≡ object_named self.now.names name.now }
     {
         let Some(number) = self.names.get_index_of(name) else {
             return None;
         };
-        self.tables.named.get(&number).copied()
+        let place = place_of(&self.objects, number)?;
+        Some(ObjId(place as u8))
     }
 
     /// Returns the name of an object. `None` if there is no such object.
@@ -141,7 +144,7 @@ impl Modules {
         let Some(sites) = table.get(&number) else {
             return Err(SymbolFault::Missing);
         };
-        pick(sites, position)
+        sites.pick(position)
     }
 
     /// Returns the symbol of a site: its object, its name, and its position, from 1, among the symbols of that name
@@ -171,23 +174,22 @@ fn text(names: &IndexSet<String>, number: usize) -> &str
     names.as_slice()[number].as_str()
 }
 
-/// Picks one of the sites of a name by its position: 0 means the only one, n the n-th.
-fn pick(sites: &[Site], position: u32) -> Result<Site, SymbolFault>
-    ensures { result ≡ picked sites.now position }
+/// Returns the place of the first object whose name has this number. `None` if there is none.
+fn place_of(objects: &[NumberedObject], name: usize) -> Option<usize>
+    ensures { result ≡ position (λ (object : NumberedObjectValue). object.name == name) objects.now }
 {
-    let Some(first) = sites.first() else {
-        return Err(SymbolFault::Missing);
-    };
-    if position > 0 {
-        return match sites.get(position as usize - 1) {
-            Some(site) => Ok(*site),
-            None => Err(SymbolFault::NoPosition),
-        };
+    objects.iter().position(|object| object.name == name)
+}
+
+/// Returns how many names an image has: one for each object and each symbol. Several may be equal.
+fn name_count(image: &Image) -> usize
+    ensures { result ≡ length image.now.image.objects + length (symbols_of image.now.image.objects) }
+{
+    let mut count = usize::from(image.objects());
+    for number in 0..image.objects() {
+        count += usize::from(image.symbols(ObjId(number)).unwrap());
     }
-    if sites.len() > 1 {
-        return Err(SymbolFault::Ambiguous);
-    }
-    Ok(*first)
+    count
 }
 
 /// Returns the set of all names of an image, and its objects, in which each name is a number in that set.
@@ -197,8 +199,8 @@ fn numbered_objects(
 ) -> Result<(IndexSet<String>, Vec<NumberedObject>), AllocError>
     ensures { IfOk result (λ made. AreNumbered (texts_of made.0.keys) made.1.items image.now.image.objects) }
 {
-    let mut names = IndexSet::new(alloc);
-    let mut objects = Vec::new(alloc);
+    let mut names = IndexSet::with_capacity(alloc, name_count(image))?;
+    let mut objects = Vec::with_capacity(alloc, usize::from(image.objects()))?;
     for number in 0..image.objects() {
         objects.push(numbered(alloc, &mut names, image, ObjId(number))?)?;
     }

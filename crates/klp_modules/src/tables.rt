@@ -3,8 +3,9 @@
 ghost use Rattle.std.specs.Prelude.{◌≡◌, ◌+◌, ◌≤◌, ◌++◌, ◌==◌, length, count_by, IfOk, OnOk};
 ghost use Rattle.klp_types.specs.declared.limits.TheConstants.{MAX_OBJECTS, MAX_SITES};
 ghost use Rattle.klp_modules.specs.Kept.{symbol_count};
-ghost use Rattle.klp_modules.specs.Tables.{HasObjects, IsSiteTable, HasSites, AreTabled, placed, placed_symbols};
+ghost use Rattle.klp_modules.specs.Tables.{IsSiteTable, HasSites, AreTabled, placed, placed_symbols};
 
+use crate::named_sites::NamedSites;
 use crate::numbered::{NumberedObject, NumberedSymbol};
 use indexmap::IndexMap;
 use klp_types::{ObjId, Site};
@@ -13,10 +14,8 @@ use std::alloc::{AllocError, Global};
 /// The tables for objects with numbered names.
 #[derive(Drop)]
 pub struct Tables {
-    /// By the number of a name, the first object of that name.
-    pub named: IndexMap<usize, ObjId>,
     /// By object, for the number of each name the sites of its symbols of that name, in order.
-    pub sites: Vec<IndexMap<usize, Vec<Site>>>,
+    pub sites: Vec<IndexMap<usize, NamedSites>>,
     /// By site, its symbol.
     pub symbols: Vec<NumberedSymbol>,
 }
@@ -28,31 +27,10 @@ impl Tables {
         requires few_symbols { symbol_count objects.now ≤ MAX_SITES }
         ensures { IfOk result (AreTabled objects.now) }
     {
-        let named = objects_by_name(alloc, objects)?;
         let sites = sites_by_object(alloc, objects)?;
         let symbols = symbols_by_site(alloc, objects)?;
-        Ok(Tables {
-            named,
-            sites,
-            symbols,
-        })
+        Ok(Tables { sites, symbols })
     }
-}
-
-/// Makes a table from the number of a name to the first object of that name. No image has two objects of one name;
-/// if there were two, the second would never be found.
-fn objects_by_name(
-    alloc: Global,
-    objects: &[NumberedObject],
-) -> Result<IndexMap<usize, ObjId>, AllocError>
-    requires { length objects.now ≤ MAX_OBJECTS }
-    ensures { IfOk result (HasObjects objects.now) }
-{
-    let mut table = IndexMap::new(alloc);
-    for (place, object) in objects.iter().enumerate() {
-        table.entry(object.name)?.or_insert(ObjId(place as u8));
-    }
-    Ok(table)
 }
 
 /// Makes a table for each object, from the number of a name to the sites of the object's symbols of that name. A
@@ -60,7 +38,7 @@ fn objects_by_name(
 fn sites_by_object(
     alloc: Global,
     objects: &[NumberedObject],
-) -> Result<Vec<IndexMap<usize, Vec<Site>>>, AllocError>
+) -> Result<Vec<IndexMap<usize, NamedSites>>, AllocError>
     requires { symbol_count objects.now ≤ MAX_SITES }
     ensures { IfOk result (λ tables. HasSites objects.now tables.items) }
 {
@@ -79,13 +57,13 @@ fn sites_by_name(
     alloc: Global,
     first: u16,
     symbols: &[usize],
-) -> Result<IndexMap<usize, Vec<Site>>, AllocError>
+) -> Result<IndexMap<usize, NamedSites>, AllocError>
     requires { first + length symbols.now ≤ MAX_SITES }
     ensures { IfOk result (IsSiteTable first symbols.now) }
 {
-    let mut table = IndexMap::new(alloc);
+    let mut table = IndexMap::with_capacity(alloc, symbols.len())?;
     for (place, name) in symbols.iter().enumerate() {
-        let sites = table.entry(*name)?.or_insert(Vec::new(alloc));
+        let sites = table.entry(*name)?.or_insert(NamedSites::new(alloc));
         sites.push(Site(first + place as u16))?;
     }
     Ok(table)

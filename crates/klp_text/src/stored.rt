@@ -6,7 +6,11 @@ ghost use Rattle.klp_text.specs.Kept.{with_entry_at};
 
 use crate::entry_site::{NOP, call, entry_offset};
 use klp_types::{ENTRY_SITE_LEN, SymbolText};
+use smallvec::SmallVec;
 use std::alloc::{AllocError, Global};
+
+/// A body of at most so many bytes lies in its symbol, and takes no memory of its own.
+const SHORT_BODY: usize = 32;
 
 /// A symbol with the bytes that it has now. The position of its entry site and the call for it are computed once,
 /// and written there each time that the site is hooked.
@@ -19,7 +23,7 @@ pub struct StoredSymbol {
     pub hooked: bool,
     /// The bytes of a call from the entry site to the handler.
     pub call: [u8; ENTRY_SITE_LEN],
-    pub body: Vec<u8>,
+    pub body: SmallVec<u8, SHORT_BODY>,
 }
 
 impl StoredSymbol {
@@ -36,7 +40,7 @@ impl StoredSymbol {
         ensures body { IfOk result (λ s. s.body.items ≡ with_entry nop symbol.now.body) }
     {
         let offset = entry_offset(symbol.body.as_slice());
-        let mut body = Vec::from_slice(alloc, symbol.body.as_slice())?;
+        let mut body = SmallVec::from_slice(alloc, symbol.body.as_slice())?;
         write_entry(&mut body, offset, &NOP);
         let address = symbol.address + offset as u64;
         Ok(StoredSymbol {

@@ -11,9 +11,16 @@ returns-in_default c =
     sym (position-texts (bytes_eq c.args.name.now) c.self.inside.names.keys) ∙ sym c.in_default.ensures.index in
     rw (← c.self.view_is) (sym (object_named-absent _ c.self.inside.objects.items c.args.name.now c.self.invariant.kept.numbered none))
 
+pub returns-in_err-place : goal.returns-in_err-place
+returns-in_err-place c =
+    let some : position (bytes_eq c.args.name.now) (texts_of c.self.inside.names.keys) ≡ Some c.in-Some.number =
+    sym (position-texts (bytes_eq c.args.name.now) c.self.inside.names.keys) ∙ sym c.in-Some.ensures.index in
+    let is = object_named-number _ c.self.inside.objects.items c.args.name.now c.in-Some.number c.self.invariant.kept.numbered c.self.invariant.kept.apart some in
+    rw (← c.self.view_is) (c.from_residual.ensures ∙ (rw (c.deref.ensures.value) at c.in_err-place.ensures ∙ sym is))
+
 pub returns : goal.returns
 returns c =
     let some : position (bytes_eq c.args.name.now) (texts_of c.self.inside.names.keys) ≡ Some c.in-Some.number =
     sym (position-texts (bytes_eq c.args.name.now) c.self.inside.names.keys) ∙ sym c.in-Some.ensures.index in
     let is = object_named-number _ c.self.inside.objects.items c.args.name.now c.in-Some.number c.self.invariant.kept.numbered c.self.invariant.kept.apart some in
-    rw (← c.self.view_is) (c.copied.ensures ∙ c.get.ensures.value ∙ (c.self.invariant.tabled.by_name c.in-Some.number ∙ sym is))
+    rw (← c.self.view_is) (rw (c.deref.ensures.value) at c.in_ok-place.ensures ∙ sym is)

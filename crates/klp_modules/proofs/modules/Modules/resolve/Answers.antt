@@ -1,8 +1,7 @@
 -- A name without a number is no symbol's, and a number stands for one name, whose sites the table has.
-use Rattle.std.proofs.Common.{◌≡◌, ◌≤◌, ◌∙◌, List, length, ap, sym, arith, refl, Some, None, ℕ}
+use Rattle.std.proofs.Common.{◌≡◌, ◌≤◌, ◌∙◌, length, ap, sym, arith, refl, Some, None}
 use Rattle.std.specs.Prelude.{position, bytes_eq}
 use Rattle.std.proofs.lemmas.Option.{slice_get_read}
-use Rattle.klp_modules.specs.Names.{picked}
 use Rattle.klp_modules.specs.Kept.{texts_of}
 use Rattle.klp_modules.proofs.NameLaws.{position-texts, resolved_absent, resolved_past}
 use Rattle.klp_modules.proofs.TableLaws.{resolved_tabled}
@@ -41,4 +40,4 @@ returns c =
     let at = rw (c.deref.ensures.value, place) at (slice_get_read c.deref.result.now _ c.from.result c.in-Some-get.table.now refl read.3.0 read.1) in
     let is = resolved_tabled _ c.self.inside.objects.items _ c.args.object c.args.position _ _ _ (Some c.in-Some-get-2.sites.now) c.self.invariant.kept.numbered
     c.self.invariant.kept.apart c.self.invariant.tabled.by_object some at (sym c.in-Some-get-2.ensures.value) in
-    rw (← c.self.view_is) (c.pick.ensures ∙ (ap (λ (sites : List ℕ). picked sites c.args.position) c.deref-2.ensures.value ∙ sym is))
+    rw (← c.self.view_is) (c.pick.ensures ∙ sym is)

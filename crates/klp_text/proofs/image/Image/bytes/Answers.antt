@@ -68,4 +68,4 @@ returns c =
     let stored : c.index-3.result.now ≡ get_or c.self.inside.sites.items (first_site c.self.inside.objects.items c.from-object.result + c.args.number) c.index-3.result.now =
     c.index-3.ensures ∙ ap (λ (i : ℕ). get_or c.self.inside.sites.items i c.index-3.result.now) site in
     rw (← c.self.view_is, ← place)
-    (ap Some c.as_slice.ensures.value ∙ sym (bytes_at-stored _ objects _ _ _ o c.args.number _ c.index-3.result.now c.self.invariant loaded found below stored))
+    (ap Some c.as_slice.ensures ∙ sym (bytes_at-stored _ objects _ _ _ o c.args.number _ c.index-3.result.now c.self.invariant loaded found below stored))
