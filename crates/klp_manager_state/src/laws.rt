@@ -1,5 +1,5 @@
 //! Laws of the states that a manager may be in. A function here does nothing: its contract is the law.
-ghost use Rattle.std.specs.Prelude.{◌≡◌, ◌≢◌, ℕ, true, List, None};
+ghost use Rattle.std.specs.Prelude.{◌≡◌, ◌≢◌, ℕ, true, false, List, None};
 ghost use Rattle.std.specs.List.{All};
 ghost use Rattle.klp_types.specs.declared.record.Record.{Record};
 ghost use Rattle.klp_types.specs.Records.{RecordList};
@@ -18,6 +18,10 @@ ghost use Rattle.klp_model.specs.State.{installed_patches};
 ghost use Rattle.klp_model.specs.Stated.{IsStated};
 ghost use Rattle.klp_catalog.specs.States.{previous_state};
 ghost use Rattle.klp_manager_state.specs.Managed.{Managed, setting_of};
+ghost use Rattle.klp_types.specs.Setting.{Setting};
+ghost use Rattle.klp_types.specs.Entries.{is_empty};
+ghost use Rattle.klp_model.specs.Allowed.{Allowed};
+ghost use Rattle.klp_model.specs.Opening.{opening_state};
 
 /// World and catalog name the same patch as the one whose state a callback takes over: the newest patch that was
 /// installed before and names the state. The world finds it in its rows. Both agree because each installed patch has
@@ -27,6 +31,17 @@ pub fn previous_states_agree()
         → previous_patch managed.state.world patch id
         ≡ previous_state managed.catalog patch id (installed_patches managed.state) }
 {}
+
+/// The facts that boot needs of the opening state: it is allowed, and each installed patch has its states, since none
+/// is installed.
+pub(crate) fn opening_keeps()
+    ensures allowed { (setting : Setting) → is_empty setting.image.objects ≡ false
+        → Allowed setting (opening_state setting) }
+    ensures stated { (setting : Setting) → IsStated setting (opening_state setting) }
+{
+    klp_model::laws::the_opening_state_is_allowed();
+    klp_model::laws::installed_patches_have_their_states();
+}
 
 /// The facts that each step keeps. They are one law, so that each event's function calls one law and not three.
 pub fn steps_keep()

@@ -19,7 +19,6 @@
 mod brief;
 mod inside;
 pub mod laws;
-mod opening;
 mod pins;
 mod state;
 mod transition;

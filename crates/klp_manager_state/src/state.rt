@@ -7,7 +7,7 @@ ghost use Rattle.klp_model.specs.Opening.{opening_state};
 ghost use Rattle.klp_manager_state.specs.Managed.{managed_of, setting_in};
 ghost use Rattle.klp_manager_state.specs.Invariant.{Invariant};
 
-use crate::opening::opening_keeps;
+use crate::laws::opening_keeps;
 use crate::pins::Pins;
 use klp_catalog::Catalog;
 use klp_journal::Records;

@@ -5,14 +5,14 @@
 //! logged gives the rows before it. For each event a function of its own returns why it would be refused, without
 //! taking it.
 //!
-//! There is one file for each kind of event: `src/enabling.rt`, `disabling.rt`, `forcing.rt`, `completing.rt` and
+//! There is one file for each kind of event: `src/enabling.rt`, `enabled_file.rt`, `forcing.rt`, `completing.rt` and
 //! `module.rt`. `callbacks.rt` finds out whether an event may run a callback, `replaced.rt` takes out what a
 //! cumulative patch replaces, and `module_sites.rt` changes the sites of a module that is loaded or unloaded.
 #![tactic(auto)]
 
 mod callbacks;
 mod completing;
-mod disabling;
+mod enabled_file;
 mod enabling;
 mod forcing;
 mod module;
@@ -21,7 +21,7 @@ mod replaced;
 
 pub use callbacks::may_run;
 pub use completing::{poll, poll_refusal};
-pub use disabling::{set_enabled, set_enabled_refusal};
+pub use enabled_file::{set_enabled, set_enabled_refusal};
 pub use enabling::{enable, enable_refusal};
 pub use forcing::{force, force_refusal};
 pub use module::{coming, coming_refusal, going, going_refusal};

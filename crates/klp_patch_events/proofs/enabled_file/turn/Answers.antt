@@ -22,7 +22,7 @@ use Rattle.klp_model.specs.declared.event.Refusal.{Refusal}
 use Rattle.klp_model.specs.declared.event.Refusal.TheVariants.{NoPatch, NotFound, SameValue, Busy, Full}
 use Rattle.klp_model.specs.Refusals.{has_patch, enabled_value, moves_out, same_bool, refusal}
 use Rattle.klp_patch_events.proofs.ModuleSteps.{passed}
-use Rattle.klp_patch_events.proofs.disabling.turn.Goals as goal
+use Rattle.klp_patch_events.proofs.enabled_file.turn.Goals as goal
 
 -- a value is set that isn't the file's
 other_value : (setting : Setting) (state : State) (patch : ℕ) (value : Bool) → refusal setting state (SetEnabled patch value) ≡ None → same_bool value (enabled_value state patch) ≡ false

@@ -22,7 +22,7 @@ use Rattle.klp_model.specs.Task.{all_in}
 use Rattle.klp_patch.specs.Calls.{records_of}
 use Rattle.klp_types.specs.declared.limits.TheConstants.{MAX_KIND_RECORDS}
 use Rattle.klp_patch.specs.Loaded.{loaded_in}
-use Rattle.klp_patch_events.proofs.disabling.disable.Goals as goal
+use Rattle.klp_patch_events.proofs.enabled_file.disable.Goals as goal
 
 pub set_all-requires : goal.set_all-requires
 set_all-requires g c =
