@@ -2,7 +2,8 @@
 use crate::report::Refused;
 use klp_capture::{Capture, Text};
 use klp_capture_run::{Explained, Followed};
-use klp_diagnostics::{line_at, rules_of};
+use klp_diagnostics::rules_of;
+use klp_faulty_words::lines::line_at;
 use klp_program::Verdict;
 use std::alloc::{AllocError, Global};
 use std::fmt;

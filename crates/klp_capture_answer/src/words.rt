@@ -4,7 +4,7 @@ use crate::report::{
     TransitionReport, Why, seconds,
 };
 use klp_capture::Elapsed;
-use klp_diagnostics::Escaped;
+use klp_faulty_words::escaped::Escaped;
 use std::io::Write;
 use std::{fmt, io};
 

@@ -1,6 +1,6 @@
 //! What tasks are inside of, by the calls of a trace.
 
-use crate::item::Item;
+use klp_faulty_words::item::Item;
 use klp_catalog_text::Lines;
 use std::alloc::{AllocError, Global};
 

@@ -1,7 +1,7 @@
 //! What the rules have at a line of a trace at which the kernel differs from them, and why, in words.
 ghost use Rattle.klp_core.specs.Journaled.{IsWellFormed};
 
-use crate::escaped::Escaped;
+use klp_faulty_words::escaped::Escaped;
 use crate::replay::make_room;
 use crate::rules::{Holders, InPlaceOf, moving_name};
 use klp_core::Manager;

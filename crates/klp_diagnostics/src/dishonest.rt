@@ -1,8 +1,8 @@
 //! What an item that isn't honest tells: who does what.
 
 use crate::calls::Calls;
-use crate::escaped::Escaped;
-use crate::item::Item;
+use klp_faulty_words::escaped::Escaped;
+use klp_faulty_words::item::Item;
 use klp_watch::Cause;
 use std::fmt;
 

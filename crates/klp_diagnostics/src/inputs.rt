@@ -2,19 +2,19 @@
 ghost use Rattle.std.specs.Prelude.{◌≡◌, IfErr};
 
 use crate::calls::Calls;
-use crate::catalog_fault::{begins_as_catalog, begins_as_utf16};
+use klp_faulty_words::catalog_fault::{begins_as_catalog, begins_as_utf16};
 use crate::dishonest::act_of;
-use crate::escaped::{Escaped, Quoted};
-use crate::item::Item;
+use klp_faulty_words::escaped::{Escaped, Quoted};
+use klp_faulty_words::item::Item;
 use crate::lack::lack_of;
-use crate::lines::line_at;
-use crate::names::Names;
+use klp_faulty_words::lines::line_at;
+use klp_faulty_words::names::Names;
 use crate::replay::{Replay, replay_of, rules_of};
-use crate::same_site::first_pair;
-use crate::stray::{STRAYS, Stray};
-use crate::unpicked::first_unloadable;
-use crate::wrong::Wrong;
-use crate::{catalog_fault, image, item};
+use klp_faulty_words::same_site::first_pair;
+use klp_faulty_words::stray::{Kind, STRAYS, Stray};
+use klp_faulty_words::unpicked::first_unloadable;
+use klp_faulty_words::wrong::Wrong;
+use klp_faulty_words::{catalog_fault, image, item};
 use klp_catalog::{AssembleFault, Catalog};
 use klp_catalog_text::{Plan, TextFault};
 use klp_console::ServeFault;
@@ -39,13 +39,6 @@ const SLEEP: &str = "is each function that the task is inside of";
 pub struct FileText<'a> {
     pub name: &'a str,
     pub bytes: &'a [u8],
-}
-
-/// What the file beside the catalog is.
-#[derive(Clone, Copy)]
-pub enum Kind {
-    Script,
-    Trace,
 }
 
 /// The two files of a program. Where a line can't be written to standard error, it is left out.

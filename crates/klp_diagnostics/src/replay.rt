@@ -5,9 +5,9 @@ ghost use Rattle.klp_catalog_text.specs.Within.{AreTargetsWithin};
 ghost use Rattle.klp_core.specs.Journaled.{IsWellFormed};
 
 use crate::differing::rules_at;
-use crate::escaped::Escaped;
-use crate::item::Item;
-use crate::lines::{line_at, word_at};
+use klp_faulty_words::escaped::Escaped;
+use klp_faulty_words::item::Item;
+use klp_faulty_words::lines::{line_at, word_at};
 use klp_callback::Boxed;
 use klp_catalog::Catalog;
 use klp_catalog_text::{Lines, Plan, PlanFunction, PlanPatch};

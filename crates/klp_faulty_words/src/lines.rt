@@ -13,7 +13,7 @@ pub fn line_at(text: &[u8], number: u64) -> &[u8] {
 }
 
 /// Returns the word of this number, counted from 1. A word that isn't there is empty.
-pub(crate) fn word_at<'a>(mut words: LineWords<'a>, number: usize) -> &'a [u8] {
+pub fn word_at<'a>(mut words: LineWords<'a>, number: usize) -> &'a [u8] {
     for _ in 1..number {
         words.next();
     }

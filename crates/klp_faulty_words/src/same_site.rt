@@ -69,7 +69,7 @@ fn pair_of<'a>(objects: &'a [ObjectText], patch: &'a PlanPatch) -> Option<Pair<'
 }
 
 /// Returns, for the first patch that has such, the first two functions that are for one site. `None` if no patch has.
-pub(crate) fn first_pair<'a>(
+pub fn first_pair<'a>(
     objects: &'a [ObjectText],
     patches: &'a [PlanPatch],
 ) -> Option<Wrong<'a>> {

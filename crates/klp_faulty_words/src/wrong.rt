@@ -6,23 +6,23 @@ use std::fmt;
 
 /// A symbol, and its object.
 #[derive(Clone, Copy)]
-pub(crate) struct Named<'a> {
-    pub(crate) symbol: &'a str,
-    pub(crate) object: &'a str,
+pub struct Named<'a> {
+    pub symbol: &'a str,
+    pub object: &'a str,
 }
 
 /// Two functions of a patch that are for one site.
 #[derive(Clone, Copy)]
-pub(crate) struct Pair<'a> {
-    pub(crate) patch: &'a str,
-    pub(crate) first: &'a str,
-    pub(crate) second: &'a str,
-    pub(crate) site: Named<'a>,
+pub struct Pair<'a> {
+    pub patch: &'a str,
+    pub first: &'a str,
+    pub second: &'a str,
+    pub site: Named<'a>,
 }
 
 /// What is wrong. What is wanted begins with its verb.
 #[derive(Clone, Copy)]
-pub(crate) enum Wrong<'a> {
+pub enum Wrong<'a> {
     /// Something is lacking.
     Lacking(&'static str),
     /// A word, or a whole line, stands where this is wanted.

@@ -11,7 +11,7 @@ pub struct Escaped<'a>(pub &'a [u8]);
 
 /// Writes bytes as [`Escaped`] does, between quotes. Cuts them off behind the first [`SHOWN`], and writes `..` then.
 #[derive(Clone, Copy)]
-pub(crate) struct Quoted<'a>(pub(crate) &'a [u8]);
+pub struct Quoted<'a>(pub &'a [u8]);
 
 /// Writes a text, and escapes what a terminal wouldn't show.
 fn write_text<W: fmt::Write>(f: &mut fmt::Formatter<W>, text: &str) -> fmt::Result {

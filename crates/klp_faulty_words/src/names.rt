@@ -41,9 +41,9 @@ impl Kind {
 
 /// The objects and patches of a catalog, by their names.
 #[derive(Clone, Copy)]
-pub(crate) struct Names<'a> {
-    pub(crate) objects: &'a [ObjectText],
-    pub(crate) patches: &'a [PlanPatch],
+pub struct Names<'a> {
+    pub objects: &'a [ObjectText],
+    pub patches: &'a [PlanPatch],
 }
 
 /// Returns what is wrong with a word that isn't of this kind. The text of the catalog tells what a symbol's name may

@@ -11,7 +11,7 @@ const KERNEL: &[u8] = b"vmlinux";
 
 /// Why a symbol isn't picked.
 #[derive(Clone, Copy)]
-pub(crate) enum Why<'a> {
+pub enum Why<'a> {
     /// The catalog has no such object, but maybe one of a name that is nearly so.
     NoObject(Option<&'a [u8]>),
     /// The object has no such symbol, but maybe one of a name that is nearly so.
@@ -24,16 +24,16 @@ pub(crate) enum Why<'a> {
 
 /// What a spelling asks for that isn't picked.
 #[derive(Clone, Copy)]
-pub(crate) struct Unpicked<'a> {
+pub struct Unpicked<'a> {
     object: &'a str,
     symbol: &'a str,
-    pub(crate) why: Why<'a>,
+    pub why: Why<'a>,
 }
 
 /// A function of a catalog whose symbol isn't picked, in this line.
 #[derive(Clone, Copy)]
-pub(crate) struct Unloadable<'a> {
-    pub(crate) line: usize,
+pub struct Unloadable<'a> {
+    pub line: usize,
     word: &'a [u8],
     patch: &'a [u8],
     unpicked: Unpicked<'a>,
@@ -169,7 +169,7 @@ fn is_reported(unpicked: &Unpicked<'_>, patch: &[u8], second: &[u8]) -> bool {
 
 /// Returns the first function of a catalog whose symbol isn't picked, and is worth a hint. `second` is the script or
 /// the trace. `None` if there is none.
-pub(crate) fn first_unloadable<'a>(catalog: &'a [u8], second: &[u8]) -> Option<Unloadable<'a>> {
+pub fn first_unloadable<'a>(catalog: &'a [u8], second: &[u8]) -> Option<Unloadable<'a>> {
     let mut patch: &[u8] = &[];
     for (number, line) in catalog.split(|b| *b == b'\n').enumerate() {
         let (first, word) = first_words(line);

@@ -18,7 +18,7 @@ const UTF16_MARKS: [[u8; 2]; 2] = [[0xfe, 0xff], [0xff, 0xfe]];
 const DIGITS: usize = 2;
 
 /// Whether a text begins as a catalog does that may have no fault: with its handler, or with an object.
-pub(crate) fn begins_as_catalog(text: &[u8]) -> bool {
+pub fn begins_as_catalog(text: &[u8]) -> bool {
     let mut lines = Lines::new(text);
     for _ in 0..text.len() {
         let line = lines.next().unwrap_or(&[]);
@@ -31,7 +31,7 @@ pub(crate) fn begins_as_catalog(text: &[u8]) -> bool {
 }
 
 /// Whether a text is UTF-16, by its first two bytes.
-pub(crate) fn begins_as_utf16(text: &[u8]) -> bool {
+pub fn begins_as_utf16(text: &[u8]) -> bool {
     UTF16_MARKS.iter().any(|mark| text.starts_with(mark))
 }
 
@@ -154,7 +154,7 @@ fn wrong_with<'a>(alloc: Global, form: &Form, kind: TextFaultKind, line: &'a [u8
 }
 
 /// Returns what is wrong in the line of a catalog that has this fault.
-pub(crate) fn wrong_of(alloc: Global, catalog: &[u8], fault: TextFault) -> Wrong<'_> {
+pub fn wrong_of(alloc: Global, catalog: &[u8], fault: TextFault) -> Wrong<'_> {
     let line = line_at(catalog, fault.line);
     match fault.kind {
         TextFaultKind::Missing => Wrong::Lacking("are a handler and an object"),

@@ -72,7 +72,7 @@ const LINE: &str = "is a line of the console";
 
 /// What a line of a trace says of a task, or of a module that goes. Other lines aren't told apart.
 #[derive(Clone, Copy)]
-pub(crate) enum Item<'a> {
+pub enum Item<'a> {
     /// The task calls the function that is spelled so.
     Call(u64, &'a [u8]),
     Return(u64),
@@ -108,7 +108,7 @@ fn task_item<'a>(verb: &[u8], task: &[u8]) -> Option<Item<'a>> {
 
 impl<'a> Item<'a> {
     /// Reads what a line says of a task or a module. `None` if it says nothing that is told apart.
-    pub(crate) fn read(line: &'a [u8]) -> Option<Item<'a>> {
+    pub fn read(line: &'a [u8]) -> Option<Item<'a>> {
         let item = LineParts::of(line).item;
         let (first, second, third) = (word(item, 1), word(item, 2), word(item, 3));
         if first == b"call".as_slice() {
@@ -223,7 +223,7 @@ fn is_of_no_event(item: &[u8]) -> bool {
 
 /// Returns what is wrong with a line of a trace that is no item. Both the names of the catalog and its text are looked
 /// at.
-pub(crate) fn wrong_of<'a>(line: &'a [u8], names: &Names<'_>, catalog: &'a [u8]) -> Wrong<'a> {
+pub fn wrong_of<'a>(line: &'a [u8], names: &Names<'_>, catalog: &'a [u8]) -> Wrong<'a> {
     let parts = LineParts::of(line);
     if let Some(time) = parts.time
         && microseconds(time).is_none()
@@ -246,7 +246,7 @@ pub(crate) fn wrong_of<'a>(line: &'a [u8], names: &Names<'_>, catalog: &'a [u8])
 /// Returns what may be misspelled in a line of a script: the line is none of the console's, or has a name that the
 /// catalog lacks. `None` if nothing is, and for lines that only ask or are about shadow variables, which aren't looked
 /// into.
-pub(crate) fn misspelled_in<'a>(
+pub fn misspelled_in<'a>(
     line: &'a [u8],
     names: &Names<'_>,
     catalog: &'a [u8],

@@ -1,14 +1,20 @@
 //! What means something in other files and nothing here. It is no fault, and means what it means.
 
 use crate::catalog_fault::{begins_as_catalog, begins_as_utf16, first_words};
-use crate::inputs::Kind;
 use klp_types::MAX_CONSOLE_LINE;
 
 /// The bytes of a byte-order mark.
 pub(crate) const BYTE_ORDER_MARK: [u8; 3] = [0xef, 0xbb, 0xbf];
 
+/// What the file beside the catalog is.
 #[derive(Clone, Copy)]
-pub(crate) enum Stray {
+pub enum Kind {
+    Script,
+    Trace,
+}
+
+#[derive(Clone, Copy)]
+pub enum Stray {
     /// All of the file.
     Catalog,
     /// All of the file, by a line that asks for no event.
@@ -26,7 +32,7 @@ pub(crate) enum Stray {
 }
 
 /// The first of these tells all, where it is UTF-16.
-pub(crate) const STRAYS: [Stray; 8] = [
+pub const STRAYS: [Stray; 8] = [
     Stray::Utf16,
     Stray::Catalog,
     Stray::Script,
@@ -87,7 +93,7 @@ impl Stray {
     }
 
     /// Returns the number of the first line of a text that has it, counted from 1. `None` if no line has.
-    pub(crate) fn first_line(self, text: &[u8]) -> Option<usize> {
+    pub fn first_line(self, text: &[u8]) -> Option<usize> {
         let mut lines = text.split(|b| *b == b'\n');
         let place = match self {
             Stray::Utf16 | Stray::Catalog | Stray::ByteOrderMark => self.is_in(text).then_some(0),
@@ -97,7 +103,7 @@ impl Stray {
     }
 
     /// Returns what is told of it in a file of this kind. `None` if such a file may have it.
-    pub(crate) fn hint(self, kind: Kind) -> Option<&'static str> {
+    pub fn hint(self, kind: Kind) -> Option<&'static str> {
         Some(match (self, kind) {
             (Stray::Catalog, Kind::Script) => "a catalog, where a script is wanted",
             (Stray::Catalog, Kind::Trace) => "a catalog, where a trace is wanted",

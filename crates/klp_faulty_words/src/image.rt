@@ -127,7 +127,7 @@ fn first_wrong_symbol<'a>(
 
 /// Returns what is wrong with the objects of a catalog that make no image, for this fault. `None` if the fault points
 /// at none of them: two of one name, too many, no memory, or no object at all.
-pub(crate) fn wrong_of<'a>(
+pub fn wrong_of<'a>(
     objects: &'a [ObjectText],
     handler: u64,
     fault: ImageFault,
