@@ -52,7 +52,7 @@ impl Boxed {
         self.counted.run(patch, world, log)
     }
 
-    /// Returns how many edits of the script add a shadow variable. A run needs room for as many.
+    /// Returns how many edits of the script add a shadow variable. A run needs room for that many variables.
     pub fn allocs(&self) -> u16
         ensures value { result ≡ alloc_count self.now.script.edits }
         ensures limit { length self.now.script.edits ≤ MAX_EDITS }

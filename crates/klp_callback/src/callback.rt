@@ -16,7 +16,8 @@ pub trait Callback: Drop + Send {
     ghost runs_of: { Self → ℕ };
 
     /// Runs the callback for the patch: makes the edits of its script, logs every row that they change, counts the
-    /// run, and returns the script's status. It takes no memory. A run whose status isn't 0 counts too.
+    /// run, and returns the script's status. It takes no memory. A run whose status isn't 0 counts too, and makes no
+    /// edit.
     fn run(&mut self, patch: PatchId, world: &mut World, log: &mut Records) -> i32
         requires room { HasRoom world.old log.old (alloc_count (script_of self.old).edits)
             (rows_of_script patch world.old (script_of self.old)) }

@@ -30,8 +30,8 @@ fn make_edit(edit: &Edit, patch: PatchId, world: &mut World, log: &mut Records)
     }
 }
 
-/// Sets the patch's state to the value that the state has in the newest older patch that names it. If no older
-/// patch names it, the state keeps its value.
+/// Sets the patch's state to its value in the newest older patch that names it. If no older patch names it, the state
+/// keeps its value.
 fn take_previous(patch: PatchId, id: u64, world: &mut World, log: &mut Records)
     requires { length (rows_of_edit patch world.old (Edit.TakePrev id)) ≤ spare_of log.old }
     ensures changes { Changes world.old world.new log.old log.new (edited patch world.old (Edit.TakePrev id))

@@ -15,14 +15,14 @@ use klp_text::Image;
 use klp_types::ObjId;
 use std::alloc::Global;
 
-// Whether image, modules and catalog have the same number of symbols for each object. The loop goes one past the last
-// object of the image: there the other two must have none either. Nothing else is compared, since the caller knows that
-// the names are the same (docs/DECISIONS.md, "Image, modules and catalog as they came"). Borrows the three, so that its
-// two ways out drop nothing (docs/DECISIONS.md, "One way out for an owner").
+// Whether image, modules and catalog have the same number of symbols for each object. The loop goes one past the
+// image's last object, where modules and catalog must have no object either. Nothing else is compared, since the caller
+// knows that the names are the same (docs/DECISIONS.md, "Image, modules and catalog as they came"). Borrows the three,
+// so that neither return drops anything (docs/DECISIONS.md, "One way out for an owner").
 fn is_match(image: &Image, modules: &Modules, catalog: &Catalog) -> bool
     ensures matches { IsTrue result → IsMatch image.now.image modules.now catalog.now }
     ensures differs { result ≡ false → IsMatch image.now.image modules.now catalog.now → ⊥ }
-    // every image is within limits, so that numbers of objects have 8 bits
+    // every image is within limits, so object numbers fit in 8 bits
     ensures limits { IsWithinLimits image.now.image.objects }
 {
     let objects = image.objects();
@@ -36,9 +36,9 @@ fn is_match(image: &Image, modules: &Modules, catalog: &Catalog) -> bool
     true
 }
 
-/// Makes the state and the journal of a manager that has just opened, or returns `Mismatch` if the three don't match,
-/// or `NoMemory`. Moves image and modules into the state. The journal is made before the state, since the state is so
-/// deep that dropping it would cost more than all else.
+/// Makes the state and the journal of a manager that has just opened. Returns `Mismatch` if image, modules and catalog
+/// don't match, or `NoMemory`. Moves image and modules into the state. The journal is made before the state, since the
+/// state is so deep that dropping it would cost more than all else.
 pub(crate) fn parts_over(
     alloc: Global,
     image: Image,

@@ -18,8 +18,8 @@ use klp_types::{MAX_PATCHES, MAX_SITES, MAX_TASKS, Mode, Task, TaskId, Transitio
 /// Why a task isn't at the target of the current transition.
 #[derive(Clone, Copy, PartialEq, Eq)]
 pub enum Lag {
-    /// The task sleeps inside of this version, which is blocked, and so blocks the transition: no poll switches the
-    /// task. If it is inside of several blocked versions, this is the innermost.
+    /// The task sleeps inside of this blocked version, and so blocks the transition: no poll switches the task. If it
+    /// is inside of several blocked versions, this is the innermost.
     Holds(Version),
     /// Nothing blocks the task, which is in this mode: the next poll switches a sleeper, and any other task switches
     /// when it next leaves the kernel.

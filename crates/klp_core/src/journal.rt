@@ -1,5 +1,5 @@
-//! Appending accepted events to the journal, and taking them back. Each changes journal and state together, so both are
-//! in this file.
+//! Appending accepted events to the journal, and taking them back. Both change journal and state together, so they
+//! share this file.
 ghost use Rattle.std.specs.Prelude.{◌≡◌, ◌-◌, ◌<◌, ◌≤◌, ◌++◌, ◌∷◌, [], true, false, length, take, Err, IfOk, IfErr};
 ghost use Rattle.klp_types.specs.declared.limits.TheConstants.{MAX_RECORDS};
 ghost use Rattle.klp_text.specs.TextImage.{site_count};
@@ -54,8 +54,8 @@ impl Model for DroppedReply {
 }
 
 /// Refuses the event if the journal has no room for another: with the refusal that the event would get anyway, or else
-/// with `JournalFull`. This is checked first, so that the usual way costs one comparison, and only a full journal has
-/// to find out whether the event would be refused anyway (docs/DECISIONS.md, "Room in the journal").
+/// with `JournalFull`. Room is checked first, so that an event usually costs one comparison here, and only a full
+/// journal has to find out whether something else refuses the event (docs/DECISIONS.md, "Room in the journal").
 #[inline(always)]
 fn ask_for_room(
     state: &ManagerState,
@@ -74,8 +74,8 @@ fn ask_for_room(
     Ok(())
 }
 
-/// Takes an event, and appends it if it is accepted. A journal without room refuses with `JournalFull` an event that
-/// nothing else refuses.
+/// Takes an event, and appends it if it is accepted. If nothing else refuses the event, a journal without room refuses
+/// it with `JournalFull`.
 pub(crate) fn take_and_append(
     state: &mut ManagerState,
     catalog: &mut Catalog,
@@ -140,8 +140,8 @@ fn append_brief(
 }
 
 /// Takes an event whose reply has frames or a value, and appends it if it is accepted. The journal must have room. This
-/// is a separate function, since a function that may hold such a reply clears the room for it on entry, and brief
-/// events need none.
+/// is a separate function, since a function that may hold such a reply clears memory for it on entry, which brief
+/// events don't need.
 fn append_long(
     state: &mut ManagerState,
     catalog: &mut Catalog,

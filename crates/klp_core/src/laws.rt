@@ -21,9 +21,9 @@ ghost use Rattle.klp_core.specs.Withdrawal.{GoesOn, LeavesNoTrace};
 
 use klp_model::round_trip::{gone_at_the_end, only_shadow_events_outside};
 
-/// Each function of a patch that names a site is in the object of that site. The catalog must have the image's names,
-/// as `Manager::catalog` promises of every manager. The laws of what tasks run (`klp_model`) need this, and nothing
-/// else gives it (docs/DECISIONS.md, "The object of a function").
+/// Each patch function that names a site is in the object of that site. The catalog must have the image's names, as
+/// `Manager::catalog` promises of every manager. The laws of what tasks run (`klp_model`) need this, and nothing else
+/// gives it (docs/DECISIONS.md, "The object of a function").
 pub fn functions_are_in_their_objects()
     ensures { (managed : Managed) → managed.catalog.names ≡ names_of managed.image.objects
         → IsInPlace (setting_of managed) }
@@ -49,8 +49,8 @@ pub fn what_may_not_run_does_not()
         → callbacks_of setting state event ≡ [] }
 {}
 
-/// Taking a list of events and then one more leaves the same as taking the longer list. So a call that takes events one
-/// by one can have a clause over its whole list.
+/// Taking a list of events and then one more leads to the same manager as taking the longer list. So a call that takes
+/// events one by one can have a clause over its whole list.
 pub fn events_go_on_where_they_end()
     ensures { (managed : Managed) (events : List Event) (event : Event)
         → after_event (after_events managed events) event ≡ after_events managed (events ++ event ∷ []) }
@@ -60,7 +60,7 @@ pub fn events_go_on_where_they_end()
 
 /// A poll that doesn't complete the transition replies with the number of tasks that still lag. `holders` gives the
 /// same number before the poll: the tasks that block the transition, and those that wait awake. So `holders` and a poll
-/// agree on what keeps a task.
+/// agree on how many tasks are left.
 pub fn a_poll_tells_how_many_are_left()
     ensures { (setting : Setting) (state : State) (move : Transition) → state.moving ≡ Some move
         → pending setting state move ≡ count_by is_left (holders setting state) }

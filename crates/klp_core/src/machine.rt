@@ -1,5 +1,5 @@
-//! A trait for the calls of a manager, for owners that don't name the type. A manager owns boxes, and a struct that
-//! owns one by name can't have a bound of its own besides; so such structs own a `Machine`.
+//! A trait for the calls of a manager, for owners that don't name the type. A manager owns boxes. A struct that owns a
+//! `Manager` by name can't also have a bound of its own, so such structs own a `Machine`.
 ghost use Rattle.std.specs.Prelude.{◌≡◌, ◌<◌, ◌≤◌, length, option_map, option_and_then, slice_get, IfOk, IfErr};
 ghost use Rattle.klp_types.specs.declared.limits.TheConstants.{MAX_GROUPS, MAX_SITES};
 ghost use Rattle.klp_types.specs.declared.task.Task.{Task as AnyTask};

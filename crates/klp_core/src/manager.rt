@@ -24,10 +24,10 @@ use klp_text::Image;
 use std::alloc::Global;
 use std::marker::Model;
 
-/// The live patching manager. It has the image with its text, the catalog with its patches, which of these are
-/// installed and in transition, the tasks, the shadow variables, and a journal of the accepted events, by which they
-/// can be taken back. Contracts see the image, the catalog and the state, and compute the setting of the definitions
-/// from these, so that it can't disagree with them (docs/DECISIONS.md, "The model of a manager").
+/// The live patching manager. It has the image with its text, the catalog with its patches, the installed patches and
+/// the transition, the tasks, the shadow variables, and a journal, by which accepted events can be taken back.
+/// Contracts see the image, the catalog and the state. They compute the definitions' setting from these three, so that
+/// the setting can't disagree with them (docs/DECISIONS.md, "The model of a manager").
 #[derive(Drop)]
 pub struct Manager {
     pub(crate) state: ManagerState,
@@ -52,12 +52,13 @@ impl Model for Manager {
 }
 
 impl Manager {
-    /// Boots a manager over an image, its modules and a catalog, all as they were made. Then `vmlinux` alone is loaded,
-    /// no patch is installed, and there are no tasks, no shadow variables and no event to take back. Allocates all
-    /// memory that events need, so no later call can fail for want of memory (docs/DECISIONS.md, "Memory after boot").
+    /// Boots a manager over an image, its modules and a catalog, all unchanged since they were made. Then `vmlinux`
+    /// alone is loaded, no patch is installed, and there are no tasks, no shadow variables and no event to take back.
+    /// Allocates all memory that events need, so no later call can fail for want of memory (docs/DECISIONS.md, "Memory
+    /// after boot").
     ///
-    /// Returns `Mismatch` if the three don't have the same number of objects, or of symbols in each. That their names
-    /// are the same is for the caller to know. The three are dropped on a fault.
+    /// Returns `Mismatch` if the three don't have the same number of objects, or of symbols in each. The caller must
+    /// know that their names are the same. The three are dropped on a fault.
     pub fn boot(
         alloc: Global,
         image: Image,
@@ -81,18 +82,19 @@ impl Manager {
     }
 
     /// Takes one event, as one atomic step. The cost grows with the functions and callbacks of the event's patch and
-    /// the tasks that it looks at, or with a change of the shadow variables. Loading or unloading a module costs as
-    /// much as what the installed patches have for it. A cumulative patch looks at every site, when its transition
-    /// starts and when it completes, and takes out all older patches.
+    /// the tasks that the event looks at, or with a change of the shadow variables. Loading or unloading a module costs
+    /// what the installed patches have for it, and a look at all of their functions or at the frames of all sleepers. A
+    /// cumulative patch looks at every site with entries, when its transition starts and when it completes, and takes
+    /// out all older patches.
     ///
-    /// An accepted event is appended to the journal, at the cost of the rows that it changed. If the journal has no
-    /// room for another event, an event that nothing else refuses is refused with `JournalFull`.
+    /// An accepted event is appended to the journal, at the cost of the rows that it changed. A journal without room
+    /// for another event refuses each event: with `JournalFull` unless something else refuses it.
     pub fn apply(&mut self, event: Event) -> Result<Reply, Refusal>
         ensures taken { IsTaken self.old self.new event result }
         ensures counts { IfOk result
             (λ reply. AreCounted self.old.managed.catalog self.new.managed.catalog
             (callbacks_of (setting_of self.old.managed) self.old.managed.state event)) }
-        // callbacks that run change only their counts, so what is proved of the setting still holds
+        // of the catalog, callbacks change only their counts, so what is proved of the setting still holds
         ensures setting { setting_of self.new.managed ≡ setting_of self.old.managed }
         ensures well_formed { IsWellFormed self.new }
     {
@@ -114,7 +116,7 @@ impl Manager {
         take_and_append(&mut self.state, &mut self.catalog, &mut self.journal, event)
     }
 
-    /// Like [`Manager::apply`], for a caller that needs no reply. No reply is made then, and only contracts know it.
+    /// Like [`Manager::apply`], for a caller that needs no reply. The reply isn't returned, and only contracts know it.
     #[inline(always)]
     pub fn apply_without_reply(&mut self, event: &Event) -> Result<DroppedReply, Refusal>
         ensures taken { IsTaken self.old self.new event.now result }
@@ -152,7 +154,7 @@ impl Manager {
     }
 
     /// Returns how many accepted events the journal has: those since the manager was booted or sealed that weren't
-    /// taken back. Passed to `rewind`, it brings this state back. The cost is constant.
+    /// taken back. Pass it to `rewind` to bring this state back. The cost is constant.
     pub fn mark(&self) -> u32
         ensures mark { result ≡ length self.now.groups }
         ensures limit { result ≤ MAX_GROUPS }
@@ -162,9 +164,9 @@ impl Manager {
     }
 
     /// Takes back all events but the first `mark`, newest first. Text, hooks, function stacks, system states, shadow
-    /// variables and tasks are then as they were after those `mark` events. No callback runs, since what callbacks did
-    /// is in rows like all else, and the counts of their runs stay. The cost grows with the number of rows that are put
-    /// back. Returns `BadMark` if the journal has fewer than `mark` events.
+    /// variables and tasks are then as they were after those `mark` events. No callback runs, since the rows that
+    /// callbacks changed are put back like all others. The counts of their runs stay. The cost grows with the number of
+    /// rows that are put back. Returns `BadMark` if the journal has fewer than `mark` events.
     pub fn rewind(&mut self, mark: u32) -> Result<(), BadMark>
         ensures rewound { IfOk result (λ _. (mark ≤ length self.old.groups) × IsRewound self.old self.new mark) }
         ensures bad_mark { IfErr result (λ _. length self.old.groups < mark) }
@@ -180,7 +182,7 @@ impl Manager {
     }
 
     /// Empties the journal, so that no earlier event can be taken back, and the present state is the base. Use it to go
-    /// on when the journal is full. The cost is at most that of the records that are dropped.
+    /// on when the journal is full. The cost grows at most with the number of dropped records.
     pub fn seal(&mut self)
         ensures sealed { self.new ≡ record { managed = self.old.managed; base = self.old.managed.state; groups = [] } }
         ensures well_formed { IsWellFormed self.new }
@@ -188,8 +190,8 @@ impl Manager {
         self.journal.clear(&mut self.state.log);
     }
 
-    /// Returns how many more records the journal has room for. The cost is constant. Any event needs room for as many
-    /// records as one event may log, however few it will log.
+    /// Returns how many more records the journal has room for. The cost is constant. Each event needs room for the most
+    /// records that an event may log, however few it logs.
     pub fn records_free(&self) -> u32
         ensures value { result ≡ records_free self.now.groups }
         ensures limit { records_in self.now.groups ≤ MAX_JOURNAL_RECORDS }

@@ -54,7 +54,7 @@ impl Manager {
         self.state.sites.stacks().entries(site)
     }
 
-    /// Returns a copy of the list of installed patches, oldest first, so that one can go over it while events are
+    /// Returns a copy of the list of installed patches, oldest first, so that a caller can go over it while events are
     /// taken.
     pub fn installed(&self) -> ArrayVec<PatchId, MAX_PATCHES>
         ensures { result.items ≡ installed_patches self.now.managed.state }
@@ -140,9 +140,9 @@ impl Manager {
         self.state.world.get(key)
     }
 
-    /// Returns the lowest address, above `after`, of a parent object that has a shadow variable of this id, or the
-    /// lowest of all without `after`. None if none has one there. One goes over all variables of an id with it: each
-    /// next call gets the last answer.
+    /// Returns the lowest address above `after` of a parent object that has a shadow variable of this id, or the lowest
+    /// of all without `after`. None if there is no such parent object. To go over all variables of an id, pass each
+    /// answer to the next call.
     pub fn next_parent(&self, id: u64, after: Option<u64>) -> Option<u64>
         ensures { IsNextParent self.now.managed.state.world.shadow id (lowest_above after) result }
     {
@@ -153,7 +153,7 @@ impl Manager {
     /// state, as a kernel returns no data then (`klp_get_state`).
     pub fn state_of(&self, patch: PatchId, id: u64) -> Option<u64>
         ensures value { result ≡ state_value self.now.managed.state.world patch id }
-        // exactly the states exist that the catalog gives installed patches
+        // the existing states are exactly those that the catalog gives installed patches
         ensures there { is_some result
             ≡ (is_installed self.now.managed.state patch
             && list_any (λ own. own == id) (state_ids (setting_of self.now.managed) patch)) }
@@ -163,7 +163,8 @@ impl Manager {
     }
 
     /// Returns how often a callback of a patch ran, by its object and its kind, or None if the patch has no such
-    /// callback. The count stops at the greatest number of 64 bits. `rewind` leaves it, since those runs did happen.
+    /// callback. The count stops at the greatest number of 64 bits. `rewind` doesn't change it, since those runs did
+    /// happen.
     pub fn callback_runs(&self, patch: PatchId, object: ObjId, which: Which) -> Option<u64>
         ensures runs { result ≡ callback_runs self.now.managed.catalog patch object which }
         ensures there { is_some result
@@ -174,9 +175,9 @@ impl Manager {
     }
 
     /// Whether an event taken now might run a callback: nothing refuses it, and one of the callbacks that it might run
-    /// exists. If this is false, it runs none (`laws::what_may_not_run_does_not`). The cost grows with the objects of
-    /// the event's patch, or of all installed patches for a module. If such a callback exists, the event is also
-    /// checked for refusals.
+    /// exists. If this is false, the event runs none (`laws::what_may_not_run_does_not`). The cost grows with the
+    /// objects of the event's patch, or for a module with those of all installed patches. If such a callback exists,
+    /// the event is also checked for refusals.
     pub fn may_run(&self, event: &Event) -> bool
         ensures { result ≡ may_run_some (setting_of self.now.managed) self.now.managed.state event.now }
     {
@@ -194,8 +195,8 @@ impl Manager {
         &self.catalog
     }
 
-    /// Returns the names of the image's objects and symbols, and which objects are loaded. The names in console lines
-    /// are resolved with it.
+    /// Returns the names of the image's objects and symbols, and which objects are loaded. It resolves the names in
+    /// console lines.
     pub fn modules(&self) -> &Modules
         ensures { result.now
             ≡ record { names = names_of self.now.managed.image.objects; loaded = self.now.managed.state.loaded } }

@@ -21,8 +21,8 @@ use klp_types::{
     Version,
 };
 
-/// Returns the patch in transition without its target. A call needs only the patch: whether it passes over the patch's
-/// entry depends on the task's state.
+/// Returns the patch in transition without its target. A call needs only the patch: the task's patch state decides
+/// whether the call passes over the patch's entry.
 fn patch_of(moving: Option<Transition>) -> Option<PatchId>
     ensures { result ≡ moving_patch moving }
 {
@@ -63,8 +63,8 @@ impl Manager {
         self.state.sites.sites()
     }
 
-    /// Returns the two newest entries of a site with their addresses: what a handler would have at hand, so that a call
-    /// doesn't walk over the stack. None if the site isn't one of a loaded object.
+    /// Returns the two newest entries of a site with their addresses: what a handler needs, so that a call doesn't walk
+    /// the stack. None if the site isn't one of a loaded object.
     pub fn row(&self, site: Site) -> Option<SiteRow>
         ensures { result ≡ row_of (setting_of self.now.managed) self.now.managed.state site }
     {

@@ -81,8 +81,8 @@ pub(crate) fn take_long(
     }
 }
 
-/// Returns why an event would be refused, the journal aside, or None, without taking it. Removals of shadow variables
-/// are never refused.
+/// Returns why an event would be refused, or None. Doesn't take the event, and ignores the journal. Removals of shadow
+/// variables are never refused.
 pub(crate) fn refused(state: &ManagerState, catalog: &Catalog, event: &Event) -> Option<Refusal>
     requires { Invariant state.now catalog.now }
     ensures { result ≡ refused_in state.now catalog.now event.now }

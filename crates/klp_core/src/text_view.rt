@@ -6,7 +6,7 @@ use klp_types::ObjId;
 use std::marker::Model;
 
 /// The text of one loaded object, borrowed from the manager: its symbols in order, each with the bytes that a processor
-/// would run. No event can be taken while it is borrowed, so all bytes are of one moment.
+/// would run. While the view lives, no event can be taken, so all bytes are of one moment.
 #[derive(Drop)]
 pub struct TextView<'a> {
     image: &'a Image,
@@ -49,7 +49,7 @@ impl<'a> TextView<'a> {
     }
 
     /// Returns a symbol's name, address and bytes, or None. `number` counts from 0: symbols aren't looked up by name,
-    /// since several may have one name.
+    /// since several may share a name.
     pub fn get(&self, number: u16) -> Option<(&str, u64, &[u8])>
         ensures name { option_map (λ found. found.0.now) result
             ≡ option_map (λ (s : Symbol). s.name) (slice_get self.now number) }

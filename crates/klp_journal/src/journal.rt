@@ -9,9 +9,9 @@ use std::alloc::{AllocError, Global};
 use std::marker::Model;
 use std::snapshot::Snapshot;
 
-/// An accepted event, with the number of its records. While it is the newest event, its records are the last ones.
-/// No code asks for the event or its reply at run time, so they are snapshots, which only contracts read and which
-/// take no memory (docs/DECISIONS.md, "Events in the journal").
+/// An accepted event, with the number of its records. While it is the newest event, its records are the last ones. No
+/// code reads the event or its reply at run time, so they are snapshots, which only contracts read and which take no
+/// memory (docs/DECISIONS.md, "Events in the journal").
 #[derive(Drop)]
 struct StoredEvent {
     event: Snapshot<Event>,
@@ -19,11 +19,11 @@ struct StoredEvent {
     count: usize,
 }
 
-/// The accepted events, oldest first. Their records stay in a list of the caller's, where they were logged, and
-/// each call is given that list. Events and records together make groups: an event, its reply, and a record of each
-/// row that it changed.
+/// The accepted events, oldest first. Their records stay in the caller's list, where they were logged, and each call
+/// gets that list. Events and records together make groups: an event, its reply, and a record of each row that it
+/// changed.
 ///
-/// [`Journal::new`] takes all room, for [`MAX_GROUPS`] events. The list has room for [`MAX_JOURNAL_RECORDS`]
+/// [`Journal::new`] allocates all memory, for [`MAX_GROUPS`] events. The list has room for [`MAX_JOURNAL_RECORDS`]
 /// records of all events together. To undo the newest event, reopen it and put its records back, newest first.
 #[derive(Drop)]
 pub struct Journal {
@@ -46,7 +46,7 @@ impl Model for Journal {
 }
 
 impl Journal {
-    /// Creates a journal without events, and takes all its room, since no event takes memory. `Err` if memory is
+    /// Creates a journal without events, and allocates all its memory, since no event takes memory. `Err` if memory is
     /// refused.
     pub fn new(alloc: Global) -> Result<Self, AllocError>
         ensures { IfOk result (λ journal. journal ≡ []) }

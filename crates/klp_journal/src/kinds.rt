@@ -31,7 +31,7 @@ pub const KIND_TRANSITION: u64 = 9;
 /// Whether a patch was pinned.
 pub const KIND_PINNED: u64 = 10;
 
-/// A tag has this much for each word of the record. Kinds are below it.
+/// A tag is the record's kind plus this for each word before the tag. Kinds are below it.
 pub const TAG_OF_A_WORD: u64 = 256;
 
 /// Returns the tag of a record of this kind with `count` words before the tag.

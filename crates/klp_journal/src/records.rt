@@ -16,8 +16,8 @@ use klp_types::{MAX_JOURNAL_RECORDS, Record, Task, TaskId};
 use std::alloc::{AllocError, Global};
 use std::marker::Model;
 
-/// Records in the order in which they were logged, in one list whose room is taken when it is made. First are those
-/// of earlier events, at most [`MAX_JOURNAL_RECORDS`], and after them those of the current event. So nothing is
+/// Records in the order in which they were logged, in one list whose memory is allocated when it is made. First come
+/// those of earlier events, at most [`MAX_JOURNAL_RECORDS`], and after them those of the current event. So nothing is
 /// copied when an event is over: its records stay where they are.
 ///
 /// Logging takes no memory, since no event may fail half way. To undo a change, its records are taken newest first,
@@ -121,9 +121,8 @@ impl Records {
         self.all.take_newest()
     }
 
-    /// Removes and returns the newest record of the current event, in a form of a few bytes. The records that
-    /// events log most have such a form. `None` removes nothing, and doesn't say that there is no record:
-    /// `take_newest` has to be tried then.
+    /// Removes and returns the newest record of the current event, in a form of a few bytes. The records that events
+    /// log most have such a form. On `None` nothing is removed, but there may be a record: try `take_newest` then.
     #[inline(always)]
     pub fn take_small(&mut self) -> Option<SmallRecord>
         ensures newest { IfSome result
@@ -136,9 +135,9 @@ impl Records {
         self.all.take_small()
     }
 
-    /// Removes and returns the newest record of the current event without its frames, if it is of a task whose
-    /// frames are the same now. `tasks` are the tasks now, and `frames` the words of their frames. So the frames of
-    /// a switched sleeper needn't be read. `None` removes nothing, and doesn't say that there is no such record.
+    /// Removes and returns the newest record of the current event without its frames, if it is of a task whose frames
+    /// are the same now. `tasks` are the tasks now, and `frames` the words of their frames. So the frames of a switched
+    /// sleeper needn't be read. On `None` nothing is removed, though there may be such a record.
     #[inline(always)]
     pub fn take_switched(
         &mut self,

@@ -14,7 +14,7 @@ use klp_types::{Mode, PatchId, PatchState, Place, Site, TaskId};
 /// whole task, and passing that on costs more than putting an entry back.
 #[derive(Clone, Copy)]
 pub enum SmallRecord {
-    /// The entry of a patch on the function stack of a site, or that it had none there.
+    /// The entry of a patch on the function stack of a site, or that the patch had none there.
     Entry {
         site: Site,
         patch: PatchId,

@@ -15,7 +15,7 @@ use klp_types::{MAX_RECORD_WORDS, Record, Task, TaskId};
 use std::alloc::{AllocError, Global};
 use std::marker::Model;
 
-/// Records in the order in which they were logged, as words in one list whose room is taken when it is made.
+/// Records in the order in which they were logged, as words in one list whose memory is allocated when it is made.
 #[derive(Drop)]
 pub(crate) struct StoredRecords {
     words: Vec<u64>,

@@ -1,5 +1,5 @@
-//! A task whose patch state or mode alone changed, in a form that undo can take at a low cost. Its frames are the
-//! same as in its record, so none has to be read.
+//! A task whose patch state or mode alone changed, in a form that undo can take at a low cost. Its frames are the same
+//! as in its record, so no frame has to be read.
 ghost use Rattle.std.specs.Prelude.{◌≡◌, ◌≤◌, true, ℕ, List, ◌++◌, length, map, slice_get, Some, IfSome};
 ghost use Rattle.klp_types.specs.declared.record.Record.TheVariants.{TaskRow};
 ghost use Rattle.klp_types.specs.declared.task.Task.{Task as AnyTask};
@@ -72,9 +72,9 @@ fn switched_body(
     })
 }
 
-/// Returns the task of the last record of these words, and how many words that has with its tag. `None` if the
-/// record is of another kind, if the task doesn't exist now, or if its frames aren't those of the record. The words
-/// are known to end with a record.
+/// Returns the task of the last record of these words, and how many words that record has with its tag. `None` if the
+/// record is of another kind, if the task doesn't exist now, or if its frames aren't those of the record. The words are
+/// known to end with a record.
 #[inline(always)]
 pub(crate) fn switched(
     words: &[u64],

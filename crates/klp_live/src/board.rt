@@ -18,8 +18,7 @@ pub type Changes<S> = Writer<Published, Option<News>, View, S>;
 /// The end of the board that reads. Each seat has one.
 pub type Place<S> = Reader<Published, View, S>;
 
-/// Appends what is to be published next. Would wait until there is memory, but callers have kept room before, so it
-/// doesn't wait.
+/// Appends what is to be published next. Would wait for memory, but callers have kept room before, so it never waits.
 pub fn push<S: Start + Protocol<Published, View>, W: Wait>(
     rt: &W,
     changes: &mut Changes<S>,
@@ -58,8 +57,8 @@ pub fn announce<S: Start + Protocol<Published, View>, W: Wait>(
     changes.publish_as::<Sees, W>(rt).0
 }
 
-/// The publishing end of the board. When it is dropped it must wait for its readers, so it keeps the handle for
-/// waiting: a value under a lock is dropped without arguments.
+/// The publishing end of the board. Dropping it must wait for its readers. A value under a lock is dropped without
+/// arguments, so the board keeps the handle for waiting.
 pub struct Board<S: Start + Protocol<Published, View>, R: Wait + Drop> {
     changes: Changes<S>,
     rt: R,

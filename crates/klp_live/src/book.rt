@@ -25,9 +25,9 @@ use std::alloc::Global;
 use std::marker::Model;
 use std::sync::Wait;
 
-/// The manager with its history and the table that it publishes. Whoever owns the book or has locked it is the only one
-/// who can have events accepted, so it belongs under a lock or in one thread. When it is dropped it waits until no seat
-/// reads, by the handle that it keeps.
+/// The manager with its history and the table that it publishes. Only the owner of the book, or whoever has locked it,
+/// can have events accepted, so it belongs under a lock or in one thread. Dropping it waits until no seat reads, with
+/// the handle that it keeps.
 #[derive(Drop)]
 pub struct Book<S: Start + Protocol<Published, View>, M: Machine + Drop, R: Wait + Drop> {
     pub(crate) machine: M,

@@ -101,8 +101,8 @@ impl Table {
     }
 }
 
-/// Returns a change to the whole table of the machine's present state. Looks at every site. An error means that memory
-/// ran out.
+/// Returns a change that sets the whole table to that of the machine's present state. Looks at every site. An error
+/// means that memory ran out.
 pub fn change_of<M: Machine>(alloc: Global, machine: &M) -> Result<Change, AllocError>
     ensures made { let managed = (M.journaled machine.now).managed in
         IfOk result (λ change. Makes (setting_of managed) managed.state change) }
@@ -113,8 +113,7 @@ pub fn change_of<M: Machine>(alloc: Global, machine: &M) -> Result<Change, Alloc
     Ok(Change::All(all))
 }
 
-/// Returns the task of an event that may change the state of one task and nothing else of a table. None for other
-/// events.
+/// If an event may change one task's state and nothing else in a table, returns that task. None for other events.
 fn task_of(event: &Event) -> Option<TaskId>
     ensures { result ≡ task_in event.now }
 {
@@ -244,8 +243,8 @@ fn moved<M: Machine>(
     Ok(moved)
 }
 
-/// Returns what an event that was just taken changed in the table. The event must be one of patches or modules, and not
-/// of one task or of variables. `moving` is the patch that was in transition before it.
+/// Returns what an event that was just taken changed in the table. The event must be about patches or modules, and not
+/// about one task or variables. `moving` is the patch that was in transition before it.
 fn change_of_patches<M: Machine>(
     alloc: Global,
     machine: &M,
@@ -273,7 +272,8 @@ fn change_of_patches<M: Machine>(
 }
 
 /// Returns what an event that was just taken changed in the table. `moving` is the patch that was in transition before
-/// it. The cost grows with the event's own sites, and with all tasks if the event may change all of them.
+/// it. The cost grows with the event's own sites, or for a cumulative patch with all sites, and with all tasks if the
+/// event may change all of them.
 pub fn change_after<M: Machine>(
     alloc: Global,
     machine: &M,

@@ -1,4 +1,4 @@
-//! What a thread calls that runs a task.
+//! The calls of a thread that runs a task.
 ghost use Rattle.std.specs.Prelude.{◌≡◌, length, ◌⊎◌, Err, IfSome};
 ghost use mathlib.Core.List.{IsPrefix};
 ghost use Rattle.klp_model.specs.Legal.{IsLegal};
@@ -81,8 +81,8 @@ fn front_of<S: Start>(shown: &Published) -> Front<S>
     }
 }
 
-/// Returns an answer that isn't older than what the front knows, and lets the front know the answer's history. Returns
-/// `NoTable` for an older one.
+/// Returns `NoTable` if the answer is older than what the front knows. Otherwise returns the answer, and the front then
+/// knows the answer's history.
 #[inline(always)]
 fn adopt<S: Start>(front: &mut Front<S>, answer: Answer<S>) -> Result<Target, EnterFault>
     ensures { ((result ≡ Err EnterFault.NoTable) × (front.new ≡ front.old))
@@ -97,7 +97,8 @@ fn adopt<S: Start>(front: &mut Front<S>, answer: Answer<S>) -> Result<Target, En
 
 impl<S: Start + Protocol<Published, View>> Seat<S> {
     /// Returns what a call of the task at the site runs, by the published table. The seat then knows the history of
-    /// that table. The cost is two lookups and the steps of `left_right`. Takes no lock and no memory, and never waits.
+    /// that table. The cost is two lookups and the steps of `left_right`. Takes no lock, allocates nothing, and never
+    /// waits.
     pub fn enter(&mut self, task: TaskId, site: Site) -> Result<Target, EnterFault>
         ensures { IsEntered S.setting S.base task site self.old self.new result }
     {
@@ -150,7 +151,7 @@ impl<S: Start + Protocol<Published, View>> TaskPass<S> {
         self.seat.rows()
     }
 
-    /// Gives the seat back. It still knows what the pass knew, and another task may take it.
+    /// Gives the seat back. The seat still knows what the pass knew, and another task may take it.
     pub fn detach(self) -> Seat<S>
         ensures { result ≡ self.knows }
     {
@@ -159,7 +160,7 @@ impl<S: Start + Protocol<Published, View>> TaskPass<S> {
     }
 
     /// Submits an event. Takes the lock, and so may wait. Afterwards the pass knows the history up to its own event, or
-    /// the history in which the event was refused.
+    /// the history after which the event was refused. If memory ran out, it knows what it knew.
     pub fn submit<M: Machine + Drop, R: Wait + Drop, W: Wait>(
         &mut self,
         rt: &W,
@@ -186,7 +187,7 @@ impl<S: Start + Protocol<Published, View>> TaskPass<S> {
     }
 
     /// Returns what a call of the task at the site runs, by one published table that has all that the pass knows. Takes
-    /// no lock and no memory, and doesn't wait.
+    /// no lock, allocates nothing, and doesn't wait.
     pub fn enter(&mut self, site: Site) -> Result<Target, EnterFault>
         ensures entered { IsEntered S.setting S.base self.old.task site self.old.knows self.new.knows result }
         ensures task { self.new.task ≡ self.old.task }

@@ -127,8 +127,8 @@ impl<S: Start> Front<S> {
         }
     }
 
-    /// Whether this front has all rows that `other` has. Comparing lengths is enough: of two fronts of one history the
-    /// shorter begins the longer.
+    /// Whether this front has all rows that `other` has. Comparing lengths is enough: of two fronts of one history, the
+    /// shorter is a prefix of the longer.
     pub fn covers(&self, other: &Front<S>) -> bool
         ensures test { MatchBool result (length other.now ≤ length self.now) (length self.now < length other.now) }
         ensures begins { MatchBool result (IsPrefix other.now self.now) (IsPrefix self.now other.now) }
@@ -174,8 +174,8 @@ impl<S: Start> Front<S> {
     }
 }
 
-/// Never returns. Called if two structures disagree that always agree, such as a history that is longer than what its
-/// only writer knows. That they agree is more than their contracts say.
+/// Never returns. Called if two structures disagree, such as a history that is longer than what its only writer knows.
+/// They always agree, but their contracts don't say so.
 fn stop<W: Wait>(rt: &W)
     ensures { ⊥ }
 {

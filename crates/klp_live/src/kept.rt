@@ -7,7 +7,7 @@ use klp_model::{Event, Reply};
 use klp_types::TaskId;
 use std::alloc::{AllocError, Global};
 
-/// An event of a task, without frames. The variants mean those of [`Event`].
+/// An event of a task, without frames. The variants stand for those of [`Event`].
 #[derive(Clone, Copy)]
 pub enum TaskEvent {
     New(TaskId),
@@ -17,8 +17,8 @@ pub enum TaskEvent {
     ExitToUser(TaskId),
 }
 
-/// A row in a small form if it is one of the most frequent task events. A whole event and a whole reply each have room
-/// for the frames of a task, and receipts are passed from step to step.
+/// A row, in a small form for the most frequent task events. A whole event and a whole reply each have room for the
+/// frames of a task, and receipts are passed from step to step.
 #[derive(Drop)]
 pub enum Kept {
     /// An event with the reply `Done`.

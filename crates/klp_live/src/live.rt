@@ -42,7 +42,7 @@ pub struct Live<S: Start + Protocol<Published, View>, M: Machine + Drop, R: Wait
     places: Places<S>,
 }
 
-/// The error that there can't be a task with this number.
+/// The error for a number that no task can have.
 #[derive(Clone, Copy, Debug)]
 pub struct BadTask;
 
@@ -53,15 +53,15 @@ pub struct CloseFault<S: Start + Protocol<Published, View>, M: Machine + Drop, R
     pub seats: Vec<Seat<S>>,
 }
 
-/// How often a thread that found the lock taken waits before it looks again for the first time, and how often it looks
+/// How many times a thread that found the lock taken spins before it first looks again, and how many times it looks
 /// before it may sleep.
 const FIRST_WAITS: u32 = 4;
 
 const LOOKS: u32 = 6;
 
-/// Takes the lock. If another thread has it, this one waits for the time of a few events before it looks again, and twice
-/// as long each time. So the other may have several events admitted in a row, while book and journal are in its
-/// processor's cache: that takes less time than if the two took turns.
+/// Takes the lock. If another thread has it, this one spins for the time of a few events before it looks again, and
+/// twice as long each time. So the other may admit several events in a row while book and journal are in its
+/// processor's cache, which takes less time than if the two took turns.
 fn locked<'b, S: Start + Protocol<Published, View>, M: Machine + Drop, R: Wait + Drop, W: Wait>(
     book: &'b Mutex<Book<S, M, R>>,
     rt: &W,
@@ -137,8 +137,7 @@ fn shares_of<S: Start + Protocol<Published, View>, W: Wait>(
 }
 
 impl<S: Start + Protocol<Published, View>, M: Machine + Drop, R: Wait + Drop> Live<S, M, R> {
-    /// Starts over a manager: publishes its table, and hands out the seats. On a fault, returns the manager as it was
-    /// passed in.
+    /// Starts over a manager: publishes its table, and hands out the seats. On a fault, returns the manager unchanged.
     pub fn start(
         rt: R,
         alloc: Global,

@@ -51,7 +51,7 @@ fn first_of(table: &Table, seen: &Seen<Accepted, u64, Law>) -> Published
     }
 }
 
-/// Returns the table that a change makes, which must not depend on the table before.
+/// Returns the table that a change makes. The change must not depend on the table before.
 fn table_by<S: Start>(change: Change) -> Table
     requires { Makes S.setting S.base change }
     ensures { IsDispatch S.setting S.base result }
@@ -96,7 +96,7 @@ fn changes<S: Start + Protocol<Published, View>, W: Wait>(
     Ok(known::<S, W>(rt, writer))
 }
 
-/// Makes a seat with a reader of its own, which knows this history and has this share of the count. It is an error if
+/// Makes a seat that knows this history, with a reader of its own and this share of the count. Returns an error if
 /// `left_right` refuses the reader.
 fn seat<S: Start + Protocol<Published, View>>(
     changes: &mut Changes<S>,
@@ -153,7 +153,7 @@ fn seats<S: Start + Protocol<Published, View>>(
 impl<S: Start + Protocol<Published, View>, M: Machine + Drop, R: Wait + Drop> Book<S, M, R> {
     /// Opens a book over a manager whose journal is empty: publishes its table and makes the seats. Looks at every
     /// site. `blank` and `opened` become the ledger and the history of the start. If memory runs out, or `left_right`
-    /// has no place for a reader, the manager is returned as it was passed in.
+    /// has no place for a reader, the manager is returned unchanged.
     pub fn pair(
         rt: R,
         alloc: Global,

@@ -146,7 +146,7 @@ impl<S: Start + Protocol<Published, View>, R: Wait + Drop> Publisher<S, R> {
         requires change { IsStep S.setting (state_after_history S.setting S.base self.old) event.now change }
         requires event { event_kept kept ≡ event.now }
         requires reply { reply_kept kept ≡ reply.now }
-        // at most the rows are published that the event may change
+        // no more rows are published than the event may change
         requires few { rows_in change
             ≤ rows_touched S.setting (moving_patch (state_after_history S.setting S.base self.old).moving) event.now }
         ensures { MatchOption result
@@ -170,8 +170,8 @@ impl<S: Start + Protocol<Published, View>, R: Wait + Drop> Publisher<S, R> {
         Some(Receipt::new(kept, self.front.again()))
     }
 
-    /// Makes sure that `all`, into which the shares of all seats were merged, counts as many events as the history has.
-    /// Changes neither.
+    /// Makes sure that `all`, the merged shares of all seats, counts as many events as the history has. Changes
+    /// neither.
     pub fn audit(&mut self, all: &mut Share<S>)
         requires { all.old.parts ≡ S.parts }
         ensures history { self.new ≡ self.old }

@@ -37,8 +37,8 @@ impl<S: Start + Protocol<Published, View>> Model for Seat<S> {
 }
 
 impl<S: Start + Protocol<Published, View>> Seat<S> {
-    /// Returns how many rows of the history the seat knows: those of its last receipt, or of the last table that it
-    /// read.
+    /// Returns how many rows of the history the seat knows: those of its last receipt or refusal, or of the last table
+    /// that it read.
     pub fn rows(&self) -> u64
         ensures rows { result ≡ length self.now.list }
         ensures legal { IsLegal S.setting S.base self.now.list }
@@ -46,8 +46,8 @@ impl<S: Start + Protocol<Published, View>> Seat<S> {
         self.front.len()
     }
 
-    /// Learns of the event of a receipt and of all before it. Afterwards the seat knows the longer one of its own
-    /// history and the receipt's.
+    /// Learns of a receipt's event and of all events before it. Afterwards the seat knows the longer of its own history
+    /// and the receipt's.
     pub fn hear(&mut self, receipt: &Receipt<S>)
         ensures own { IsPrefix self.old.list self.new.list }
         ensures heard { IsPrefix receipt.now.list self.new.list }

@@ -20,8 +20,8 @@ pub struct Moved {
     pub states: [Option<i8>; MAX_TASKS],
 }
 
-/// What an event changes in a table. Its size is that of the event: only for a cumulative patch the whole table is
-/// published, since that patch may replace functions at any site.
+/// What an event changes in a table. Its size grows with the event's own sites. Only for a cumulative patch is the
+/// whole table published, since that patch may replace functions at any site.
 #[derive(Drop)]
 pub enum Change {
     /// Nothing.

@@ -1,4 +1,4 @@
-//! What a call runs, by the table alone.
+//! What a call runs, found in the table alone.
 ghost use Rattle.std.specs.Prelude.{◌≡◌, ℕ, slice_index_or, MatchResult, Ok, Err, Some, None};
 ghost use Rattle.std.specs.Result.{result_ok};
 ghost use Rattle.klp_types.specs.Setting.{Setting};
@@ -35,7 +35,7 @@ fn chosen(site: Site, row: &SiteRow, state: i8) -> Target
     }
 }
 
-/// Returns what a task runs at a site, by a table. Two lookups, whatever is installed.
+/// Returns what a task runs at a site, as a table says. Takes two lookups, whatever is installed.
 #[inline(always)]
 pub fn target_of(table: &Table, task: TaskId, site: Site) -> Result<Target, EnterFault>
     ensures { result ≡ found table.now task site }
@@ -51,13 +51,13 @@ pub fn target_of(table: &Table, task: TaskId, site: Site) -> Result<Target, Ente
     Ok(chosen(site, row, state))
 }
 
-/// A call finds the same in the table of a state as by the state itself.
+/// A call finds the same in a state's table as in the state itself.
 pub fn tables_answer_what_the_machine_picks()
     ensures { (setting : Setting) (state : State) (table : AnyTable) (task site : ℕ)
         → IsDispatch setting state table → found table task site ≡ entered setting state task site }
 {}
 
-/// A call finds a target exactly if the machine picks one, and it is the same.
+/// A call finds a target exactly if the machine picks one, and then finds that target.
 pub fn what_is_entered_is_what_is_picked()
     ensures { (setting : Setting) (state : State) (task site : ℕ)
         → result_ok (entered setting state task site) ≡ pick setting state task site }

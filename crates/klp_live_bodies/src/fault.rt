@@ -11,7 +11,7 @@ pub enum BodyCause {
     NoMemory,
 }
 
-/// A body that stopped before a step: its pass, as it was then, and why.
+/// A body that stopped before a step: its pass at that time, and why it stopped.
 #[derive(Drop)]
 pub struct BodyFault<S: Start + Protocol<Published, View>> {
     pub pass: TaskPass<S>,

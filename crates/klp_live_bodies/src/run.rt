@@ -19,7 +19,7 @@ use klp_types::{Frames, MAX_FRAMES, Site, TaskId};
 use std::alloc::Global;
 use std::sync::Wait;
 
-/// How often a gate is asked before one step.
+/// How often a gate is asked at most before one step.
 const TRIES: u32 = 1_000_000;
 
 /// Asks the gate until it lets the task in, at most `TRIES` times. Returns its last answer.
@@ -65,8 +65,8 @@ fn is_full(frames: &Frames) -> bool
     frames.count() >= MAX_FRAMES
 }
 
-/// Calls the function at a site, and returns what it came to: the version that was entered, why none was, or `Deep` if
-/// the list of frames is full.
+/// Calls the function at a site, and returns what it came to: the entered version, why no version was entered, or
+/// `Deep` if the list of frames is full.
 fn called<S: Start + Protocol<Published, View>>(
     pass: &mut TaskPass<S>,
     frames: &mut Frames,

@@ -1,5 +1,5 @@
-//! Running two jobs at once. Taking a body out and keeping its end are separate functions, since each drops a value
-//! that was there (docs/DECISIONS.md, "One way out for an owner").
+//! Running two jobs at once. Taking a body out and keeping its end are separate functions, since each drops the old
+//! value (docs/DECISIONS.md, "One way out for an owner").
 ghost use Rattle.std.specs.Prelude.{◌≡◌, ◌<◌, ◌^◌, [], length, Some, None, IsSome, IfSome, vec_len};
 ghost use Rattle.klp_live_bodies.specs.Jobs.{body_of, IsRun};
 ghost use Rattle.klp_live_bodies.specs.Running.{Ends};

@@ -16,7 +16,7 @@ pub enum StepsFaultKind {
     /// The line is no step of task 1 or 2, or has an unknown name.
     #[error("BadStep")]
     BadStep,
-    /// The line's task has as many steps before it as it may have.
+    /// The line's task already has as many steps as it may have.
     #[error("TooMany")]
     TooMany,
 }

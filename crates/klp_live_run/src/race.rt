@@ -70,7 +70,7 @@ fn job_of<S: Start + Protocol<Published, View>, M: Machine + Drop, R: Wait + Dro
 }
 
 /// Returns the seat of a job that has run, and the outcomes of its steps, or `NoMemory` if it stopped. The gate always
-/// lets a task in, so a job stops for nothing else.
+/// lets a task in, so a job stops for no other reason.
 fn ended<S: Start + Protocol<Published, View>>(
     job: Job<S, Open>,
 ) -> Result<(Seat<S>, Vec<Outcome>), LiveFault>

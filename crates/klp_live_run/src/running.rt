@@ -120,7 +120,7 @@ trait Runs: Machine {
             (λ steps. AreSteps (Self.journaled self.now) (lines text.now) steps.first.items steps.second.items)
             (λ fault. IsReadFault (Self.journaled self.now) (lines text.now) fault) };
 
-    /// Begins both tasks, and then seals the journal, so that rewinding leaves them.
+    /// Begins both tasks, and then seals the journal, so that a rewind keeps the tasks.
     fn prepare(&mut self)
         requires room { length (Self.journaled self.old).groups ≤ MAX_GROUPS }
         ensures prepared { IsPrepared (Self.journaled self.old) (Self.journaled self.new) };
@@ -182,7 +182,8 @@ fn race<M: Runs + Drop + Send, W: Write, R: Threads + Wait + Sync>(
     }
 }
 
-/// Reads the steps from a text, runs them, takes all back, and writes how many were done and the text of the objects.
+/// Reads the steps from a text, runs them, takes all events back, and writes how many steps were done and the text of
+/// the objects.
 fn live_over_manager<M: Runs + Drop + Send, W: Write, R: Threads + Wait + Sync>(
     rt: &R,
     alloc: Global,
@@ -242,7 +243,7 @@ pub(crate) fn live_over_text<W: Write, R: Threads + Wait + Sync>(
     }
 }
 
-/// Does the same as `live_over_text`, and returns the exit status: 0, or 1 after a line on `err` that says the fault.
+/// Does the same as `live_over_text`, and returns the exit status: 0, or 1 after a line on `err` that names the fault.
 pub fn live<W: Write, E: Write, R: Threads + Wait + Sync>(
     rt: &R,
     alloc: Global,

@@ -62,7 +62,7 @@ fn call_of(words: &mut LineWords<'_>, manager: &Manager) -> Option<Step>
     Some(Step::Call(site_of(symbol, manager)?))
 }
 
-/// Returns the step, or None if a word is left behind its name.
+/// Returns the step, or None if a word follows its name.
 fn alone(step: Step, words: &mut LineWords<'_>) -> Option<Step>
     ensures { result ≡ alone step words.old }
 {
@@ -93,7 +93,7 @@ fn step_of(line: &[u8], manager: &Manager) -> Option<Step>
     }
 }
 
-/// Returns the task that a word numbers, or None.
+/// Returns the task whose number this word is, or None.
 fn half_of(number: &[u8]) -> Option<Half>
     ensures { result ≡ half_of number.now }
 {
@@ -152,8 +152,8 @@ impl Steps {
 }
 
 /// Reads the steps of both tasks. The text may have any bytes, and its lines end as those of a catalog. Returns the
-/// first line at fault; a bad step is reported as `BadStep` also behind the last step that its task may have. Of the
-/// manager only the names are used. The time is linear in the length of the text.
+/// first line at fault. A bad step is reported as `BadStep` even if its task may have no more steps. Uses only the
+/// manager's names. The time is linear in the length of the text.
 pub fn steps_of(alloc: Global, text: &[u8], manager: &Manager) -> Result<Steps, ReadFault>
     ensures { MatchResult result
         (λ steps. AreSteps manager.now (lines text.now) steps.first.items steps.second.items)

@@ -18,8 +18,8 @@ use std::io;
 use std::sync::Wait;
 use std::sync::atomic::{AtomicU64, Ordering};
 
-/// What the first task does, and then the second; how often a gate refuses that both share, where it is told how often
-/// it was asked; and how much is shown of that.
+/// The steps of both tasks; how often their shared gate refuses, or None if it never does and isn't reported on; and
+/// how much is printed of the outcomes.
 #[derive(Clone, Copy)]
 struct Bodies<'a>(&'a [Step], &'a [Step], Option<u64>, Detail);
 
@@ -31,27 +31,27 @@ struct Body<'a, G> {
     steps: &'a [Step],
 }
 
-/// What became of a body: what its steps came to, and why it has stopped, if it has.
+/// How a body ended: the outcomes of its steps, and why it stopped early, if it did.
 #[derive(Drop)]
 struct Ended {
     outcomes: Vec<Outcome>,
     cause: Option<BodyCause>,
 }
 
-/// No more steps than any body of the tests has.
+/// Returns the first 100 steps. No body of the tests has more.
 fn few(steps: &[Step]) -> &[Step]
     ensures { length result.now < 2 ^ 32 }
 {
     steps.get(..100).unwrap_or(steps)
 }
 
-/// What became of a body with so many steps.
+/// Prints how a body with this many steps ended.
 fn show_ended<R: Print>(rt: &R, steps: usize, ended: &Ended, detail: Detail) -> io::Result<()> {
     show_outcomes(rt, steps, &ended.outcomes, detail)?;
     show_cause(rt, ended.cause)
 }
 
-/// The first task enables a patch, which it runs once it was outside of the kernel.
+/// The first task enables a patch, and runs it after it has left the kernel once.
 fn enables() -> [Step; 5] {
     const ALL: [Step; 5] = [
         Step::Submit(Event::Enable(PATCH)),
@@ -63,8 +63,8 @@ fn enables() -> [Step; 5] {
     ALL
 }
 
-/// The second task hears nothing of that, and runs the original, as it wasn't outside; it can't enable the patch again;
-/// and once it was outside it runs the patch.
+/// The second task isn't told of that. It runs the original, since it hasn't left the kernel; it can't enable the patch
+/// again; and once it has left the kernel it runs the patch.
 fn hears_nothing() -> [Step; 5] {
     const ALL: [Step; 5] = [
         Step::Call(PATCHED),
@@ -76,7 +76,7 @@ fn hears_nothing() -> [Step; 5] {
     ALL
 }
 
-/// A task falls asleep inside of what it entered and hasn't returned from, and wakes up.
+/// A task falls asleep inside of the versions that it entered and hasn't returned from, and wakes up.
 fn naps() -> [Step; 13] {
     const ALL: [Step; 13] = [
         Step::Return,
@@ -96,7 +96,7 @@ fn naps() -> [Step; 13] {
     ALL
 }
 
-/// Calls until no more versions are kept, and returns from all of them and once more.
+/// Calls until the list of frames is full, returns from all versions, and returns once more.
 fn goes_deep() -> [Step; 71] {
     let mut steps = [Step::Call(PATCHED); 71];
     steps[34] = Step::Return;
@@ -106,7 +106,7 @@ fn goes_deep() -> [Step; 71] {
     steps
 }
 
-/// How often the gate was asked, where that is told.
+/// Prints how often the gate was asked, unless `refuses` is None.
 fn show_asked<R: Print>(rt: &R, refuses: Option<u64>, asked: &AtomicU64) -> io::Result<()> {
     if refuses.is_none() {
         return Ok(());

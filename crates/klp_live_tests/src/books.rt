@@ -1,4 +1,4 @@
-//! A book over a machine, which is handed back. The owner of a machine picks the start.
+//! A book over a machine. The machine is handed back. The owner of a machine picks the start.
 ghost use Rattle.std.specs.Prelude.{◌≡◌, ◌<◌, ◌≤◌, []};
 ghost use Rattle.klp_live.specs.Opening.{IsFresh};
 ghost use Rattle.klp_live.specs.Shown.{RuleIs};
@@ -20,9 +20,9 @@ use std::sync::ledger::Blank;
 pub(crate) enum Use<'a> {
     /// The tests' turns of two seats.
     Turns,
-    /// One seat has events admitted, which is timed.
+    /// One seat submits events, and these are timed.
     Events(&'a mut Times),
-    /// Seats enter beside one that has events admitted, which is timed.
+    /// Seats enter while another seat submits events, and the entries are timed.
     Entries(&'a mut Crowd),
 }
 
@@ -39,7 +39,7 @@ impl Use<'_> {
     }
 }
 
-/// Does that, and ends the book.
+/// Does this with the book, and ends it.
 fn used<S: Start + Protocol<Published, View> + Send, M: Shows + Drop, R: Runtime>(
     rt: &R,
     alloc: Global,
@@ -68,7 +68,7 @@ fn used<S: Start + Protocol<Published, View> + Send, M: Shows + Drop, R: Runtime
     }
 }
 
-/// Opens a book for that.
+/// Opens a book for this use.
 fn opened<S: Start + Protocol<Published, View> + Send, M: Shows + Drop, R: Runtime>(
     rt: &R,
     alloc: Global,
@@ -94,7 +94,7 @@ fn opened<S: Start + Protocol<Published, View> + Send, M: Shows + Drop, R: Runti
     }
 }
 
-/// A book over a machine from which nothing is to be taken back.
+/// Opens a book over a machine with an empty journal.
 fn over<M: Shows + Drop, R: Runtime>(
     rt: &R,
     alloc: Global,
@@ -108,8 +108,8 @@ fn over<M: Shows + Drop, R: Runtime>(
     opened::<Brand, M, R>(rt, alloc, machine, how, blank, Opened::new(), places)
 }
 
-/// A book over a machine from which all is taken back first. What came of it is told, or why there is no book. Where
-/// there is no memory for it, the machine is as it was.
+/// Takes back all events of a machine, and opens a book over it. Returns what came of that, or why there is no book. If
+/// there is no memory for a book, the machine must be as before.
 pub(crate) fn booked<M: Shows + Drop, R: Runtime>(
     rt: &R,
     alloc: Global,

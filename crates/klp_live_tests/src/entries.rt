@@ -17,24 +17,25 @@ use std::sync::{RwLock, Wait};
 use std::thread::{self, Threads, join};
 use std::time::Instant;
 
-/// How often each thread looks in a round. What is submitted meanwhile has to fit into the journal.
+/// How often each thread looks in a round. The events submitted in a round must fit into the journal.
 const LOOKS: u64 = 20_000;
 
-/// How often the one beside has to submit two events meanwhile: a round doesn't count where other programs held it up.
+/// How often the submitting thread must submit two events in a round. If other programs hold it up, the round doesn't
+/// count.
 const TURNS: u64 = 200;
 
-/// How often entries are tried alone, of which the best round counts.
+/// In how many rounds entries are timed alone. The best round counts.
 const ALONE: u64 = 20;
 
-/// How many times as dear as a look under a read lock an entry would be that waits. A thousand turns of a loop are some
-/// twenty times as dear.
+/// An entry that waits would cost at least this many times as much as a look under a read lock. A thousand turns of a
+/// loop cost some twenty times as much.
 const DEAR: u64 = 10;
 
 /// How many threads look at most.
 const LOOKERS: usize = 4;
 
-/// How many threads look, beside one that submits, and what the slowest of them took for its looks in the best round,
-/// in nanoseconds. With no thread beside, one looks alone.
+/// How many threads look while another one submits, and how many nanoseconds the slowest of them took in the best
+/// round: by a seat, and under a lock. With 0 threads, one looks alone.
 #[derive(Clone, Copy)]
 pub(crate) struct Crowd {
     threads: usize,
@@ -53,7 +54,7 @@ impl Crowd {
     }
 }
 
-/// Finds what a call of a patched function runs, while the patch's transition isn't done.
+/// Finds what a call of a patched function runs, while the patch is in transition.
 trait Looks<R> {
     fn look(&mut self, rt: &R) -> bool;
 }
@@ -77,7 +78,7 @@ impl<R: Wait> Looks<R> for ByLock<'_> {
     }
 }
 
-/// Has events applied, and writes the task's state under the lock.
+/// Applies events, and writes the task's state under the lock.
 #[derive(Drop)]
 struct Writes<'a, M: Machine> {
     table: &'a RwLock<Table>,
@@ -92,7 +93,7 @@ impl<M: Machine, R: Wait> Takes<R> for Writes<'_, M> {
 
 fn write<M: Machine, R: Wait>(rt: &R, table: &RwLock<Table>, machine: &mut M, event: Event) {
     if !apply(machine, event) {
-        // The journal is full, and room is made: the task and the patch stay.
+        // The journal is full: all events are taken back, and task and patch begin anew.
         empty(machine);
         begin(machine);
         return;
@@ -109,13 +110,13 @@ fn table_of<M: Machine>(machine: &M) -> Table {
     table
 }
 
-/// The task comes, and the patch is enabled.
+/// Begins the task, and enables the patch.
 fn begin<M: Machine>(machine: &mut M) {
     apply(machine, Event::NewTask(FIRST));
     apply(machine, Event::Enable(PATCH));
 }
 
-/// The nanoseconds that all looks took: none that would count where one found nothing.
+/// Returns how many nanoseconds all looks took, or `u64::MAX` if one of them found nothing.
 fn timed<L: Looks<R>, R: Clock>(rt: &R, looker: &mut L) -> io::Result<u64> {
     let start = Instant::now(rt)?;
     let mut found = 0u64;
@@ -126,7 +127,7 @@ fn timed<L: Looks<R>, R: Clock>(rt: &R, looker: &mut L) -> io::Result<u64> {
     Ok(if found == LOOKS { took } else { u64::MAX })
 }
 
-/// How many have looked, and what the slowest of them took.
+/// How many threads have looked, and how long the slowest of them took.
 #[derive(Drop)]
 struct Looked {
     done: AtomicU64,
@@ -140,8 +141,8 @@ fn look_often<L: Looks<R> + Drop, R: Clock>(rt: &R, looked: &Looked, looker: L) 
     looked.done.fetch_add(1, Ordering::SeqCst);
 }
 
-/// All look, each in a thread of its own, which owns what it looks with: beside one another in memory two would share
-/// what each writes. Nothing counts where there is no memory for that.
+/// All look, each in a thread of its own, which owns its looker: lookers side by side in memory would share what each
+/// writes. If there is no memory for that, nothing counts.
 fn look_all<L: Looks<R> + Drop + Send, R: Threads + Clock + Sync>(
     rt: &R,
     looked: &Looked,
@@ -154,7 +155,7 @@ fn look_all<L: Looks<R> + Drop + Send, R: Threads + Clock + Sync>(
     }
 }
 
-/// Submits until so many have looked, and tells how often.
+/// Submits until `wanted` threads have looked, and returns how often.
 fn submit_until<T: Takes<R>, R>(rt: &R, looked: &Looked, wanted: u64, takes: &mut T) -> u64 {
     let mut turns = 0;
     for count in 0..u64::MAX {
@@ -167,7 +168,7 @@ fn submit_until<T: Takes<R>, R>(rt: &R, looked: &Looked, wanted: u64, takes: &mu
     turns
 }
 
-/// What the slowest took for its looks, where the one beside submitted often enough meanwhile.
+/// Returns how long the slowest thread looked, or `u64::MAX` if the other one submitted too seldom.
 fn beside<L: Looks<R> + Drop + Send, T: Takes<R>, R: Threads + Clock + Sync>(
     rt: &R,
     lookers: Vec<L>,
@@ -189,7 +190,7 @@ fn beside<L: Looks<R> + Drop + Send, T: Takes<R>, R: Threads + Clock + Sync>(
     looked.slowest.load(Ordering::SeqCst)
 }
 
-/// The same with so many of these.
+/// Does the same with this many threads.
 fn look_by<L: Looks<R> + Drop + Send, T: Takes<R>, R: Threads + Clock + Sync>(
     rt: &R,
     threads: usize,
@@ -207,7 +208,7 @@ fn look_by<L: Looks<R> + Drop + Send, T: Takes<R>, R: Threads + Clock + Sync>(
     beside(rt, lookers, takes)
 }
 
-/// Seats enter, beside one that submits, and the book ends.
+/// Seats enter while another one submits, and then the book ends.
 pub(crate) fn entered<
     S: Start + Protocol<Published, View> + Send,
     M: Machine + Drop,
@@ -230,7 +231,7 @@ pub(crate) fn entered<
     seated.end()
 }
 
-/// The same under a lock, beside one that writes.
+/// Threads look under a read lock while another one writes.
 fn locked<M: Machine, R: Threads + Wait + Clock + Sync>(
     rt: &R,
     alloc: Global,
@@ -265,7 +266,7 @@ pub(crate) fn crowds<M: Shows + Drop, R: Runtime>(
     machine
 }
 
-/// Whether an entry costs as little as what waits for nobody.
+/// Prints whether an entry costs so little that it waits for nobody.
 pub(crate) fn show_quick<M: Shows + Drop, R: Runtime>(
     rt: &R,
     alloc: Global,
@@ -284,7 +285,7 @@ pub(crate) fn show_quick<M: Shows + Drop, R: Runtime>(
     )
 }
 
-/// The nanoseconds of 1,000 looks, or 0 where no round counted.
+/// Returns the nanoseconds of 1,000 looks, or 0 if no round counted.
 fn by_thousand(took: u64) -> u64 {
     if took == u64::MAX {
         return 0;

@@ -20,9 +20,9 @@ impl Gate for Open {
     }
 }
 
-/// Where two tasks meet: before one step each raises its own flag, and then looks for the other's. It lets the task in
-/// if that was seen, and says the same from then on. So two bodies pass it only where both are before that step at one
-/// time.
+/// A gate where two tasks meet: before one step, each raises its own flag, and then looks for the other's. The gate
+/// lets the task in if it saw that flag, and answers the same from then on. So two bodies pass it only if both are
+/// before that step at the same time.
 #[derive(Drop)]
 pub(crate) struct Meeting<'a> {
     own: &'a AtomicBool,
@@ -38,7 +38,7 @@ pub(crate) struct Flags {
 }
 
 impl Flags {
-    /// Neither is raised.
+    /// Makes two flags, neither raised.
     pub(crate) fn new() -> Flags {
         Flags {
             first: AtomicBool::new(false),
@@ -88,7 +88,7 @@ impl Gate for Meeting<'_> {
     }
 }
 
-/// Lets a task in once it was asked more than so often, and counts how often it was asked.
+/// Lets a task in after `refuses` refusals, and counts how often it was asked.
 #[derive(Clone, Copy)]
 pub(crate) struct Slow<'a> {
     pub(crate) asked: &'a AtomicU64,

@@ -1,16 +1,16 @@
 //! Tests of task threads over a real manager, of what no contract can say.
 //!
-//! Of the book, starts and passes: that calls succeed where memory is left, and what stands where memory is refused. It
-//! prints what two seats were told, and the same where one allocation of the book is refused (`rt try --fail-alloc N`):
-//! the refused call is made again, over what it left. With `book` as its word it does no more, so that each allocation
-//! can be refused in its turn (`tools/hostile live`).
+//! Of the book, starts and passes: that calls succeed while there is memory, and what is left if it is refused. The
+//! program prints the answers that two seats got. With `rt try --fail-alloc N`, which refuses one allocation of the
+//! book, it prints the same, since it makes the refused call again, over what that left. With the argument `book` it
+//! does no more, so that each allocation can be refused in its turn (`tools/hostile live`).
 //!
-//! Of bodies and jobs: that two threads run over one lock and are inside of their bodies at one time, that a call reads
-//! what is published and not what its task was told alone, and that events are taken and gates pass where they should.
-//! It also runs the files of steps of its folder as `klpsim live` does.
+//! Of bodies and jobs: that two threads run over one lock and are inside of their bodies at the same time, that a call
+//! reads what is published and not only what its task was told, and that events are taken and gates pass where they
+//! should. The program also runs the files of steps in its folder as `klpsim live` does.
 //!
-//! With a number as its word it tells what an event and an entry cost, and how many of them two bodies come to in a
-//! second, in the best of so many rounds (docs/PERFORMANCE.md).
+//! With a number as its argument it prints what an event and an entry cost, and how many of them two bodies do in a
+//! second, in the best of that many rounds (docs/PERFORMANCE.md).
 #![tactic(auto)]
 
 mod bodies;
@@ -44,7 +44,7 @@ use std::alloc::Global;
 use std::env;
 use std::rt::Files;
 
-/// The tests of the book, and of passes at starts with so many seats.
+/// The tests of the book, and of passes at starts with different numbers of seats.
 const BOOK: [Work; 7] = [
     Work::Turns,
     Work::Passes(2, Story::Heard),
@@ -63,14 +63,14 @@ fn run_book<R: Runtime>(rt: &R, alloc: Global) -> Result<(), Fault> {
     Ok(())
 }
 
-/// Measures so many rounds: of the book over a large catalog, and of two bodies.
+/// Measures this many rounds of the book over a large catalog, and of two bodies.
 fn measured<R: Runtime>(rt: &R, alloc: Global, rounds: u64) -> Result<(), Fault> {
     let text = large(alloc)?;
     managed(rt, alloc, text.as_str().as_bytes(), Work::Costs(rounds))?;
     managed(rt, alloc, SMALL, Work::Rates(rounds))
 }
 
-/// What the program's word says: the tests of the book, or so many rounds that are measured.
+/// Does what the program's argument says: runs the tests of the book, or measures that many rounds.
 fn run_word<R: Runtime>(rt: &R, alloc: Global, word: &str) -> Result<(), Fault> {
     if word == "book" {
         return run_book(rt, alloc);
@@ -78,7 +78,7 @@ fn run_word<R: Runtime>(rt: &R, alloc: Global, word: &str) -> Result<(), Fault> 
     measured(rt, alloc, word.parse::<u64>().unwrap_or(1))
 }
 
-/// All tests.
+/// Runs all tests.
 fn run_all<R: Runtime + Files + AllocGlobal>(rt: &R) -> Result<(), Fault> {
     run_book(rt, rt.alloc())?;
     show_turns(rt)?;

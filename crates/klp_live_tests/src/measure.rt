@@ -1,4 +1,4 @@
-//! What an event costs that is admitted, beside what it costs where it is only applied.
+//! What an event costs if it is admitted, and what it costs if it is only applied.
 use crate::books::{Use, booked};
 use crate::entries::{Crowd, crowds, tell_crowd};
 use crate::handles::Runtime;
@@ -20,7 +20,7 @@ const TURNS: u64 = 1_000;
 /// How often a patch comes and goes.
 const CYCLES: u64 = 30;
 
-/// What takes events, whatever it answers.
+/// Takes events, and ignores the answers.
 pub(crate) trait Takes<R> {
     fn take(&mut self, rt: &R, event: Event);
 }
@@ -77,7 +77,7 @@ impl Times {
     };
 }
 
-/// The nanoseconds since a moment.
+/// Returns the nanoseconds since `start`.
 pub(crate) fn since<R: Clock>(rt: &R, start: Instant) -> io::Result<u64> {
     let took = Instant::now(rt)?.saturating_duration_since(start);
     Ok(u64::try_from(took.as_nanos()).unwrap_or(u64::MAX))
@@ -117,7 +117,7 @@ fn take_all<T: Takes<R>, R: Clock>(rt: &R, takes: &mut T, best: &mut Times) -> i
     take_cycles(rt, takes, best)
 }
 
-/// A seat has all events admitted, and the book ends.
+/// Submits all events for a seat, and ends the book.
 pub(crate) fn admitted<
     S: Start + Protocol<Published, View>,
     M: Machine + Drop,
@@ -154,8 +154,8 @@ impl Figures {
     }
 }
 
-/// Measures one round: all events are applied, and admitted, and functions are entered. It counts for nothing where there
-/// is no memory for a book.
+/// Measures one round: applies all events, admits them, and enters functions. What needs a book doesn't count if there
+/// is no memory for one.
 fn round<M: Shows + Drop + Send, R: Runtime>(
     rt: &R,
     alloc: Global,
@@ -173,7 +173,7 @@ fn round<M: Shows + Drop + Send, R: Runtime>(
     (machine, applied.and(admitted.unwrap_or(Ok(()))))
 }
 
-/// Measures so many rounds over a machine, and prints the best.
+/// Measures this many rounds over a machine, and prints the best.
 pub(crate) fn rounds_of<M: Shows + Drop + Send, R: Runtime>(
     rt: &R,
     alloc: Global,

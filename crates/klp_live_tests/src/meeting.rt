@@ -1,4 +1,4 @@
-//! Two bodies that pass their gates only where both are inside at one time.
+//! Two bodies that pass their gates only if both are inside at the same time.
 use crate::gates::Flags;
 use crate::handles::Runtime;
 use crate::names::{FIRST, SECOND};
@@ -44,7 +44,7 @@ where
         self.run_pair(seats, flags.gates(), turns(self.alloc))
     }
 
-    /// Has the two meet again and again, and tells how often they did. They have met where both have ended.
+    /// Lets the two meet again and again, and prints how often they did. They have met if both bodies have ended.
     pub(crate) fn show_meetings(&self, seats: TwoSeats<S>) -> (TwoSeats<S>, io::Result<()>) {
         let mut seats = seats;
         let mut count: u64 = 0;
@@ -65,7 +65,7 @@ where
     M: Machine + Drop,
     R: Wait + Print,
 {
-    /// Runs the two one after the other in one thread: the first, who is alone, is held.
+    /// Runs the two one after the other in one thread. The first is held, since it is alone.
     pub(crate) fn show_apart(&self, seats: TwoSeats<S>) -> (TwoSeats<S>, io::Result<()>) {
         let flags = Flags::new();
         let steps = (turn(FIRST), turn(SECOND));
@@ -73,7 +73,7 @@ where
     }
 }
 
-/// The gates asked by turns in one thread: the one that was asked first never lets its task in.
+/// Asks the gates by turns in one thread. The gate that was asked first never lets its task in.
 pub(crate) fn show_turns<R: Print>(rt: &R) -> io::Result<()> {
     let flags = Flags::new();
     let (one, two) = flags.gates();

@@ -1,11 +1,11 @@
-//! The tasks, the patch and the sites that most tests speak of.
+//! The tasks, the patch and the sites that most tests use.
 use klp_types::{PatchId, Site, TaskId};
 
 pub(crate) const FIRST: TaskId = TaskId(1);
 
 pub(crate) const SECOND: TaskId = TaskId(2);
 
-/// A task that isn't there at a start.
+/// A task that doesn't exist at a start.
 pub(crate) const LATER: TaskId = TaskId(5);
 
 /// The first patch of each catalog.

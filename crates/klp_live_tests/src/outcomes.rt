@@ -1,15 +1,15 @@
-//! What is printed of events and of what steps come to.
+//! Prints the answers to events, and the outcomes of steps.
 use klp_live::{EnterFault, LiveRefusal, Receipt, Start};
 use klp_live_bodies::{Accepted, Outcome, What};
 use klp_model::Reply;
 use klp_types::Target;
 use std::io;
 
-/// The number and the reply of an event, or why it isn't admitted: as plain data, of which the prover has less to carry
-/// than of a receipt.
+/// The number and the reply of an event, or why it isn't admitted: as plain data, which costs the prover less than a
+/// receipt.
 pub(crate) type Answered = Result<(u64, Reply), LiveRefusal>;
 
-/// What an event was told.
+/// Returns the answer to an event.
 pub(crate) fn answer_of<S: Start>(came: Result<Receipt<S>, LiveRefusal>) -> Answered {
     match came {
         Ok(receipt) => Ok((receipt.number(), receipt.reply())),
@@ -24,7 +24,7 @@ pub(crate) fn show_answer<R: Print>(rt: &R, came: &Answered) -> io::Result<()> {
     }
 }
 
-/// What a call of a pass runs, or why it runs nothing.
+/// Prints what a call of a pass runs, or why it runs nothing.
 pub(crate) fn show_found<R: Print>(rt: &R, found: &Result<Target, EnterFault>) -> io::Result<()> {
     match found {
         Ok(Target { version, address }) => println!(rt; "{version:?} {address:x}"),
@@ -39,7 +39,7 @@ pub(crate) enum Detail {
     Kinds,
 }
 
-/// What the steps of a body came to. Nothing is shown of one that has none.
+/// Prints the outcomes of a body's steps. Prints nothing for a body without steps.
 pub(crate) fn show_outcomes<R: Print>(
     rt: &R,
     steps: usize,
@@ -60,7 +60,7 @@ pub(crate) fn show_outcomes<R: Print>(
     }
 }
 
-/// What an accepted event was answered, of frames that were woken in only their versions.
+/// Prints the answer to an accepted event; of the frames of a woken task, only their versions.
 fn show_receipt<R: Print>(rt: &R, known: u64, accepted: &Accepted) -> io::Result<()> {
     let Accepted {
         number,
@@ -73,7 +73,7 @@ fn show_receipt<R: Print>(rt: &R, known: u64, accepted: &Accepted) -> io::Result
     }
 }
 
-/// How many events were known after a step, and what it came to.
+/// Prints how many events were known after a step, and what it came to.
 fn show_outcome<R: Print>(rt: &R, outcome: &Outcome) -> io::Result<()> {
     let known = outcome.known;
     match &outcome.what {
@@ -99,7 +99,7 @@ fn kind(what: &What) -> &'static str {
     }
 }
 
-/// How many outcomes of one kind follow each other, for one kind after the other.
+/// Prints each run of outcomes of one kind, with its length.
 fn show_kinds<R: Print>(rt: &R, outcomes: &[Outcome]) -> io::Result<()> {
     let mut count: u64 = 0;
     let mut last = "outcomes";

@@ -1,4 +1,4 @@
-//! The one owner of a manager: it boots one, and hands it on to what is generic over it and so sees no box.
+//! The only owner of a manager: it boots one, and passes it to functions that are generic over it and so see no box.
 use crate::booted::Fault;
 use crate::handles::Runtime;
 use crate::runs::{Work, do_work};

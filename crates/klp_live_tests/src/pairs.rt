@@ -1,5 +1,5 @@
-//! What becomes of the seats of two tasks. Who has a seat hands it on, and has no other way out meanwhile: each would
-//! be proved for itself.
+//! What becomes of the seats of two tasks. A function that has a seat passes it on, and has no other return before
+//! that, since each return is proved on its own.
 ghost use Rattle.std.specs.Prelude.{◌<◌, ◌^◌, IsSome, vec_len};
 ghost use Rattle.klp_types.specs.declared.limits.TheConstants.{MAX_TASKS};
 ghost use Rattle.klp_live_bodies.specs.Jobs.{body_of};
@@ -28,7 +28,7 @@ pub(crate) struct Steps {
     pub(crate) second: Vec<Step>,
 }
 
-/// The seat of a body that has ended, and why it has stopped, if it has.
+/// Returns the seat of a body that has ended, and why it stopped early, if it did.
 pub(crate) fn seat_of<S: Start + Protocol<Published, View>>(
     ended: Result<TaskPass<S>, BodyFault<S>>,
 ) -> (Seat<S>, Option<BodyCause>) {
@@ -38,7 +38,7 @@ pub(crate) fn seat_of<S: Start + Protocol<Published, View>>(
     }
 }
 
-/// Why a body has stopped, if it has.
+/// Prints why a body stopped early, if it did.
 pub(crate) fn show_cause<R: Print>(rt: &R, cause: Option<BodyCause>) -> io::Result<()> {
     match cause {
         Some(cause) => println!(rt; "{cause:?}"),
@@ -54,7 +54,7 @@ pub(crate) struct Ran {
     pub(crate) took: u64,
 }
 
-/// The seat of a job, and why its body has stopped, if it has.
+/// Returns the seat of a job, and why its body stopped early, if it did.
 fn end_of<S: Start + Protocol<Published, View>, G: Gate + Drop>(
     job: Job<S, G>,
 ) -> (Seat<S>, Option<BodyCause>) {
@@ -62,7 +62,7 @@ fn end_of<S: Start + Protocol<Published, View>, G: Gate + Drop>(
     seat_of(ended)
 }
 
-/// Shows why each of two jobs has stopped, if it has, and tells what they came to.
+/// Prints why each of two jobs stopped early, if it did, and returns what they came to.
 fn show_ran<R: Print>(
     rt: &R,
     causes: (Option<BodyCause>, Option<BodyCause>),
@@ -76,7 +76,7 @@ fn show_ran<R: Print>(
     })
 }
 
-/// The seats of two jobs, and what came of them.
+/// Returns the seats of two jobs, and what the jobs came to.
 fn ends_of<S: Start + Protocol<Published, View>, G: Gate + Drop, R: Print>(
     rt: &R,
     one: Job<S, G>,
@@ -134,7 +134,7 @@ where
         since(rt, start?)
     }
 
-    /// Has both tasks do their steps, where there is memory for them, in threads of their own.
+    /// Lets both tasks do their steps in threads of their own, if there was memory for the steps.
     pub(crate) fn run_pair<G: Gate + Drop + Send>(
         &self,
         seats: TwoSeats<S>,

@@ -20,7 +20,7 @@ pub(crate) enum Story {
     Heard,
     /// The second task hears nothing, and is switched by the first one's events.
     Unheard,
-    /// A seat is taken by a task that isn't there yet.
+    /// A seat is taken by a task that doesn't exist yet.
     Absent,
     /// All seats are handed in at once.
     Idle,
@@ -34,21 +34,21 @@ enum Act {
     /// Submits an event.
     Submit(Event),
     /// Submits an event, of which the other pass hears.
-    PrintLine(Event),
+    SubmitHeard(Event),
 }
 
-/// Which pass does something, the first or the second, and what.
+/// Which pass acts, the first or the second, and what it does.
 #[derive(Clone, Copy)]
 enum Turn {
     First(Act),
     Second(Act),
 }
 
-/// The first task enables a patch, which it runs once it was outside of the kernel. The second hears of that, and runs
-/// the original still, since it wasn't outside.
+/// The first task enables a patch, and runs it after it has left the kernel once. The second hears of that, but still
+/// runs the original, since it hasn't left the kernel.
 fn heard() -> [Turn; 7] {
     const ALL: [Turn; 7] = [
-        Turn::First(Act::PrintLine(Event::Enable(PATCH))),
+        Turn::First(Act::SubmitHeard(Event::Enable(PATCH))),
         Turn::First(Act::Enter(PATCHED)),
         Turn::First(Act::Submit(Event::EnterKernel(FIRST))),
         Turn::First(Act::Submit(Event::ExitToUser(FIRST))),
@@ -74,7 +74,7 @@ fn unheard() -> [Turn; 8] {
     ALL
 }
 
-/// A task that isn't there enters nothing, before it comes and after it has ended.
+/// A task that doesn't exist enters nothing, before it begins and after it has ended.
 fn absent() -> [Turn; 6] {
     const ALL: [Turn; 6] = [
         Turn::First(Act::Enter(PATCHED)),
@@ -103,7 +103,7 @@ where
     M: Machine + Drop,
     R: Wait + Print,
 {
-    /// Submits an event, of which the other pass hears if it is to.
+    /// Submits an event. The other pass hears of it if `is_heard` says so.
     fn submitted(
         &self,
         pass: &mut TaskPass<S>,
@@ -119,7 +119,7 @@ where
         answer_of(came)
     }
 
-    /// Has a pass do something, and shows what comes of it.
+    /// Lets a pass act, and prints what comes of it.
     fn show_act(
         &self,
         pass: &mut TaskPass<S>,
@@ -130,11 +130,11 @@ where
         match act {
             Act::Enter(site) => show_found(rt, &pass.enter(site)),
             Act::Submit(event) => show_answer(rt, &self.submitted(pass, other, event, false)),
-            Act::PrintLine(event) => show_answer(rt, &self.submitted(pass, other, event, true)),
+            Act::SubmitHeard(event) => show_answer(rt, &self.submitted(pass, other, event, true)),
         }
     }
 
-    /// Has the passes do these turns.
+    /// Lets the passes take these turns.
     fn show_turns(
         &self,
         first: &mut TaskPass<S>,
@@ -150,7 +150,7 @@ where
         Ok(())
     }
 
-    /// Shows what the passes do of this story.
+    /// Prints what the passes do in this story.
     fn show_story(
         &self,
         first: &mut TaskPass<S>,

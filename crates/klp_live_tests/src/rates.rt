@@ -1,5 +1,5 @@
-//! What two bodies come to in a second: events that both submit under the one lock, entries that both make, and events
-//! of one beside entries of the other.
+//! How much two bodies do in a second: both submit events under the one lock, both enter functions, or one submits
+//! while the other enters.
 ghost use Rattle.std.specs.Prelude.{◌≡◌, []};
 
 use crate::gates::Open;
@@ -93,7 +93,7 @@ fn keep(timed: &mut Timed, ran: io::Result<Ran>) -> io::Result<()> {
     Ok(())
 }
 
-/// How many in a second.
+/// Returns the rate per second.
 fn rate(count: u64, took: u64) -> u128 {
     u128::from(count) * 1_000_000_000 / u128::from(took.max(1))
 }
@@ -104,7 +104,7 @@ where
     M: Machine + Drop + Send,
     R: Runtime,
 {
-    /// Has the two seats run one round of each that both do.
+    /// Runs one round of each pair of works over the two seats.
     pub(crate) fn round(
         &self,
         seats: TwoSeats<S>,
@@ -122,7 +122,7 @@ where
     }
 }
 
-/// Measures one round over a machine, from which all is taken back first.
+/// Takes back all events of a machine, and measures one round over it.
 fn measured<M: Shows + Drop + Send, R: Runtime>(
     rt: &R,
     alloc: Global,
@@ -134,7 +134,7 @@ fn measured<M: Shows + Drop + Send, R: Runtime>(
     started(rt, alloc, machine, 2, Run::Round(best))
 }
 
-/// Measures so many rounds over a machine with two tasks, and prints the best.
+/// Measures this many rounds over a machine with two tasks, and prints the best.
 pub(crate) fn rounds_of<M: Shows + Drop + Send, R: Runtime>(
     rt: &R,
     alloc: Global,

@@ -1,4 +1,4 @@
-//! What is done with a machine: a test, or so many rounds that are measured.
+//! What is done with a machine: a test, or a number of rounds that are measured.
 use crate::handles::Runtime;
 use crate::passes::Story;
 use crate::shows::Shows;
@@ -11,19 +11,19 @@ use std::io;
 pub(crate) enum Work {
     /// Two seats at a book.
     Turns,
-    /// A start with so many seats.
+    /// A start with this many seats.
     Passes(usize, Story),
     /// A start with the bodies and jobs of two tasks.
     Bodies,
     /// Entries, beside looks under a lock.
     Entries,
-    /// Rounds of what an event and an entry cost.
+    /// Rounds that measure what an event and an entry cost.
     Costs(u64),
-    /// Rounds of what two bodies come to in a second.
+    /// Rounds that measure how much two bodies do in a second.
     Rates(u64),
 }
 
-/// Does that with the machine, which goes then.
+/// Does this work with the machine, and drops the machine.
 pub(crate) fn do_work<M: Shows + Drop + Send, R: Runtime>(
     rt: &R,
     alloc: Global,

@@ -1,4 +1,4 @@
-//! What the tests ask of a machine besides what a book does, and what of it stays where an event isn't taken.
+//! What the tests ask of a machine besides what a book does, and what must not change if an event isn't taken.
 ghost use Rattle.std.specs.Prelude.{◌≡◌, ◌≤◌, [], length};
 ghost use Rattle.klp_types.specs.declared.limits.TheConstants.{MAX_GROUPS};
 
@@ -7,7 +7,7 @@ use klp_core::{Machine, Manager};
 use klp_model::Event;
 use klp_types::{PatchId, Site, SiteRow, Target, TaskId};
 
-/// What stands, what is installed, and what tasks there are.
+/// A machine's mark and transition, three of its rows, and three patch states.
 #[derive(Clone, Copy, PartialEq)]
 pub(crate) struct Shown {
     mark: u32,
@@ -35,12 +35,12 @@ impl Shown {
     }
 }
 
-/// A machine that picks versions by itself, and from which nothing need be taken back.
+/// A machine that picks versions itself, and can close its journal.
 pub(crate) trait Shows: Machine {
-    /// What a task runs at a site, by the manager itself.
+    /// Returns what the manager itself picks for a task at a site.
     fn picked(&self, task: TaskId, site: Site) -> Option<Target>;
 
-    /// Makes what stands the base.
+    /// Makes the present state the base.
     fn close_journal(&mut self)
         requires { length (Self.journaled self.old).groups ≤ MAX_GROUPS }
         ensures { (Self.journaled self.new).groups ≡ [] };
@@ -56,13 +56,13 @@ impl Shows for Manager {
     }
 }
 
-/// Has a machine take an event, and tells whether it did.
+/// Applies an event to a machine, and returns whether it was accepted.
 pub(crate) fn apply<M: Machine>(machine: &mut M, event: Event) -> bool {
     let _for_its_clause = machine.mark();
     machine.apply(event).is_ok()
 }
 
-/// Two tasks come, and nothing is to be taken back any more.
+/// Begins two tasks, and closes the journal, so that a rewind keeps them.
 pub(crate) fn prepare<M: Shows>(machine: &mut M)
     ensures { (M.journaled machine.new).groups ≡ [] }
 {

@@ -25,10 +25,10 @@ pub(crate) enum Run<'a> {
     Round(&'a mut Best),
 }
 
-/// The machine, or what is told where there is none any more; and what came of the run.
+/// The machine, or what is printed if it is lost; and what came of the run.
 pub(crate) type HandedBack<M> = (Result<M, &'static str>, io::Result<()>);
 
-/// Takes the last two seats, where there are two.
+/// Takes out the last two seats, if there are two.
 fn take_two<S: Start + Protocol<Published, View>>(seats: &mut Vec<Seat<S>>) -> Option<TwoSeats<S>> {
     if seats.len() < 2 {
         return None;
@@ -38,7 +38,7 @@ fn take_two<S: Start + Protocol<Published, View>>(seats: &mut Vec<Seat<S>>) -> O
     Some((first, second))
 }
 
-/// Puts two seats back. There is room for them: so none of the pushes fails, or the start wouldn't end.
+/// Puts two seats back. There is room for them, so no push fails; otherwise the start wouldn't end.
 fn put_back<S: Start + Protocol<Published, View>>(seats: &mut Vec<Seat<S>>, two: TwoSeats<S>) {
     let _ = seats.push(two.0);
     let _ = seats.push(two.1);
@@ -58,7 +58,7 @@ where
         (seats, came.and(apart).and(met))
     }
 
-    /// Does all that two seats do.
+    /// Does what two seats do in this run.
     fn both_run(&self, seats: TwoSeats<S>, run: Run<'_>) -> (TwoSeats<S>, io::Result<()>) {
         match run {
             Run::Passes(story) => self.passed(seats, story),
@@ -67,7 +67,7 @@ where
         }
     }
 
-    /// Has two of the seats run, where there are two.
+    /// Does the run with two of the seats, if there are two.
     fn all_run(&self, seats: &mut Vec<Seat<S>>, run: Run<'_>) -> io::Result<()> {
         let Some(two) = take_two(seats) else {
             return Ok(());
@@ -78,7 +78,7 @@ where
     }
 }
 
-/// What is told where there is no start. There are as many places as seats, so that one is refused is never told.
+/// Returns what is printed if there is no start. There are as many places as seats, so `NoPlace` never occurs.
 fn why_no_start(cause: StartCause) -> &'static str {
     match cause {
         StartCause::NoMemory => "no start",
@@ -86,8 +86,8 @@ fn why_no_start(cause: StartCause) -> &'static str {
     }
 }
 
-/// Starts, has the seats run, and ends. There is no machine where there was no memory for a start, or a seat is missing
-/// in the end: which of them is told in its place.
+/// Starts, does the run, and ends. Returns no machine if there was no memory for a start, or if a seat is missing in
+/// the end, but says which of the two.
 fn opened<S: Start + Protocol<Published, View> + Send + Sync, M: Machine + Drop + Send, R: Runtime>(
     rt: &R,
     alloc: Global,
@@ -119,7 +119,7 @@ fn opened<S: Start + Protocol<Published, View> + Send + Sync, M: Machine + Drop 
     }
 }
 
-/// A start over a machine from which nothing is to be taken back, with 1 to 64 seats.
+/// Starts over a machine with an empty journal, with 1 to 64 seats.
 pub(crate) fn started<M: Machine + Drop + Send, R: Runtime>(
     rt: &R,
     alloc: Global,
@@ -134,14 +134,14 @@ pub(crate) fn started<M: Machine + Drop + Send, R: Runtime>(
     opened::<Brand, M, R>(rt, alloc, blank, Opened::new(), machine, places, run)
 }
 
-/// Takes all back, and tells how much that was and whether the machine is as it was before its start.
+/// Takes all events back, and prints how many there were and whether the machine is as before its start.
 fn show_end<M: Machine, R: Print>(rt: &R, machine: &mut M, before: &Shown) -> io::Result<()> {
     let standing = machine.mark();
     let is_back = machine.rewind(0).is_ok() && Shown::of(machine) == *before;
     println!(rt; "{standing} standing, taken back: {is_back}")
 }
 
-/// A start over a machine with two tasks. In the end all is taken back, and it is as it was.
+/// Starts over a machine with two tasks. In the end all events are taken back, and the machine is as before.
 pub(crate) fn show_start<M: Shows + Drop + Send, R: Runtime>(
     rt: &R,
     alloc: Global,

@@ -1,4 +1,4 @@
-//! Two seats at the book of a manager: what each of their events is answered, and what calls run after it.
+//! Two seats at the book of a manager: the answer to each of their events, and what calls run after it.
 use crate::books::{Use, booked};
 use crate::handles::Runtime;
 use crate::names::{FIRST, SECOND};
@@ -16,7 +16,7 @@ use std::sync::Wait;
 #[derive(Clone, Copy)]
 struct Turn(usize, Event);
 
-/// Each kind of event of patches, modules and tasks, most of them by both seats in turn.
+/// Events of patches, modules and tasks, most of them by both seats in turn.
 fn first_turns() -> [Turn; 21] {
     const ALL: [Turn; 21] = [
         Turn(0, Event::NewTask(FIRST)),
@@ -47,7 +47,7 @@ fn first_turns() -> [Turn; 21] {
 /// The shadow variable that comes and goes.
 const SHADOW: ShadowKey = ShadowKey { obj: 1, id: 9 };
 
-/// The same of shadow variables, and a module goes. A value is made by a call, so it stands in no constant.
+/// Events of shadow variables, and a module is unloaded. This is no constant, since a call makes the value.
 fn last_turns() -> [Turn; 3] {
     [
         Turn(0, Event::ShadowAlloc(SHADOW, ShadowValue::of(5))),
@@ -59,7 +59,7 @@ fn last_turns() -> [Turn; 3] {
 /// How many sites the image has.
 const SITES: u16 = 3;
 
-/// What stays where an event isn't taken: the machine, and how many rows there are, and are known by a seat.
+/// What a refusal with `NoMemory` must not change: the machine, how many rows there are, and how many a seat knows.
 #[derive(Clone, Copy, PartialEq)]
 struct Standing {
     shown: Shown,
@@ -80,7 +80,7 @@ impl Standing {
     }
 }
 
-/// Admits an event, and tells its row.
+/// Admits an event, and returns the answer.
 fn admitted<S: Start + Protocol<Published, View>, M: Shows + Drop, R: Wait>(
     rt: &R,
     alloc: Global,
@@ -91,7 +91,7 @@ fn admitted<S: Start + Protocol<Published, View>, M: Shows + Drop, R: Wait>(
     answer_of(book.admit(rt, alloc, seat, event))
 }
 
-/// The same again where memory is refused. Nothing has changed then.
+/// Does so again if memory is refused. Nothing may have changed then.
 fn taken<S: Start + Protocol<Published, View>, M: Shows + Drop, R: Wait + Print>(
     rt: &R,
     alloc: Global,
@@ -120,7 +120,7 @@ fn is_picked<S: Start + Protocol<Published, View>, M: Shows>(
     seat.enter(task, site).ok() == machine.picked(task, site)
 }
 
-/// Whether all calls of both tasks do.
+/// Whether all calls of both tasks do so.
 fn all_picked<S: Start + Protocol<Published, View>, M: Shows>(
     machine: &M,
     seat: &mut Seat<S>,
@@ -135,7 +135,7 @@ fn all_picked<S: Start + Protocol<Published, View>, M: Shows>(
     all
 }
 
-/// Takes an event by a seat, shows its row, and whether calls run what is picked then.
+/// Admits an event for a seat, and prints its answer, and whether calls then run what the manager picks.
 fn show_turn<S: Start + Protocol<Published, View>, M: Shows + Drop, R: Wait + Print>(
     rt: &R,
     alloc: Global,
@@ -165,7 +165,7 @@ fn show_turns<S: Start + Protocol<Published, View>, M: Shows + Drop, R: Wait + P
     Ok(())
 }
 
-/// How many of the rows each seat knows.
+/// Prints how many of the rows each seat knows.
 fn show_rows<S: Start + Protocol<Published, View>, R: Print>(
     rt: &R,
     seats: &[Seat<S>],
@@ -177,7 +177,7 @@ fn show_rows<S: Start + Protocol<Published, View>, R: Print>(
     Ok(())
 }
 
-/// All turns.
+/// Takes all turns.
 pub(crate) fn all_taken<S: Start + Protocol<Published, View>, M: Shows + Drop, R: Wait + Print>(
     rt: &R,
     alloc: Global,
@@ -189,7 +189,7 @@ pub(crate) fn all_taken<S: Start + Protocol<Published, View>, M: Shows + Drop, R
     show_rows(rt, seats, book.rows())
 }
 
-/// Opens a book over the machine for that, and once more where memory is refused.
+/// Opens a book over the machine for all turns, and once more if memory was refused.
 pub(crate) fn twice<M: Shows + Drop, R: Runtime>(
     rt: &R,
     alloc: Global,

@@ -40,7 +40,7 @@ impl Model for BriefReply {
 }
 
 impl BriefReply {
-    /// Converts to the same reply as a [`Reply`].
+    /// Returns the same reply as a [`Reply`].
     #[inline(always)]
     pub fn reply(&self) -> Reply
         ensures { result ≡ self.now }

@@ -23,8 +23,8 @@ fn object_of_function(catalog: &Catalog, patch: PatchId, number: u16) -> Option<
 }
 
 impl ManagerState {
-    /// Whether a task sleeps inside of the module: in one of its own functions, or in a new function for one of them,
-    /// which the module's unloading would remove. Looks at each frame of each task.
+    /// Whether a task sleeps inside of the module: in one of the module's functions, or in a new function for one of
+    /// these, which unloading the module would remove. Looks at each frame of each task.
     pub fn is_in_use(&self, catalog: &Catalog, object: ObjId) -> bool
         requires { Invariant self.now catalog.now }
         ensures { result ≡ list_any (is_inside (setting_in self.now catalog.now) object) self.now.tasks }

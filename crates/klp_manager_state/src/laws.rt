@@ -23,17 +23,17 @@ ghost use Rattle.klp_types.specs.Entries.{is_empty};
 ghost use Rattle.klp_model.specs.Allowed.{Allowed};
 ghost use Rattle.klp_model.specs.Opening.{opening_state};
 
-/// World and catalog name the same patch as the one whose state a callback takes over: the newest patch that was
-/// installed before and names the state. The world finds it in its rows. Both agree because each installed patch has
-/// the states that the catalog gives it, which every manager keeps.
+/// World and catalog agree on the patch whose state a callback takes over: the newest patch that was installed before
+/// and names the state. The world finds it in its rows. They agree because in every manager each installed patch has
+/// the states that the catalog gives it.
 pub fn previous_states_agree()
     ensures { (managed : Managed) (patch id : ℕ) → IsStated (setting_of managed) managed.state
         → previous_patch managed.state.world patch id
         ≡ previous_state managed.catalog patch id (installed_patches managed.state) }
 {}
 
-/// The facts that boot needs of the opening state: it is allowed, and each installed patch has its states, since none
-/// is installed.
+/// The facts that boot needs of the opening state: it is allowed, and each installed patch has its states, since no
+/// patch is installed.
 pub(crate) fn opening_keeps()
     ensures allowed { (setting : Setting) → is_empty setting.image.objects ≡ false
         → Allowed setting (opening_state setting) }
@@ -52,16 +52,16 @@ pub fn steps_keep()
     klp_catalog::laws::runs_add_up();
 }
 
-/// An event that nothing refuses, that runs no callback and that changes rows of one kind alone, is taken by making
-/// that change. The events of tasks and of shadow variables are proved by this.
+/// If nothing refuses an event, and it runs no callback and changes rows of one kind alone, then making this change
+/// takes the event. The events of tasks and of shadow variables are proved by this.
 #[tactic(auto, using(crate::proofs::StepLemmas::tasks_taken, crate::proofs::StepLemmas::world_taken))]
 pub fn changes_of_one_kind_are_taken()
     ensures tasks { AreTasksTaken }
     ensures world { IsWorldTaken }
 {}
 
-/// Putting back the records of a change gives the rows before it, whatever is logged of other rows, if each of the
-/// records has an effect. So the records of each kind of rows are proved without those of the others.
+/// If each record of a change has an effect, putting the records back gives the rows before the change, whatever is
+/// logged of other rows. So the records of each kind of rows are proved without those of the others.
 #[tactic(auto, using(crate::proofs::RowLemmas::world_back, crate::proofs::RowLemmas::tasks_back))]
 pub fn what_is_logged_gives_the_rows_back()
     ensures world { (before after : World) (log_before log_after : RecordList) (rows : List Record)
@@ -75,8 +75,8 @@ pub fn what_is_logged_gives_the_rows_back()
 {}
 
 /// A record that has an effect changes the rows when it is put back, unless it is a hook's. The hook of a site follows
-/// its entries, so putting the hook's record back changes nothing. It counts because it comes right behind its entry's
-/// record.
+/// its entries, so putting the hook's record back changes nothing. It counts as an effect because it comes right behind
+/// its entry's record.
 #[tactic(auto, using(crate::proofs::EffectLemmas::changed_if))]
 pub fn what_tells_a_change_has_an_effect()
     ensures { (rows : Rows) (row : Record) → has_effect rows row ≡ true → hook_of row ≡ None

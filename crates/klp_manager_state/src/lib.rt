@@ -1,4 +1,4 @@
-//! The state of a manager, beside its catalog, and what every event of it promises.
+//! The state of a manager, without its catalog, and what every event promises.
 //!
 //! [`ManagerState`] has sites, names, world, tasks, the transition, pins and undo records. The catalog is separate,
 //! because it holds boxes, which a definition can't mention. An event has the reply and the effect that the model
@@ -7,9 +7,9 @@
 //! them, and each site has the function stack that the state says (`specs/Invariant`).
 //!
 //! An accepted event logs records that give back the rows before it, and each record has an effect. A refused event
-//! changes nothing (`IsLogged` in `specs/Rows`). There is always room for the records of one event, 4,096.
+//! changes nothing (`IsLogged` in `specs/Rows`). There is always room for one event's records, up to 4,096.
 //! [`ManagerState::undo`] puts back what an event logged. The laws in `laws` say: which patch a callback takes values
-//! over from; what each step keeps; how an event is taken that changes one kind of rows alone; and that a record with
+//! over from; what each step keeps; how an event that changes one kind of rows alone is taken; and that a record with
 //! an effect changes the rows.
 //!
 //! The events themselves are in crates above: those of patches and modules in `klp_patch_events`, those of tasks and

@@ -9,9 +9,8 @@ use klp_types::{PatchId, Record};
 use std::alloc::{AllocError, Global};
 use std::marker::Model;
 
-/// Which patches are pinned, by a flag for each patch. A pinned patch has functions that a forced transition left
-/// behind, and that a task may still be inside of (livepatch, Force). Only undo takes a pin away. [`Pins::new`]
-/// allocates all memory.
+/// Which patches are pinned, by a flag for each patch. Tasks may still be inside of a pinned patch's functions, since a
+/// transition was forced (livepatch, Force). Only undo clears a flag. [`Pins::new`] allocates all memory.
 #[derive(Drop)]
 pub struct Pins {
     flags: Vec<bool>,
@@ -75,7 +74,7 @@ impl Pins {
         }
     }
 
-    /// Puts back the pin that a record has. Ignores a record of another kind, as the definition does.
+    /// Puts back the flag that a record has. Ignores a record of another kind, as the definition does.
     pub fn put_back(&mut self, row: Record)
         ensures { self.new ≡ put_pinned self.old row }
     {

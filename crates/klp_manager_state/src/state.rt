@@ -24,7 +24,7 @@ use std::alloc::{AllocError, Global};
 pub struct ManagerState {
     /// The image with its text, and the function stacks of its sites.
     pub sites: Sites,
-    /// The names of the image's objects and symbols, with a copy of the flags of which objects are loaded.
+    /// The names of the image's objects and symbols, with a copy of each object's loaded flag.
     pub modules: Modules,
     /// The installed patches with the values of their system states, and the shadow variables.
     pub world: World,

@@ -8,7 +8,7 @@ ghost use Rattle.klp_manager_state.specs.Rows.{row_of_moving, rows_before, put_m
 use crate::state::ManagerState;
 use klp_types::{PatchId, Record, Transition};
 
-/// Returns the transition that a record has from before the change. Returns `moving` for a record of another kind, as
+/// Returns the transition before the change, as the record has it. Returns `moving` for a record of another kind, as
 /// the definition does.
 pub(crate) fn moving_before(moving: Option<Transition>, row: Record) -> Option<Transition>
     ensures { result ≡ put_moving moving row }
@@ -32,8 +32,8 @@ impl ManagerState {
         }
     }
 
-    /// Replaces the transition by another one, or by none, and logs the transition that there was, so that undo
-    /// continues it. The new one must differ, since an unchanged row gets no record.
+    /// Replaces the transition by another one, or by none, and logs the old transition, so that undo restores it. The
+    /// new one must differ, since an unchanged row gets no record.
     #[tactic(auto, using(crate::proofs::RowLemmas::moving_back))]
     pub fn set_moving(&mut self, moving: Option<Transition>)
         requires room { 0 < spare_of self.old.log }

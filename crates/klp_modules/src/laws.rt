@@ -1,5 +1,5 @@
 //! What is proved of the definitions themselves. Each law is the contract of a function that does nothing. The laws
-//! connect this crate's names with the image that they are of, and a crate above may rely on them.
+//! connect this crate's names with their image, and a crate above may rely on them.
 ghost use Rattle.std.specs.Prelude.{◌≡◌, ℕ, List, option_map};
 ghost use Rattle.klp_types.specs.Image.{Object, object_of, first_site as first_site_in_image};
 ghost use Rattle.klp_modules.specs.Names.{Named, names_of, first_site, symbol_at_site};
@@ -11,8 +11,7 @@ pub fn first_site_as_in_image()
         → first_site (names_of objects) object ≡ first_site_in_image objects object }
 {}
 
-/// The symbol that the names of an image give for a site is of the object to which the image says that the site
-/// belongs.
+/// For each site, the names of an image give a symbol of the same object as the image does.
 pub fn symbol_of_its_object()
     ensures { (objects : List Object) (site : ℕ)
         → option_map (λ (s : Named). s.object) (symbol_at_site (names_of objects) site) ≡ object_of objects site }

@@ -227,7 +227,7 @@ fn numbered(
     Ok(NumberedObject { name, symbols })
 }
 
-/// Returns the number of a name, which it adds to the set if it isn't there.
+/// Returns the number of a name. Adds the name to the set if it isn't there.
 fn number_of(alloc: Global, names: &mut IndexSet<String>, name: &str) -> Result<usize, AllocError>
     ensures { IfOk result (λ number. AddsName (texts_of names.old.keys) (texts_of names.new.keys) name.now number) }
 {

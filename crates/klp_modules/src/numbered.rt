@@ -9,7 +9,7 @@ pub struct NumberedObject {
 }
 
 /// A symbol: its object, the number of its name, and its position, from 1, among the symbols of that name in the
-/// object. The console prints a site so.
+/// object. The console prints a site in this form.
 #[derive(Clone, Copy)]
 pub struct NumberedSymbol {
     pub object: ObjId,

@@ -106,7 +106,7 @@ fn add_symbols(
     Ok(())
 }
 
-/// Returns how many of the symbols have the name with this number. For the symbols up to one of that name this is
+/// Returns how many of the symbols have the name with this number. If the symbols end with one of that name, this is
 /// its position, from 1.
 fn count(symbols: &[usize], number: usize) -> usize
     ensures { result ≡ count_by (λ other. other == number) symbols.now }

@@ -46,8 +46,8 @@ fn block_all(sites: &Sites, moving: &Transition, blocked: &mut VersionSet)
     }
 }
 
-/// Adds to the empty set the versions that the transition of a patch blocks which isn't cumulative. Goes over the sites
-/// of the patch's functions alone, because the patch has no entry elsewhere.
+/// Adds to the empty set the versions that the transition of a patch blocks, if the patch isn't cumulative. Goes over
+/// the sites of the patch's functions alone, because the patch has no entry elsewhere.
 fn block_functions(sites: &Sites, catalog: &Catalog, moving: &Transition, blocked: &mut VersionSet)
     requires empty { IsSetOf blocked.old [] }
     requires number { (site : ℕ) → AreFunctions (entries_at sites.now.stacks site) }

@@ -10,9 +10,9 @@ use klp_journal::Records;
 use klp_types::{PatchId, Which};
 use klp_world::World;
 
-/// Runs the callback of this kind that a patch has for its object at this place (its number among the patch's objects).
-/// Returns the callback's status, or 0 if the patch has no such callback. Calls the laws that every run needs, so that
-/// no loop over callbacks has to call them.
+/// Runs a patch's callback of this kind for the object at this place (its number among the patch's objects). Returns
+/// the callback's status, or 0 if the patch has no such callback. Calls the laws that every run needs, so that no loop
+/// over callbacks has to call them.
 pub(crate) fn run_at(
     catalog: &mut Catalog,
     patch: PatchId,

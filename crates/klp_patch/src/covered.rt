@@ -21,8 +21,8 @@ pub(crate) fn is_in_scope(image: &Image, only: Option<ObjId>, object: ObjId) -> 
     }
 }
 
-/// Returns the function's site if the change covers the function's object. The caller says so by `in_scope`, so that it
-/// is computed once for each object. None if the object isn't covered, or if the function has no site.
+/// Returns the function's site if the change covers the function's object. The caller passes that as `in_scope`, so
+/// that it is computed once for each object. None if the object isn't covered, or if the function has no site.
 #[inline(always)]
 pub(crate) fn site_in_scope(
     sites: &Sites,

@@ -1,4 +1,4 @@
-//! The entries of a patch on many sites: its functions, and the nops of a cumulative patch. They are put on the function
+//! The entries of a patch on many sites: its functions, and the nops of a cumulative patch. They are put on function
 //! stacks, or taken out. `site_entry` changes the stack of one site.
 ghost use Rattle.std.specs.Prelude.{◌≡◌, ℕ, ◌+◌, ◌<◌, ◌≤◌, ◌&&◌, ◌++◌, true, false, length, map, is_some};
 ghost use Rattle.std.specs.List.{All};

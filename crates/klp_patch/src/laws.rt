@@ -16,8 +16,8 @@ ghost use Rattle.klp_stack.specs.Stack.{entries_at};
 ghost use Rattle.klp_patch.specs.Blocked.{blocked_at};
 ghost use Rattle.klp_patch.specs.Calls.{records_of};
 
-/// The versions blocked by the function stacks are those blocked by the state, if each site's stack has the entries
-/// that the state says. So `block` may make its set from the stacks, which the model's definitions don't mention.
+/// If each site's stack has the entries that the state gives it, stacks and state give the same blocked versions. So
+/// `block` may make its set from the stacks, which the model's definitions don't mention.
 pub fn the_stacks_tell_what_is_blocked()
     ensures { (setting : Setting) (state : State) (move : Transition) (stacks : List (List Entry))
         → length stacks ≡ length (symbols_of setting.image.objects)

@@ -1,5 +1,5 @@
-//! What belongs to one patch: its entries at the function stacks of its sites, and its callbacks, object by
-//! object (the kernel's `patch.c`, and the callbacks of `core.c`).
+//! What belongs to one patch: its entries on the function stacks of its sites, and its callbacks, object by object (the
+//! kernel's `patch.c`, and the callbacks of `core.c`).
 //!
 //! [`patch_sites`], [`unpatch_sites`] and [`drop_nops`] change the entries of many sites: of all loaded objects, or of
 //! one (livepatch, Adding and Disabling; cumulative-patches, the nops; the kernel's `klp_patch_object` and
@@ -14,7 +14,7 @@
 //! enabled: pre-patch up to the first that refuses, and then the cleaning up. For a module that is loaded or unloaded:
 //! the installed patches one by one, oldest first. Each run is counted, and the scripts decide what the world is
 //! afterwards. The same patches stay installed. The changed rows are logged, in few records, and these give the world
-//! back (`HaveRun`). The caller first sees that there is room for the records and for shadow variables: `allocs`,
+//! back (`HaveRun`). The caller first makes sure that there is room for the records and for shadow variables: `allocs`,
 //! `allocs_of_coming` and `allocs_of_going` return how many variables the callbacks that may run add at most. By a law
 //! in `laws`, the callbacks that run log no more than those that may run.
 #![tactic(auto)]

@@ -20,8 +20,8 @@ use klp_journal::Records;
 use klp_types::{ObjId, PatchId, Transition};
 use klp_world::World;
 
-/// Returns how many shadow variables the callbacks add at most that may run when a module is loaded. The callbacks that
-/// clean up after a refusal count too.
+/// Returns how many shadow variables callbacks may add at most when a module is loaded. The callbacks that clean up
+/// after a refusal count too.
 pub fn allocs_of_coming(
     catalog: &Catalog,
     installed: &[PatchId],
@@ -41,7 +41,7 @@ pub fn allocs_of_coming(
     sum
 }
 
-/// Returns how many shadow variables the callbacks add at most that may run when a module is unloaded.
+/// Returns how many shadow variables callbacks may add at most when a module is unloaded.
 pub fn allocs_of_going(
     catalog: &Catalog,
     installed: &[PatchId],
@@ -146,9 +146,10 @@ fn each_coming(
 }
 
 /// Runs the callbacks for a module that is loaded: for each of these patches that changes it, pre-patch, and post-patch
-/// unless the patch is in transition. If a pre-patch refuses, no later patch runs. The patches before it are cleaned up
-/// then, oldest first (the kernel's `klp_cleanup_module_patches_limited`): pre-unpatch unless the patch is in
-/// transition, then post-unpatch. Returns the refusing patch and its status, or None if none refused.
+/// unless the patch is in transition. If a pre-patch refuses, no later patch's callbacks run. The patches before the
+/// refusing one are cleaned up then, oldest first (the kernel's `klp_cleanup_module_patches_limited`): pre-unpatch
+/// unless the patch is in transition, then post-unpatch. Returns the refusing patch and its status, or None if none
+/// refused.
 pub fn run_coming(
     catalog: &mut Catalog,
     installed: &[PatchId],

@@ -32,8 +32,7 @@ fn allocs_at(catalog: &Catalog, patch: PatchId, place: u8, which: Which) -> usiz
     usize::from(catalog.allocs(patch, place, which))
 }
 
-/// Returns how many shadow variables one callback adds at most, if it runs only while its patch isn't in transition: 0
-/// while it is.
+/// Like `allocs_at`, for a callback that doesn't run while its patch is in transition: 0 then.
 fn allocs_unless_moving(
     catalog: &Catalog,
     patch: PatchId,
@@ -52,8 +51,8 @@ fn allocs_unless_moving(
     }
 }
 
-/// Returns how many shadow variables the patch's callbacks add at most that may run when the module is loaded. All four
-/// kinds count, since a later patch may refuse, and then this patch is cleaned up.
+/// Returns how many shadow variables the patch's callbacks may add at most when the module is loaded. All four kinds
+/// count, since a later patch may refuse, and then this patch is cleaned up.
 pub(crate) fn coming_allocs(
     catalog: &Catalog,
     patch: PatchId,
@@ -77,8 +76,8 @@ pub(crate) fn coming_allocs(
     }
 }
 
-/// Returns how many shadow variables the patch's callbacks add at most that may run when the module is unloaded:
-/// pre-unpatch and post-unpatch.
+/// Returns how many shadow variables the patch's callbacks may add at most when the module is unloaded: pre-unpatch and
+/// post-unpatch.
 pub(crate) fn going_allocs(
     catalog: &Catalog,
     patch: PatchId,
@@ -99,7 +98,7 @@ pub(crate) fn going_allocs(
     }
 }
 
-/// Whether the patch has this callback and isn't in transition, so that a callback runs which runs only then.
+/// Whether the patch has this callback and isn't in transition. For a callback that doesn't run in transition.
 fn has_unless_moving(
     catalog: &Catalog,
     patch: PatchId,
@@ -171,7 +170,7 @@ fn run_unless_moving(
     }
 }
 
-/// Runs pre-patch for the object at this place. Returns its status if it refuses, which every status but 0 does.
+/// Runs pre-patch for the object at this place. Returns its status if it refuses, that is, if the status isn't 0.
 fn run_pre_at(
     catalog: &mut Catalog,
     patch: PatchId,

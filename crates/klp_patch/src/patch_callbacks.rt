@@ -105,8 +105,8 @@ fn run_where_loaded(
     }
 }
 
-/// Runs the callbacks of one kind for those of the patch's first `end` objects that are loaded, in order. The cleaning
-/// up passes as `end` the place of the object that refused.
+/// Runs the callbacks of one kind for those of the patch's first `end` objects that are loaded, in order. To clean up,
+/// the caller passes the place of the refusing object as `end`.
 fn run_first(
     catalog: &mut Catalog,
     modules: &Modules,

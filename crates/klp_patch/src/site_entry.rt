@@ -10,8 +10,8 @@ use klp_journal::Records;
 use klp_sites::Sites;
 use klp_types::{Entry, MAX_PATCHES, MAX_SITES, PatchId, Site};
 
-/// Puts an entry on top of a site's stack. The clauses on records are in the form that loops over sites need to add
-/// them up.
+/// Puts an entry on top of a site's stack. The clauses on records have a form in which loops over sites can add them
+/// up.
 #[inline(always)]
 pub(crate) fn put(sites: &mut Sites, site: Site, entry: Entry, log: &mut Records)
     requires there { site < length sites.old.stacks }

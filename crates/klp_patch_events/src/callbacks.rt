@@ -1,5 +1,5 @@
-//! Whether an event may run a callback. Rewinding an event doesn't reset the counts of runs. So whoever takes an event
-//! before something that may fail asks this first.
+//! Whether an event may run a callback. Rewinding an event doesn't reset the counts of runs. So a caller that takes an
+//! event before something that may fail calls this first.
 ghost use Rattle.std.specs.Prelude.{◌≡◌};
 ghost use Rattle.klp_model.specs.declared.event.Event.TheVariants.{Enable, SetEnabled, Poll};
 ghost use Rattle.klp_patch.specs.Calls.{are_some};
@@ -36,7 +36,7 @@ fn may_run_setting(state: &ManagerState, catalog: &Catalog, patch: PatchId, valu
     }
 }
 
-/// Whether a poll may run a callback: those that run at the end of the transition, if there is one.
+/// Whether a poll may run a callback: one that runs at the end of the transition, if there is a transition.
 fn may_run_polling(state: &ManagerState, catalog: &Catalog) -> bool
     requires { Invariant state.now catalog.now }
     ensures { result ≡ are_some (may_run_in state.now catalog.now Poll) }
@@ -47,9 +47,9 @@ fn may_run_polling(state: &ManagerState, catalog: &Catalog) -> bool
     }
 }
 
-/// Whether the patches have one of the callbacks that the event may run if nothing refuses it. An event asks for room
-/// for the same callbacks. The cost grows with the number of the patch's objects, or for a module with the objects of
-/// all installed patches.
+/// Whether the patches have one of the callbacks that the event may run if nothing refuses it. An event needs room for
+/// the variables of the same callbacks. The cost grows with the number of the patch's objects, or for a module with the
+/// objects of all installed patches.
 pub fn may_run(state: &ManagerState, catalog: &Catalog, event: &Event) -> bool
     requires { Invariant state.now catalog.now }
     ensures { result ≡ are_some (may_run_in state.now catalog.now event.now) }

@@ -59,8 +59,8 @@ pub fn poll(state: &mut ManagerState, catalog: &mut Catalog) -> Result<BriefRepl
     }
 }
 
-/// Returns the first reason why a poll is refused, or None. The poll needs room for the callbacks of the end even if a
-/// task will lag, since nobody knows that beforehand.
+/// Returns the first reason why a poll is refused, or None. The poll needs room for the callbacks at the transition's
+/// end even if a task will lag, since that isn't known beforehand.
 pub fn poll_refusal(state: &ManagerState, catalog: &Catalog) -> Option<Refusal>
     requires { Invariant state.now catalog.now }
     ensures refusal { result ≡ refused_in state.now catalog.now Poll }
@@ -231,8 +231,7 @@ fn remove_leaving_entries(state: &mut ManagerState, catalog: &Catalog, moving: &
     }
 }
 
-/// Takes out the entries of the older patches, and the nops of the patch that replaces them, which only hid these
-/// entries.
+/// Takes out the entries of the older patches, and the replacing patch's nops, which only hid these entries.
 fn replace_sites(state: &mut ManagerState, catalog: &Catalog, moving: &Transition)
     requires kept { Invariant state.old catalog.now }
     requires moving { state.old.moving ≡ Some moving.now }

@@ -38,8 +38,8 @@ pub fn set_enabled(
     }
 }
 
-/// Returns the first reason why the value can't be written, or None. Room is computed before the other reasons, though
-/// it is the last, since its proof also bounds the records (docs/DECISIONS.md, "Room computed before the refusals").
+/// Returns the first reason why the value can't be written, or None. Room is the last reason, but is computed first,
+/// since its proof also bounds the records (docs/DECISIONS.md, "Room computed before the refusals").
 pub fn set_enabled_refusal(
     state: &ManagerState,
     catalog: &Catalog,

@@ -36,7 +36,7 @@ use klp_types::{
     Which,
 };
 
-/// Whether a function of the patch, for a loaded object, names no symbol of it, so that the patch couldn't be put in
+/// Whether a function of the patch is for a loaded object but names no symbol of it. Then the patch couldn't be put in
 /// whole. A function for an object that isn't loaded may lack its symbol, since that is checked when the module is
 /// loaded (docs/DECISIONS.md, "Symbols of objects that aren't loaded").
 fn lacks_symbol(state: &ManagerState, found: &CatalogPatch) -> bool
@@ -65,7 +65,8 @@ fn pre_failed(patch: PatchId, refused: &(ObjId, i32)) -> BriefReply
 
 /// Enables a patch that isn't installed, and starts its transition to 1. Puts the patch last in the list, runs
 /// pre-patch object by object, and puts its entries on the sites of loaded objects. If a pre-patch refuses,
-/// post-unpatch runs for the objects before it, the patch leaves the list again, and the reply is `PreFailed`.
+/// post-unpatch runs for the objects before the refusing one, the patch leaves the list again, and the reply is
+/// `PreFailed`.
 pub fn enable(
     state: &mut ManagerState,
     catalog: &mut Catalog,
@@ -88,7 +89,7 @@ pub fn enable_refusal(state: &ManagerState, catalog: &Catalog, patch: PatchId) -
     ensures refusal { result ≡ refused_in state.now catalog.now (Enable patch) }
     ensures records { records_of (may_run_in state.now catalog.now (Enable patch)) ≤ MAX_ENABLING_RECORDS }
 {
-    // Computed before the other refusals, though it comes last, since its proof bounds the records on every way out
+    // Computed first, though it is the last refusal, since its proof bounds the records for every return
     // (docs/DECISIONS.md, "Room computed before the refusals").
     let lacks_room = lacks_room_to_enable(state, catalog, patch);
     let Some(found) = catalog.get(patch) else {
@@ -119,7 +120,7 @@ fn lacks_room_to_enable(state: &ManagerState, catalog: &Catalog, patch: PatchId)
     ensures room { result ≡ lacks_room_in state.now catalog.now (Enable patch) }
     ensures records { records_of (may_run_in state.now catalog.now (Enable patch)) ≤ MAX_ENABLING_RECORDS }
 {
-    // Both kinds count whatever the statuses are, so that one can compute the sum from the catalog alone
+    // Both kinds count whatever the statuses are, so that the sum is known before any of them runs
     // (docs/DECISIONS.md, "Room for the callbacks that may run").
     let pre = allocs(catalog, &state.modules, patch, Which::Pre);
     let post_un = allocs(catalog, &state.modules, patch, Which::PostUn);
@@ -144,7 +145,7 @@ fn install(state: &mut ManagerState, catalog: &mut Catalog, patch: PatchId) -> B
     prove!(usize::from(catalog.patches()) <= MAX_PATCHES);
     prove!(state.sites.sites() <= MAX_SITES);
     put_last(state, catalog, patch);
-    // Runs for all objects before the first site is hooked, since a refused patch must not touch the text
+    // Pre-patch runs for all objects before the first site is hooked, since a refused patch must not touch the text
     // (docs/DECISIONS.md, "Pre-patch before the first hook").
     match run_pre_patch(
         catalog,
@@ -200,7 +201,7 @@ fn take_out(state: &mut ManagerState, patch: PatchId)
 }
 
 /// Starts the transition of an installed patch to 1. First puts its entries on the sites: no task has patch state 1
-/// then, so every task passes over the entries, and nothing changes for it yet.
+/// then, so every task passes over the entries, and still runs what it ran before.
 fn start(state: &mut ManagerState, catalog: &Catalog, patch: PatchId)
     requires number { patch < MAX_PATCHES }
     requires rests { state.old.moving ≡ None }

@@ -1,9 +1,9 @@
 //! The events of patches and modules, each as a step of the model, over a manager's state.
 //!
 //! Each event has the reply and the effect that the model defines, or is refused for the reason that the model gives
-//! (`TakesEvent` in `klp_manager_state/specs/Events`). The runs of its callbacks are counted. Putting back what it
-//! logged gives the rows before it. For each event a function of its own returns why it would be refused, without
-//! taking it.
+//! (`TakesEvent` in `klp_manager_state/specs/Events`). The runs of its callbacks are counted. Putting back what an
+//! event logged gives the rows before the event. A separate function for each event returns why it would be refused,
+//! without taking it.
 //!
 //! There is one file for each kind of event: `src/enabling.rt`, `enabled_file.rt`, `forcing.rt`, `completing.rt` and
 //! `module.rt`. `callbacks.rt` finds out whether an event may run a callback, `replaced.rt` takes out what a

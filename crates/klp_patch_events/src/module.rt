@@ -26,7 +26,7 @@ use klp_model::Refusal;
 use klp_patch::{allocs_of_coming, allocs_of_going, run_coming, run_going};
 use klp_types::{MAX_PATCHES, MAX_VARIABLES, ObjId, PatchId};
 
-/// Whether a function is for this object but names no symbol of it, so that it has no site to be put on.
+/// Whether a function is for this object but names no symbol of it, and so has no site.
 fn lacks_site(function: &CatalogFunction, object: ObjId) -> bool
     ensures { result ≡ (function.now.object == object && is_none function.now.site) }
 {
@@ -59,9 +59,9 @@ fn some_lacks_symbol(catalog: &Catalog, patches: &[PatchId], object: ObjId) -> b
 }
 
 /// Loads a module (the kernel's `klp_module_coming`). For each installed patch that changes the module, pre-patch runs,
-/// and post-patch unless the patch is in transition. The entries are put on the module's sites after all callbacks; a
-/// kernel puts them on between a patch's two, which nobody can tell apart (`come`). If a pre-patch refuses, the patches
-/// before it are cleaned up, the module isn't loaded, and the reply is `PreFailed`.
+/// and post-patch unless the patch is in transition. The entries are put on the module's sites after all callbacks. A
+/// kernel puts them on between a patch's two callbacks, but nobody can see the difference (`come`). If a pre-patch
+/// refuses, the patches before the refusing one are cleaned up, the module isn't loaded, and the reply is `PreFailed`.
 pub fn coming(
     state: &mut ManagerState,
     catalog: &mut Catalog,
@@ -79,7 +79,7 @@ pub fn coming(
 
 /// Unloads a module (the kernel's `klp_module_going`). For each installed patch that changes the module, pre-unpatch
 /// runs unless the patch is in transition, and then post-unpatch. The entries are taken out of the module's sites after
-/// all callbacks; a kernel takes them out between a patch's two, which nobody can tell apart (`go`).
+/// all callbacks. A kernel takes them out between a patch's two callbacks, but nobody can see the difference (`go`).
 pub fn going(
     state: &mut ManagerState,
     catalog: &mut Catalog,
@@ -118,8 +118,8 @@ pub fn coming_refusal(state: &ManagerState, catalog: &Catalog, object: ObjId) ->
     }
 }
 
-/// Returns the first reason why a module can't be unloaded, or None. One reason is a task inside of the module, for
-/// which a kernel has the module's reference count.
+/// Returns the first reason why a module can't be unloaded, or None. One reason is a task inside of the module; a
+/// kernel counts the module's references instead.
 pub fn going_refusal(state: &ManagerState, catalog: &Catalog, object: ObjId) -> Option<Refusal>
     requires { Invariant state.now catalog.now }
     ensures refusal { result ≡ refused_in state.now catalog.now (Going object) }
@@ -174,8 +174,8 @@ fn lacks_room_to_go(state: &ManagerState, catalog: &Catalog, object: ObjId) -> b
     added > MAX_VARIABLES - usize::from(state.world.count())
 }
 
-/// Returns a copy of the list of installed patches, oldest first. A copy is needed since callbacks get the world by
-/// `&mut`, and so the world's own list can't be borrowed meanwhile.
+/// Returns a copy of the list of installed patches, oldest first. A copy is needed, since callbacks get the world by
+/// `&mut`, and so its own list can't be borrowed while they run.
 fn installed_patches(state: &ManagerState, catalog: &Catalog) -> ArrayVec<PatchId, MAX_PATCHES>
     requires { Invariant state.now catalog.now }
     ensures value { result.items ≡ installed_patches (state_in state.now catalog.now) }
@@ -194,7 +194,7 @@ fn installed_patches(state: &ManagerState, catalog: &Catalog) -> ArrayVec<PatchI
 }
 
 /// Loads a module. The caller has checked that nothing refuses it. All callbacks run before the entries are put on its
-/// sites, so a refused module costs no entry. Nobody sees this order, since callbacks see no function stack, and an
+/// sites, so a refused module gets no entry. Nobody sees this order, since callbacks see no function stack, and an
 /// event is one step (docs/DECISIONS.md, "Callbacks of a module before its entries").
 fn come(state: &mut ManagerState, catalog: &mut Catalog, object: ObjId) -> BriefReply
     requires kept { Invariant state.old catalog.old }
@@ -218,7 +218,7 @@ fn come(state: &mut ManagerState, catalog: &mut Catalog, object: ObjId) -> Brief
         Some((patch, status)) => BriefReply(Brief::PreFailed(patch, object, status)),
         None => {
             state.log.note(state.sites.load(object));
-            // only the sites log the loaded flag: by their record undo sets both flags back
+            // only the sites log the loaded flag: undo sets both flags back from that record
             state.modules.set_loaded(object, true);
             patch_object(
                 &mut state.sites,
@@ -232,7 +232,7 @@ fn come(state: &mut ManagerState, catalog: &mut Catalog, object: ObjId) -> Brief
     }
 }
 
-/// Unloads a module. The caller has checked that nothing refuses it. The callbacks run before its entries leave, as
+/// Unloads a module. The caller has checked that nothing refuses it. All callbacks run before the entries change, as
 /// when a module is loaded. The loaded flag changes last, so that undo first sets it back and then the entries.
 fn go(state: &mut ManagerState, catalog: &mut Catalog, object: ObjId) -> BriefReply
     requires kept { Invariant state.old catalog.old }

@@ -80,8 +80,8 @@ pub(crate) fn patch_object(
     }
 }
 
-/// Takes the entries of these patches out of the sites of one object. The sites have entries of no other patch, so none
-/// is left.
+/// Takes the entries of these patches out of the sites of one object. The sites have entries of no other patch, so no
+/// entry is left.
 pub(crate) fn unpatch_object(
     sites: &mut Sites,
     catalog: &Catalog,

@@ -70,8 +70,8 @@ pub(crate) fn unpatch_each(
     }
 }
 
-/// Returns a copy of the number of the oldest installed patch, or None without one. A copy, since the world changes
-/// next.
+/// Returns a copy of the number of the oldest installed patch, or None without one. A copy, since the caller changes
+/// the world next.
 fn oldest(world: &World) -> Option<PatchId>
     ensures { result ≡ slice_get (map (λ (i : Installed). i.patch) world.now.installed) 0 }
 {

@@ -22,7 +22,7 @@ use std::marker::Model;
 
 /// The image and the function stacks of its sites.
 ///
-/// [`Sites::new`] takes all room. Each change logs or returns an undo record for every row that it changes. These
+/// [`Sites::new`] allocates all memory. Each change logs or returns an undo record for every row that it changes. These
 /// records, put back newest first, restore the table before the changes.
 #[derive(Drop)]
 pub struct Sites {
@@ -101,9 +101,9 @@ impl Sites {
         }
     }
 
-    /// Takes the entry of a patch out of a site's stack, if the patch has one there. The last entry of a site also
-    /// unhooks it, so that a call of an unpatched function costs nothing extra. The cost is the number of entries
-    /// above the patch's.
+    /// Takes the entry of a patch out of a site's stack, if the patch has one there. Taking the last entry of a site
+    /// also unhooks the site, so that a call of an unpatched function costs nothing extra. The cost is the number of
+    /// entries above the patch's.
     #[inline(always)]
     pub fn take(&mut self, site: Site, patch: PatchId, log: &mut Records)
         requires records { length (rows_of_take self.old site patch) ≤ spare_of log.old }
@@ -144,8 +144,8 @@ impl Sites {
         Some(taken)
     }
 
-    /// Marks an object as loaded, and returns the undo record, which says whether it was loaded before. The hooks
-    /// of its sites don't change: the entries of a module are put on by changes of their own. The cost is constant.
+    /// Marks an object as loaded, and returns the undo record, which says whether it was loaded before. The hooks of
+    /// its sites don't change: separate changes put the entries of a module on. The cost is constant.
     pub fn load(&mut self, object: ObjId) -> Record
         requires { object < length self.old.image.objects }
         ensures row { result ≡ Record.LoadedFlag object (slice_index_or self.old.loaded object false) }
@@ -166,10 +166,10 @@ impl Sites {
         self.set_loaded(object, false)
     }
 
-    /// Restores the one row that the record names: an entry, with which its site's hook appears or goes, or whether
-    /// an object is loaded. Nothing changes if there is no such site or object, or if the record is of another
-    /// kind. Nor does the record of a hook change anything: the record of its entry, which is put back right after it,
-    /// restores the hook too (docs/DECISIONS.md, "Hooks in undo"). The cost is at most the stack's height.
+    /// Restores the one row that the record names: an entry, with its site's hook, or an object's loaded flag. Nothing
+    /// changes if there is no such site or object, or if the record is of another kind. The record of a hook changes
+    /// nothing either: the record of its entry, which is put back right after it, restores the hook too
+    /// (docs/DECISIONS.md, "Hooks in undo"). The cost is at most the stack's height.
     pub fn put_back(&mut self, row: Record)
         requires due { is_due self.old row ≡ true }
         ensures { self.new ≡ put_back self.old row }
@@ -203,7 +203,7 @@ impl Sites {
         }
     }
 
-    /// Sets back whether an object is loaded. Nothing changes if there is no such object.
+    /// Sets an object's loaded flag back. Nothing changes if there is no such object.
     fn put_loaded(&mut self, object: ObjId, was: bool)
         ensures { self.new ≡ put_loaded self.old object was }
     {
@@ -212,8 +212,8 @@ impl Sites {
         }
     }
 
-    /// Sets whether an object is loaded, and returns the undo record, which says whether it was. Changes and undo
-    /// share this code.
+    /// Sets an object's loaded flag, and returns the undo record, which has the old flag. Changes and undo share this
+    /// code.
     fn set_loaded(&mut self, object: ObjId, loaded: bool) -> Record
         requires { object < length self.old.image.objects }
         ensures row { result ≡ Record.LoadedFlag object (slice_index_or self.old.loaded object false) }

@@ -107,9 +107,9 @@ impl Chain {
         None
     }
 
-    /// Returns the number of the slot that has `index` older entries below it. An entry of the patch that is to get
-    /// position `index`, counted from the oldest, is put just below this slot. `None` if the stack has at most
-    /// `index` entries, or if the patch has an entry already.
+    /// Returns the number of the slot that has `index` older entries below it. To get position `index`, counted from
+    /// the oldest, an entry of the patch is put just below this slot. `None` if the stack has at most `index` entries,
+    /// or if the patch has an entry already.
     pub(crate) fn above(self, slots: &[Slot], patch: PatchId, index: u8) -> Option<u16>
         requires linked { IsLinked slots.now self.len self.newest }
         requires few { self.len ≤ MAX_PATCHES }
@@ -165,7 +165,7 @@ impl Chain {
     }
 
     /// Returns the two newest entries, and whether the newest one's patch is in transition. An older entry's patch
-    /// isn't asked: if it were in transition, every task would run the newest entry all the same.
+    /// isn't checked: even if it were in transition, every task would run the newest entry.
     pub(crate) fn word(self, slots: &[Slot], moving: Option<PatchId>) -> SiteWord
         requires { IsLinked slots.now self.len self.newest }
         ensures { result ≡ word_of moving (entries_from slots.now self.len self.newest) }

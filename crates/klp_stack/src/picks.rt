@@ -23,7 +23,7 @@ pub fn pick(site: Site, word: SiteWord, state: i8) -> Version
 }
 
 /// Returns the version that an entry runs: its new function, or the original if there is no entry. A nop runs the
-/// original too, since a cumulative patch uses nops to give originals back.
+/// original too, since a cumulative patch uses nops to restore originals.
 pub fn version_of(site: Site, entry: Option<Entry>) -> Version
     ensures { result ≡ newest_version site (option_to_list entry) }
 {

@@ -108,7 +108,7 @@ impl Pool {
         }
     }
 
-    /// Takes out the entry just below the slot `above`, and links `above` to the one that was below the entry taken out.
+    /// Takes out the entry just below the slot `above`, and links `above` to the entry below that one.
     fn take_below(&mut self, above: u16)
         requires spare { self.old.spare < MAX_ENTRIES }
         requires above { above < length self.old.slots.items }

@@ -23,8 +23,8 @@ use std::marker::Model;
 
 /// The function stacks of all sites (the kernel's `func_stack` of each `klp_ops`).
 ///
-/// [`Stacks::new`] takes all room, for [`MAX_ENTRIES`] entries of all sites together. Each change is of one entry,
-/// and has a record of the entry as it was. These records, put back newest first, restore the stacks before the
+/// [`Stacks::new`] allocates all memory, for [`MAX_ENTRIES`] entries of all sites together. Each change is of one
+/// entry, and has a record of the old entry. These records, put back newest first, restore the stacks before the
 /// changes.
 #[derive(Drop)]
 pub struct Stacks {
@@ -123,7 +123,7 @@ impl Stacks {
             (Record.StackEntry site patch (place_of patch (entries_at self.old site)))
             (slice_set self.old site (entries_of_others patch (entries_at self.old site))) }
         ensures unchanged { IfNone result (self.new ≡ self.old) }
-        // The slot that becomes free is room to put the entry back.
+        // The entry can be put back into the slot that becomes free.
         ensures room { is_some result ≡ true → 0 < spare_in self.new }
     {
         let number = usize::from(site.0);
@@ -136,9 +136,9 @@ impl Stacks {
         })
     }
 
-    /// Puts an entry of the patch back at its place, counted from the oldest, and returns whether it is now the
-    /// only entry of the site. An entry that may not be there is left out, and the answer is false; records that
-    /// are put back newest first always fit. The cost is at most the stack's height.
+    /// Puts an entry of the patch back at its place, counted from the oldest, and returns whether it is now the only
+    /// entry of the site. An entry that doesn't fit there is left out, and the answer is false; records that are put
+    /// back newest first always fit. The cost is at most the stack's height.
     #[inline(always)]
     pub fn put(&mut self, site: Site, patch: PatchId, place: Place) -> bool
         requires { 0 < spare_in self.old }
@@ -187,7 +187,7 @@ impl Stacks {
         }
     }
 
-    /// Returns how many sites there are, at a constant cost: as many as `new` was asked for.
+    /// Returns how many sites there are, at a constant cost: as many as `new` made.
     pub fn sites(&self) -> usize
         ensures { result ≡ length self.now }
     {
@@ -198,7 +198,7 @@ impl Stacks {
     /// number of newer entries.
     pub fn entry(&self, site: Site, patch: PatchId) -> Option<Entry>
         ensures value { result ≡ find (λ (e : AnyEntry). e.patch == patch) (entries_at self.now site) }
-        // Every stack keeps to this. It is stated so that callers needn't prove it.
+        // This holds of every stack. It is stated so that callers needn't prove it.
         ensures stack { IsStack (entries_at self.now site) }
     {
         match self.chains.get(usize::from(site.0)) {

@@ -2,7 +2,7 @@
 //!
 //! An accepted event first empties the log, and then logs each variable that it changes, as it was before. A refused
 //! event changes nothing. For each event that can be refused, a function `.._refusal` returns why it would be refused,
-//! or None. A full journal asks it without taking the event.
+//! or None. A full journal calls it without taking the event.
 ghost use Rattle.std.specs.Prelude.{◌≡◌, ◌<◌, None, IfNone};
 ghost use Rattle.std.specs.FinMap as finite;
 ghost use Rattle.klp_types.specs.declared.limits.TheConstants.{MAX_VARIABLES};
@@ -84,7 +84,8 @@ pub fn shadow_get_or_alloc(
     Ok(Reply::Value(there))
 }
 
-/// Returns `Full` if the variable doesn't exist and there is no room for it, else None. One that exists needs no room.
+/// Returns `Full` if the variable doesn't exist and there is no room for it, else None. An existing variable needs no
+/// room.
 pub fn shadow_get_or_alloc_refusal(state: &ManagerState, key: ShadowKey) -> Option<Refusal>
     ensures refusal { (catalog : AnyCatalog) (value : AnyValue)
         → result ≡ refused_in state.now catalog (ShadowGetOrAlloc key value) }
@@ -98,8 +99,8 @@ pub fn shadow_get_or_alloc_refusal(state: &ManagerState, key: ShadowKey) -> Opti
     }
 }
 
-/// Removes a variable if it exists (`klp_shadow_free`). As in the kernel, removing one that doesn't exist is no fault.
-/// The reply says how many were removed: 0 or 1.
+/// Removes a variable if it exists (`klp_shadow_free`). As in the kernel, removing a variable that doesn't exist is no
+/// fault. The reply says how many were removed: 0 or 1.
 pub fn shadow_free(
     state: &mut ManagerState,
     catalog: &Catalog,
@@ -139,7 +140,7 @@ pub fn shadow_free_all(
     Ok(BriefReply(Brief::Freed(freed)))
 }
 
-/// Whether no more shadow variables can be added. The limit is this project's own: a kernel has its memory for one.
+/// Whether no more shadow variables can be added. The limit is this project's own: in a kernel, memory is the limit.
 fn is_full(state: &ManagerState) -> bool
     ensures { result ≡ is_full state.now.world }
 {

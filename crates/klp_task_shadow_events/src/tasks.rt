@@ -1,8 +1,8 @@
 //! The events of tasks (livepatch, Consistency model). The cost of each is the same whatever is installed.
 //!
-//! An accepted event changes one task's row, and leaves a log with that row alone, as it was before. A refused event
-//! changes nothing. For each event a function `.._refusal` returns why it would be refused, or None. A full journal
-//! asks it without taking the event.
+//! An accepted event changes one task's row, and leaves a log with the old row alone. A refused event changes nothing.
+//! For each event a function `.._refusal` returns why it would be refused, or None. A full journal calls it without
+//! taking the event.
 ghost use Rattle.std.specs.Prelude.{◌≡◌, ◌<◌, not, true, false, ℕ, List, [], ◌∷◌, length, is_some, option_map, IfOk};
 ghost use Rattle.std.specs.Prelude.{IfNone};
 ghost use Rattle.std.specs.List.{list_any};
@@ -193,8 +193,8 @@ pub fn exit_to_user_refusal(state: &ManagerState, task: TaskId) -> Option<Refusa
     refusal_unless_in(state, task, Mode::Kernel)
 }
 
-/// Puts a task to sleep inside of these functions. That it is really inside of them isn't checked: it is a premise of
-/// the consistency laws. The cost grows with the number of frames.
+/// Puts a task to sleep inside of these functions. Whether it really is inside of them isn't checked: that is a premise
+/// of the consistency laws. The cost grows with the number of frames.
 pub fn sleep(
     state: &mut ManagerState,
     catalog: &Catalog,
@@ -288,7 +288,7 @@ fn refusal_unless_in(state: &ManagerState, task: TaskId, mode: Mode) -> Option<R
     }
 }
 
-/// Empties the log and logs the row of this task as it is before the event, since an event of a task is one record.
+/// Empties the log and logs the row of this task as it is before the event, since a task event logs one record.
 fn log_alone(tasks: &Tasks, task: TaskId, log: &mut Records)
     requires { log.old.room ≡ MAX_RECORDS }
     ensures { log.new ≡ record log.old { logged = record_of task (task_at tasks.now task) ∷ [] } }
@@ -325,7 +325,7 @@ fn is_in(state: &ManagerState, task: TaskId, mode: Mode) -> bool
     }
 }
 
-/// Returns a copy of the frames of a task, none if the task doesn't exist. Taken before the task wakes up.
+/// Returns a copy of a task's frames, empty if the task doesn't exist. The caller takes it before the task wakes up.
 fn frames_of(state: &ManagerState, task: TaskId) -> Frames
     ensures { result ≡ frames_of (task_at state.now.tasks task) }
 {

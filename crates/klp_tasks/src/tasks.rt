@@ -27,9 +27,9 @@ use std::marker::Model;
 
 /// The tasks by their numbers, from 0 to [`MAX_TASKS`] - 1.
 ///
-/// [`Tasks::new`] takes all room. A change of one task takes the same time however many tasks there are; its caller
-/// logs the old row first, by [`Tasks::log_row`]. A walk over the tasks costs one step for each task that exists.
-/// Only [`Tasks::states`] reads all rows.
+/// [`Tasks::new`] allocates all memory. A change of one task takes the same time however many tasks there are; its
+/// caller logs the old row first, by [`Tasks::log_row`]. A walk over the tasks costs one step for each task that
+/// exists. Only [`Tasks::states`] reads all rows.
 #[derive(Drop)]
 pub struct Tasks {
     rows: Vec<Option<Task>>,
@@ -66,8 +66,8 @@ fn lags(row: &Option<Task>, target: bool) -> bool
     }
 }
 
-/// Returns the patch state of a task that is at this target: 1 if the target is to run the patch, 0 if it is to
-/// leave it. It is never -1, the state outside of a transition.
+/// Returns the patch state of a task that is at this target: 1 if the patch comes in, 0 if it leaves. It is never -1,
+/// the state outside of a transition.
 pub fn target_state(target: bool) -> PatchState
     ensures { result ≡ at_target target }
 {
@@ -88,8 +88,8 @@ fn sleeps_inside(row: &Option<Task>, versions: &VersionSet) -> bool
     }
 }
 
-/// Whether a task sleeps, and isn't inside of a blocked version. A task that isn't asleep is never free, since it
-/// isn't known what it runs.
+/// Whether a task sleeps, and isn't inside of a blocked version. A task that isn't asleep is never free, since what it
+/// runs isn't known.
 fn is_free(task: &Task, blocked: &VersionSet) -> bool
     ensures { result ≡ (is_mode task.now.mode Asleep && not (list_any (has blocked.now) task.now.frames)) }
 {
@@ -264,7 +264,8 @@ impl Tasks {
         row.mode = Mode::User;
     }
 
-    /// Puts a task to sleep inside of these frames. While it sleeps, they alone decide whether it can be switched.
+    /// Puts a task to sleep inside of these frames. While it sleeps, these frames alone decide whether it can be
+    /// switched.
     #[inline(always)]
     pub fn sleep(&mut self, task: TaskId, frames: Frames)
         requires { is_some (task_at self.old task) ≡ true }
@@ -339,8 +340,8 @@ impl Tasks {
         }
     }
 
-    /// Gives every task the state, whatever it is inside of: when a transition starts, when it ends, and when it is
-    /// forced. Logs each task whose state changes, in the order of their numbers. It reads only the rows of tasks.
+    /// Gives every task the state, whatever the task is inside of: when a transition starts, when it ends, and when it
+    /// is forced. Logs each task whose state changes, in the order of their numbers. It reads only the rows of tasks.
     pub fn set_all(&mut self, state: PatchState, log: &mut Records)
         requires { length (records_switched 0 self.old (all_in state self.old)) ≤ spare_of log.old }
         ensures tasks { self.new ≡ all_in state self.old }
@@ -395,9 +396,9 @@ impl Tasks {
         }
     }
 
-    /// Removes the newest record from the log if it is of a task whose frames are the same now as in the record, as
-    /// their words show. Returns what `put_switched` needs of that record. `None` leaves the log as it was, and
-    /// doesn't say that there is no such record.
+    /// Removes the newest record from the log if it is of a task whose frames still have the same words as in the
+    /// record. Returns what `put_switched` needs of that record. On `None` the log is unchanged, and may still end with
+    /// such a record.
     #[inline(always)]
     pub fn take_switched(&self, log: &mut Records) -> Option<SwitchedTask>
         ensures newest { IfSome result (λ was. (now : AnyTask) × ((task_at self.now was.task ≡ Some now)

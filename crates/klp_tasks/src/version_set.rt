@@ -7,8 +7,8 @@ ghost use Rattle.klp_tasks.specs.Members.{has, IsSetOf, IsWithin};
 use klp_types::{Frames, MAX_FUNCTIONS, MAX_PATCHES, MAX_SITES, Version};
 use std::marker::Model;
 
-/// A set of versions, for example of those that block a sleeping task. It has a flag for each possible version
-/// instead of a list, so that a look-up takes the same time whatever the set has. No call takes memory: the flags
+/// A set of versions, for example of those that block a sleeping task. It has a flag for each possible version instead
+/// of a list, so that a look-up takes the same time however many versions the set has. No call takes memory: the flags
 /// are 1,280 bytes, which `new` and `clear` write.
 #[derive(Drop)]
 pub struct VersionSet {
@@ -27,7 +27,7 @@ impl Model for VersionSet {
     ghost view = { λ s. record { originals = s.originals; functions = s.functions } };
 }
 
-/// Returns the flag of a number. An impossible number isn't set, so that frames with any numbers can be asked for.
+/// Returns the flag of a number. An impossible number isn't set, so that frames with any numbers can be checked.
 fn is_set(flags: &[bool], number: u16) -> bool
     ensures { result ≡ slice_index_or flags.now number false }
 {
@@ -54,7 +54,7 @@ impl VersionSet {
         }
     }
 
-    /// Puts a version into the set. It may be there already, so callers needn't ask first.
+    /// Puts a version into the set. It may be there already, so callers needn't check first.
     pub fn insert(&mut self, version: Version)
         requires { IsWithin version }
         ensures version { (other : AnyVersion) → has self.new other ≡ (has self.old other || is_version other version) }
@@ -92,8 +92,8 @@ impl VersionSet {
         }
     }
 
-    /// Whether one of the frames is in the set. Looks at the innermost frame first, since a sleeper mostly waits in one of
-    /// the functions that it called last. The cost is one look-up for each frame up to the first that is in the set.
+    /// Whether one of the frames is in the set. Looks at the innermost frame first, since a sleeper mostly waits in a
+    /// function that it called last. The cost is one look-up for each frame up to the first that is in the set.
     pub(crate) fn holds(&self, frames: &Frames) -> bool
         ensures { result ≡ list_any (has self.now) frames.now }
     {

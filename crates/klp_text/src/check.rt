@@ -96,7 +96,7 @@ fn has_name(objects: &[ObjectText], name: &str) -> bool
 }
 
 /// Returns the fault of the first symbol that has one. Symbols are checked in the image's order, so that the report
-/// names the first line that needs mending.
+/// names the first line at fault.
 fn symbols_fault(handler: u64, objects: &[ObjectText]) -> Option<ImageFault>
     ensures { result ≡ faults.first_fault (faults.symbols_tests handler [] (symbols_of objects.now)) }
 {
@@ -108,8 +108,8 @@ fn symbols_fault(handler: u64, objects: &[ObjectText]) -> Option<ImageFault>
     None
 }
 
-/// Returns the fault of the first symbol of an object that has one. `earlier` are the objects before it, since a
-/// symbol may share an address with one of theirs.
+/// Returns the fault of the first symbol of an object that has one. `earlier` are the objects before this one, since a
+/// symbol may share an address with one of their symbols.
 fn object_fault(handler: u64, earlier: &[ObjectText], symbols: &[SymbolText]) -> Option<ImageFault>
     ensures { result ≡ faults.first_fault (faults.symbols_tests handler (symbols_of earlier.now) symbols.now) }
 {
@@ -121,8 +121,8 @@ fn object_fault(handler: u64, earlier: &[ObjectText], symbols: &[SymbolText]) ->
     None
 }
 
-/// Returns the fault of one symbol. `objects` and `symbols` are the objects before its own, and the symbols before
-/// it in its own, since it may share an address with any of them.
+/// Returns the fault of one symbol. `objects` are the objects before its own, and `symbols` the symbols before it in
+/// its own object, since it may share an address with any of them.
 fn symbol_fault(
     handler: u64,
     objects: &[ObjectText],

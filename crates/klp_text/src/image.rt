@@ -18,15 +18,15 @@ use std::marker::Model;
 
 /// The text of all objects, loaded or not: their names and symbols, and the bytes of each body at this moment.
 ///
-/// Sites are numbered over all objects in order. The objects never change; only which of them are loaded, and which
-/// sites are hooked, does. All calls but `new` cost the same however many sites there are, and take no memory.
+/// Sites are numbered over all objects in order. The objects never change; only the loaded flags and the hooks do. All
+/// calls but `new` cost the same however many sites there are, and take no memory.
 #[derive(Drop)]
 pub struct Image {
     handler: u64,
     /// The objects as they were given, since contracts speak of the image that was handed in (docs/DECISIONS.md,
     /// "Bodies as they were given").
     objects: Vec<ObjectText>,
-    /// By object, whether it is loaded. `bytes` returns nothing of an object that isn't.
+    /// By object, whether it is loaded. `bytes` returns nothing of an object that isn't loaded.
     loaded: Vec<bool>,
     /// By object, the site of its first symbol, so that a symbol's site is found without counting.
     first_sites: Vec<u16>,
@@ -108,8 +108,8 @@ impl Image {
     }
 
     /// Marks an object as loaded: from now on `bytes` returns the bodies of its symbols. Its sites stay hooked or
-    /// unhooked, because hooks follow entries and not modules. It writes one flag, whatever the object has. A
-    /// loaded object may be loaded again.
+    /// unhooked, because hooks follow entries and not modules. It writes one flag, however many symbols the object has.
+    /// A loaded object may be loaded again.
     pub fn load(&mut self, object: ObjId)
         requires { object < length self.old.image.objects }
         ensures { self.new ≡ record self.old { loaded = slice_set self.old.loaded object true } }
@@ -117,10 +117,9 @@ impl Image {
         self.loaded[usize::from(object.0)] = true;
     }
 
-    /// Marks an object as not loaded: from now on `bytes` returns nothing of it. Unloading changes no hook of its
-    /// sites, and neither does loading it again, so the caller unhooks them first. It writes one flag, whatever the
-    /// object has.
-    /// An object that isn't loaded may be unloaded. The caller must not unload `vmlinux`.
+    /// Marks an object as not loaded: from now on `bytes` returns nothing of it. Neither unloading nor loading an
+    /// object changes a hook of its sites, so the caller unhooks them first. It writes one flag, whatever the object
+    /// has. An object that isn't loaded may be unloaded. The caller must not unload `vmlinux`.
     pub fn unload(&mut self, object: ObjId)
         requires { object < length self.old.image.objects }
         ensures { self.new ≡ record self.old { loaded = slice_set self.old.loaded object false } }

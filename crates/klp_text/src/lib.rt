@@ -1,9 +1,9 @@
 //! The text of the kernel and its modules: the bytes of every function, and the entry sites, where calls of the
 //! handler are written and removed.
 //!
-//! A hook needs five bytes of a function: its first ones, or those after an ENDBR64. While no patch changes the
-//! function they are a NOP, and else a call of the handler, as in livepatch, Hooks. The image and its numbers are
-//! this project's own model (`specs/TextImage`).
+//! A hook needs five bytes of a function: its first ones, or those after an ENDBR64. They are a NOP while no patch
+//! changes the function, and otherwise a call of the handler (livepatch, Hooks). The image and its numbers are this
+//! project's own model (`specs/TextImage`).
 //!
 //! [`Image::new`] returns an image or a fault. The fault is the first in a fixed order (`specs/Faults`), or
 //! `NoMemory`. The model of a new image is the given objects, with object 0 loaded and nothing hooked. `hook` and

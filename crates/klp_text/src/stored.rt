@@ -12,8 +12,8 @@ use std::alloc::{AllocError, Global};
 /// A body of at most so many bytes lies in its symbol, and takes no memory of its own.
 const SHORT_BODY: usize = 32;
 
-/// A symbol with the bytes that it has now. The position of its entry site and the call for it are computed once,
-/// and written there each time that the site is hooked.
+/// A symbol with the bytes that it has now. The offset of its entry site and the bytes of the call are computed once.
+/// Hooking the site writes these bytes there.
 #[derive(Drop)]
 pub struct StoredSymbol {
     /// The address of the entry site.
@@ -27,8 +27,7 @@ pub struct StoredSymbol {
 }
 
 impl StoredSymbol {
-    /// Copies the symbol, with a NOP at its entry site; the given symbol stays as it was. `Err` if memory is
-    /// refused.
+    /// Copies the symbol, with a NOP at its entry site; the given symbol doesn't change. `Err` if memory is refused.
     pub fn new(alloc: Global, symbol: &SymbolText, handler: u64) -> Result<StoredSymbol, AllocError>
         requires long { entry_end symbol.now.body ≤ length symbol.now.body }
         requires near { FitsSigned w32 (displacement handler (entry_address symbol.now)) }
@@ -52,7 +51,7 @@ impl StoredSymbol {
         })
     }
 
-    /// Writes a call of the handler over the entry site, or the NOP, and sets the flag with it, so that both always
+    /// Writes a call of the handler over the entry site, or the NOP, and sets the flag, so that bytes and flag always
     /// agree.
     pub fn set_hooked(&mut self, hooked: bool)
         requires { self.old.offset + 5 ≤ length self.old.body.items }

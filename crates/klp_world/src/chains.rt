@@ -28,7 +28,7 @@ pub(crate) struct Chains {
 }
 
 impl Chains {
-    /// Creates the lists without slots, and takes room for [`MAX_VARIABLES`] of them, so no later call grows it.
+    /// Creates the lists without slots, and allocates memory for [`MAX_VARIABLES`] slots, so no later call grows them.
     pub(crate) fn new(alloc: Global) -> Result<Self, AllocError>
         ensures chained { IfOk result IsChained }
         ensures none { IfOk result (λ chains. chains.links.items ≡ []) }
@@ -39,8 +39,8 @@ impl Chains {
         })
     }
 
-    /// Returns the lowest slot of a bucket that is above `slot`: the slot that links to it, or would. `None` if no
-    /// slot of the bucket is above it. `slot` itself need not be in the bucket.
+    /// Returns the lowest slot of a bucket that is above `slot`: the slot that links to it, or would if `slot` were in
+    /// the bucket, which it need not be. `None` if the bucket has no slot above it.
     fn above(&self, bucket: u8, slot: u16) -> Option<u16>
         requires chained { IsChained self.now }
         requires bucket { bucket < BUCKETS }

@@ -25,7 +25,7 @@ pub fn records_are_few()
 {}
 
 /// The variables that a removal of an id logs and the variables that are left add up to all variables. So a removal
-/// logs exactly as many records as it removes variables.
+/// logs exactly one record for each variable that it removes.
 pub fn freed_and_left_are_all()
     ensures { (world : World) (id : ℕ)
         → length (rows_of_free_all world id) + finite.len (without_id world id).shadow ≡ finite.len world.shadow }

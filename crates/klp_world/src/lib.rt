@@ -2,9 +2,9 @@
 //! shadow variables (system-state, shadow-vars).
 //!
 //! The model is the world of the definitions (`klp_types/specs/World`). Each change makes one edit, or installs or
-//! removes one patch. It logs the rows that it changes; a row that doesn't change isn't logged. These records, put
-//! back newest first, restore the world, and each of them changes it (`specs/Changes`, `Undo`, `StoredEvent`). Only
-//! [`World::new`] takes memory. `laws` says the same of the records of scripts, and how few there are.
+//! removes one patch. It logs the rows that it changes; a row that doesn't change isn't logged. These records, put back
+//! newest first, restore the world, and each of them changes it (`specs/Changes`, `Undo`, `StoredEvent`). Only
+//! [`World::new`] takes memory. `laws` says the same of the records of scripts, and how many there are at most.
 //!
 //! Installed patches are one list, oldest first, and a second list has just their numbers. Shadow variables are in
 //! a table without gaps (`src/shadow_table.rt`). The slots whose keys have the same hash are linked to one another

@@ -28,9 +28,9 @@ use std::marker::Model;
 /// The installed patches with the values of their system states (system-state), and the shadow variables
 /// (shadow-vars).
 ///
-/// [`World::new`] takes all room. Each change logs every row that it changes, as it was, in the records that it is
-/// given; a row that doesn't change isn't logged. These records, put back newest first, restore the world before
-/// the change.
+/// [`World::new`] allocates all memory. Each change logs every row that it changes, as it was, in the records that it
+/// is given; a row that doesn't change isn't logged. These records, put back newest first, restore the world before the
+/// change.
 #[derive(Drop)]
 pub struct World {
     patches: Vec<InstalledPatch>,
@@ -73,8 +73,8 @@ fn note_states(patch: PatchId, states: &[SystemState], log: &mut Records)
     }
 }
 
-/// Returns the newest patch before `patch` that names the state. `None` if none does. It walks from the oldest
-/// patch and stops at `patch`, since later ones don't count.
+/// Returns the newest patch before `patch` that names the state. `None` if there is no such patch. It walks from the
+/// oldest patch and stops at `patch`, since later ones don't count.
 fn newest_before(patches: &[InstalledPatch], patch: PatchId, id: u64) -> Option<PatchId>
     ensures { result ≡ newest_naming id (installed_before patch patches.now) }
 {
@@ -91,7 +91,7 @@ fn newest_before(patches: &[InstalledPatch], patch: PatchId, id: u64) -> Option<
 }
 
 impl World {
-    /// Creates a world without installed patches and without shadow variables, and takes all room that later
+    /// Creates a world without installed patches and without shadow variables, and allocates all memory that later
     /// changes need. `Err` if memory is refused.
     pub fn new(alloc: Global) -> Result<Self, AllocError>
         ensures { IfOk result (λ world. world ≡ record { installed = []; shadow = finite.empty }) }
@@ -119,8 +119,8 @@ impl World {
     }
 
     /// Returns the lowest address, above `after`, of a parent object that has a shadow variable of this id, or the
-    /// lowest of all without `after`. `None` if none has one there. A caller goes over all variables of an id with it:
-    /// each next call gets the last answer. Each call walks over all variables.
+    /// lowest of all without `after`. `None` if there is no such parent object. To go over all variables of an id, a
+    /// caller passes each answer to the next call. Each call walks over all variables.
     pub fn next_parent(&self, id: u64, after: Option<u64>) -> Option<u64>
         ensures { IsNextParent self.now.shadow id (lowest_above after) result }
     {
@@ -314,7 +314,7 @@ impl World {
     }
 
     /// Returns how many records [`World::drop_states`] logs: one for each system state of the patch and one for the
-    /// patch itself, or 0 if it isn't installed. A caller asks first, to make sure that there is room for the
+    /// patch itself, or 0 if it isn't installed. A caller calls this first, to make sure that there is room for the
     /// records.
     pub fn drop_records(&self, patch: PatchId) -> usize
         ensures value { result ≡ length (rows_of_drop self.now patch) }
@@ -341,9 +341,9 @@ impl World {
         }
     }
 
-    /// Restores the one row that the record names; a record of another part of the state changes nothing. A row
-    /// without room is left out, so that the limits hold whatever the record is. A patch is taken out only once its
-    /// states are, since they are rows of their own. Records that are put back newest first never meet either case.
+    /// Restores the one row that the record names; a record of another part of the state changes nothing. A row without
+    /// room is left out, so that the limits hold whatever the record is. A patch is taken out only after all its
+    /// states, since they are rows of their own. Records that are put back newest first never meet either case.
     pub fn put_back(&mut self, row: Record)
         ensures { self.new ≡ put_back self.old row }
     {
@@ -420,7 +420,7 @@ impl World {
         }
     }
 
-    /// Undoes that a patch was installed or removed: takes it out if it has no states left, or inserts it without
+    /// Undoes the installing or removing of a patch: takes it out if it has no states left, or inserts it without
     /// states at its old index.
     fn put_patch(&mut self, patch: PatchId, place: Option<u8>)
         ensures { self.new ≡ record self.old { installed = put_patch patch place self.old.installed } }
