@@ -8,12 +8,12 @@ use crate::time::Moment;
 use klp_catalog_text::Lines;
 use std::alloc::Global;
 
-/// Some of the items of a list that follow one another.
+/// Some consecutive items of a list.
 #[derive(Clone, Copy)]
 pub struct Span {
     /// The first of them.
     pub from: usize,
-    /// The one behind the last.
+    /// The one after the last.
     pub to: usize,
 }
 
@@ -21,7 +21,7 @@ impl Span {
     /// No items.
     pub const EMPTY: Span = Span { from: 0, to: 0 };
 
-    /// These items. None of them if the list has fewer.
+    /// Returns these items, or none of them if the list has fewer.
     pub fn of<T>(self, items: &[T]) -> &[T]
         ensures { result.now ≡ span_of self items.now }
     {
@@ -63,14 +63,14 @@ pub struct SeenTask<'a> {
     pub frames: Span,
 }
 
-/// What a sample shows, without what is as it was.
+/// What a sample shows, without what hasn't changed.
 #[derive(Clone, Copy)]
 pub struct Sample {
     /// When it was taken, and what it counts.
     pub line: SampleLine,
-    /// The patches, as they were told last, in [`Capture::rows`].
+    /// The patches, as a sample last listed them, in [`Capture::rows`].
     pub patches: Span,
-    /// Whether this sample tells them.
+    /// Whether this sample itself lists them.
     pub tells_patches: bool,
     /// The tasks that it names, in [`Capture::seen`].
     pub tasks: Span,
@@ -87,7 +87,7 @@ pub struct LogLine<'a> {
     pub text: &'a [u8],
 }
 
-/// What `klpcap` recorded. Names are lent from its text.
+/// What `klpcap` recorded. Names are borrowed from its text.
 #[derive(Drop)]
 pub struct Capture<'a> {
     /// The kernel's release, and the machine.
@@ -150,7 +150,7 @@ impl<'a> Capture<'a> {
         }
     }
 
-    /// Adds a line about the patches. It belongs to those that the sample tells.
+    /// Adds a line about the patches. It belongs to those that the sample lists.
     fn add_row(&mut self, row: PatchRow<'a>) -> Result<(), CaptureFaultKind> {
         if !self.begun.tells_patches {
             return Err(CaptureFaultKind::Stray);
@@ -196,7 +196,7 @@ impl<'a> Capture<'a> {
         Ok(())
     }
 
-    /// The task above is inside of what it was inside of when it was named before.
+    /// Notes that the task above is inside of the same functions as when it was named before.
     fn keep_frames(&mut self) -> Result<(), CaptureFaultKind> {
         if self.seen.len() <= self.begun.tasks {
             return Err(CaptureFaultKind::Stray);

@@ -11,7 +11,7 @@ pub enum CaptureFaultKind {
     /// No line begins with this word, or what follows it isn't as wanted.
     BadLine,
     /// A line belongs to an object, a patch or a task, and no such line is above it in its sample. Or it is a second
-    /// heading, or stands behind the last line, `end`.
+    /// heading, or stands after the last line, `end`.
     Stray,
     /// A sample began before the one above it had ended.
     OutOfOrder,

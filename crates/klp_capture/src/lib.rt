@@ -1,8 +1,8 @@
 //! The log of a transition of a real kernel, as `klpcap` recorded it.
 //!
 //! [`Capture::read`] reads a log (docs/CAPTURE.md), and reports its first faulty line. Its samples share lists of what
-//! they have: patches, tasks, and the functions that these are inside of. So an hour of quiet samples is small. What a
-//! log comes to is told by the crates above.
+//! they have: patches, tasks, and the functions that these are inside of. So an hour of quiet samples is small. The
+//! crates above say what a log comes to.
 #![tactic(auto)]
 
 mod capture;

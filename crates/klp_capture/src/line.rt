@@ -16,7 +16,7 @@ pub enum Activity {
 pub struct TaskLine<'a> {
     /// The thread's number.
     pub thread: u64,
-    /// When the thread began, in ticks since boot: a number that is given again has another one.
+    /// When the thread began, in ticks since boot: a reused number has another start.
     pub start: u64,
     /// Whether it ran.
     pub activity: Activity,
@@ -63,7 +63,7 @@ pub struct SampleLine {
     pub tasks: u64,
     /// How many of them lagged, weren't followed, and ran.
     pub running: u64,
-    /// The same of those that slept.
+    /// The same for those that slept.
     pub sleeping: u64,
     /// Whether a patch changed while the sample was taken.
     pub is_torn: bool,
@@ -104,7 +104,7 @@ pub(crate) enum Line<'a> {
     },
     Task(TaskLine<'a>),
     Frame(FrameLine<'a>),
-    /// The task is inside of what it was inside of.
+    /// The task is inside of the same functions as before.
     SameFrames,
     Gone(u64),
     Sample(SampleLine),
@@ -139,7 +139,7 @@ fn named(word: &[u8]) -> Option<&[u8]> {
     if word.is_empty() { None } else { Some(word) }
 }
 
-/// A module as it stands behind a function: `[NAME]`. Nothing is there for the kernel itself.
+/// A module as it stands after a function: `[NAME]`. For the kernel itself nothing stands there.
 fn module_of(word: Option<&[u8]>) -> Option<Option<&[u8]>> {
     let Some(word) = word else {
         return Some(None);

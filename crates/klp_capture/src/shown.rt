@@ -1,4 +1,5 @@
-//! Whether a trace has what a log shows. The trace is read as text, line by line: so nothing of how it was found matters.
+//! Whether a trace has what a log shows. The trace is read as text, line by line: so it doesn't matter how it was
+//! found.
 ghost use Rattle.std.specs.Prelude.{◌≡◌, true, string_bytes, IfOk};
 ghost use Rattle.std.specs.List.{find, flat_map, list_any};
 ghost use Rattle.std.specs.Str.Lines.{lines};
@@ -260,8 +261,8 @@ impl<'a> Capture<'a> {
         Ok(stand)
     }
 
-    /// The number of the first sample that a trace doesn't show, of those that are judged among these first ones of the
-    /// log. None if it shows them all, each behind the one before.
+    /// The number of the first sample that a trace doesn't show, among the judged ones of these first samples of the
+    /// log. None if it shows them all, each after the one before.
     pub fn first_not_shown(
         &self,
         alloc: Global,

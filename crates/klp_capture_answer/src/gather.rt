@@ -141,7 +141,7 @@ fn left_of(alloc: Global, run: &Run<'_>, holding: &[Holding]) -> Result<Vec<Left
     Ok(left)
 }
 
-/// How a transition ended, if it did. The last one of a log that has a force ended by it.
+/// How a transition ended, if it did. If the log has a force, its last transition ended by the force.
 fn end_of(found: &Explained<'_>, moved: &Moved, is_last: bool) -> Option<EndReport> {
     if let Some(end) = moved.end {
         let how = match end.ending {

@@ -12,7 +12,7 @@ struct Seen<'a> {
     samples: u64,
 }
 
-/// The innermost function that a task is inside of, of those that were asked for.
+/// The innermost of the functions asked for that a task is inside of.
 fn asked_of<'a>(capture: &Capture<'a>, seen: &SeenTask<'a>) -> Option<&'a [u8]> {
     for frame in seen.frames.of(&capture.frames) {
         if capture.asked.contains(&frame.function) {
@@ -22,7 +22,7 @@ fn asked_of<'a>(capture: &Capture<'a>, seen: &SeenTask<'a>) -> Option<&'a [u8]> 
     None
 }
 
-/// Takes what a sample says. A task that it doesn't name is where it was.
+/// Takes what a sample says. A task that the sample doesn't name is where it was.
 fn take_sample<'a>(
     capture: &Capture<'a>,
     sample: &Sample,
@@ -59,7 +59,7 @@ fn take_sample<'a>(
     Ok(())
 }
 
-/// Who is inside of the functions that were asked for in the last sample. None if none were asked for.
+/// Who is inside of the functions asked for, in the last sample. Empty if none were asked for.
 pub(crate) fn inside_of(alloc: Global, capture: &Capture<'_>) -> Result<Vec<Inside>, AllocError> {
     let mut inside = Vec::new(alloc);
     let mut all = Vec::new(alloc);

@@ -1,4 +1,4 @@
-//! The sample that no run of the rules shows: what the log has there, and what the rules have.
+//! The sample that no run that was tried shows: what the log has there, and what the rules have.
 use crate::report::Refused;
 use klp_capture::{Capture, Text};
 use klp_capture_run::{Explained, Followed};
@@ -98,7 +98,7 @@ fn both_sides(
     Ok((log, rules))
 }
 
-/// The sample that no run of the rules shows, if there is one.
+/// The sample that no run that was tried shows, if there is one.
 pub(crate) fn refused_of(
     alloc: Global,
     capture: &Capture<'_>,

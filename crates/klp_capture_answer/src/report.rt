@@ -89,7 +89,7 @@ pub struct Left {
     pub(crate) function: String,
 }
 
-/// The sample that no run of the rules shows, and both sides there.
+/// The sample that no run that was tried shows, and both sides there.
 #[derive(Drop, Serialize)]
 pub struct Refused {
     pub(crate) from_us: u64,
@@ -105,19 +105,19 @@ pub struct Refused {
 pub struct Inside {
     pub(crate) task: TaskReport,
     pub(crate) function: String,
-    /// Whether it sleeps there, and so would hold a transition up. One that runs may leave before.
+    /// Whether it sleeps there, and so would hold a transition up. A running task may leave before.
     pub(crate) is_asleep: bool,
     /// In how many samples it was there.
     pub(crate) samples: u64,
 }
 
-/// How many tasks lag that the log doesn't follow, in its last sample.
+/// How many tasks the last sample shows, and how many of them lag unfollowed.
 #[derive(Clone, Copy, Serialize)]
 pub struct Counts {
     pub(crate) tasks: u64,
     pub(crate) running: u64,
     pub(crate) sleeping: u64,
-    /// How many tasks the log follows that aren't told, since at most 64 are.
+    /// How many tasks that the log follows are left out, since at most 64 are reported.
     pub(crate) left_out: u64,
     /// How many functions of the log's patches the catalog has no room for.
     pub(crate) functions_left_out: u64,
@@ -130,7 +130,7 @@ pub struct Counts {
 pub struct Samples {
     pub(crate) shown: u64,
     pub(crate) left_out: u64,
-    /// How many weren't come to: those behind a force, or behind the one that no run shows.
+    /// How many weren't reached: those after a force, or from the one that no run shows.
     pub(crate) later: u64,
 }
 

@@ -8,7 +8,7 @@ use klp_faulty_words::escaped::Escaped;
 use std::io::Write;
 use std::{fmt, io};
 
-/// How many tasks of one kind are told.
+/// How many tasks of one kind are written.
 const SHOWN: usize = 16;
 
 /// A name, without what would drive a terminal.
@@ -38,7 +38,7 @@ fn elapsed(from_us: u64, to_us: u64) -> Elapsed {
     Elapsed(seconds(from_us), seconds(to_us))
 }
 
-/// Ends a list of tasks of which only the first are told.
+/// Ends a list that names only the first of its tasks.
 fn print_more<W: Write>(count: usize, what: &str, out: &mut W) -> io::Result<()> {
     match count.saturating_sub(SHOWN) {
         0 => Ok(()),
@@ -328,7 +328,7 @@ fn print_inside<W: Write>(inside: &Inside, out: &mut W) -> io::Result<()> {
     }
 }
 
-/// The sample that no run of the rules shows, and both sides.
+/// The sample that no run that was tried shows, and both sides.
 fn print_refused<W: Write>(refused: &Refused, out: &mut W) -> io::Result<()> {
     let (from, to) = (seconds(refused.from_us), seconds(refused.to_us));
     writeln!(

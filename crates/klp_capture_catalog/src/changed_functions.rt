@@ -4,7 +4,7 @@ use klp_capture::{Capture, PatchRow};
 use klp_types::{MAX_FUNCTIONS, MAX_OBJECTS, MAX_SITES, MAX_TARGETS};
 use std::alloc::{AllocError, Global};
 
-/// How many functions for which there is no room are counted.
+/// How many functions without room are counted at most.
 const MOST_LEFT_OUT: usize = 4096;
 
 /// A function that a patch changes, as the rows have it.
@@ -20,7 +20,7 @@ pub(crate) struct FoundFunction<'a> {
 #[derive(Drop)]
 pub(crate) struct Found<'a> {
     pub(crate) functions: Vec<FoundFunction<'a>>,
-    /// Those for which a catalog has no room.
+    /// The functions that a catalog has no room for.
     pub(crate) left_out: Vec<FoundFunction<'a>>,
 }
 
@@ -143,8 +143,8 @@ pub(crate) fn is_shared(found: &[FoundFunction<'_>], function: &FoundFunction<'_
     })
 }
 
-/// Whether a patch has new functions, but none for one that another patch changes: only a cumulative patch gives a
-/// function back. So it is known as one before its transition completes.
+/// Whether a patch has new functions, but lacks one for some function that another patch changes: only a cumulative
+/// patch gives a function back. So it is known to be cumulative before its transition completes.
 fn gives_back(
     capture: &Capture<'_>,
     found: &[FoundFunction<'_>],

@@ -6,14 +6,14 @@ use klp_capture::{Capture, Moment, Sample};
 pub enum Since {
     /// The kernel's own log has its start.
     Logged(Moment),
-    /// That isn't known: at this sample, the first of it, or before.
+    /// The start isn't known: it was at this sample, the transition's first, or before.
     AtOrBefore(Moment),
 }
 
-/// What the kernel's log has where a transition is forced.
+/// What the kernel's log says when a transition is forced.
 const FORCED: &[u8] = b"forcing remaining tasks";
 
-/// What the kernel's log says of a patch, behind its name.
+/// What the kernel's log says of a patch, after its name.
 #[derive(Clone, Copy, PartialEq, Eq)]
 enum Milestone {
     /// A transition with this target starts.
@@ -39,13 +39,13 @@ fn milestone_of(text: &[u8], patch: &[u8]) -> Option<Milestone> {
 /// How far the clock of the kernel's log may be from that of the samples, in microseconds.
 const CLOCKS_APART: u64 = 200_000;
 
-/// Whether a moment of the kernel's log is behind the begin of a sample, as far as the clocks tell.
+/// Whether a moment of the kernel's log is after the begin of a sample, as far as the clocks show.
 fn is_behind(at: Moment, sample: Moment) -> bool {
     at.0.saturating_add(CLOCKS_APART) >= sample.0
 }
 
 /// Since when a transition is under way that a sample is the first to show. `before` is the last sample that didn't
-/// show it: a start that the kernel's log has from before is that of another transition.
+/// show it: an earlier start in the kernel's log is another transition's.
 pub fn since_when(
     capture: &Capture<'_>,
     patch: &[u8],
@@ -70,14 +70,14 @@ pub fn since_when(
     }
 }
 
-/// Whether bytes have others among them.
+/// Whether some bytes contain others.
 fn contains(bytes: &[u8], wanted: &[u8]) -> bool {
     bytes
         .windows(wanted.len().max(1))
         .any(|window| window == wanted)
 }
 
-/// When a transition was forced while it was recorded, by the kernel's log. That has older forces too.
+/// When a transition was forced while it was recorded, by the kernel's log. The log has older forces too.
 pub fn forced_in(capture: &Capture<'_>) -> Option<Moment> {
     let first = capture.samples.first()?.line.from;
     let line = capture

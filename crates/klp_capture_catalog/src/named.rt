@@ -13,7 +13,7 @@ const HANDLER: &[u8] = b"klp_ftrace_handler";
 
 const HANDLER_ADDRESS: u64 = 0xffff_ffff_8100_0000;
 
-/// What stands for an address that the log doesn't have, and how far the next one is.
+/// What replaces an address that the log lacks, and how far the next one is.
 const FIRST_ADDRESS: u64 = 0xffff_ffff_cf00_0000;
 
 const ADDRESS_STEP: u64 = 16;
@@ -27,7 +27,7 @@ const PREFIXES: [&[u8]; 3] = [b"", b"livepatch_", b"klpp_"];
 pub struct SeenPatch<'a> {
     /// What it is called.
     pub name: &'a [u8],
-    /// Whether older patches left when its transition completed.
+    /// Whether it is cumulative, by the log or by a guess.
     pub is_cumulative: bool,
 }
 
@@ -46,7 +46,7 @@ pub struct SeenFunction<'a> {
     pub index: Option<u16>,
     /// The name of the new function, if the log has it.
     pub new_name: Option<&'a [u8]>,
-    /// Where the new function is, or what stands for that.
+    /// Where the new function is, or an address that stands for that.
     pub new_address: u64,
 }
 
@@ -153,7 +153,7 @@ pub(crate) fn index_of<'a>(
     Ok(Some(names.len().saturating_sub(1)))
 }
 
-/// What the first sample tells of the patches.
+/// What the first sample says of the patches.
 fn first_rows<'c, 'a>(capture: &'c Capture<'a>) -> &'c [PatchRow<'a>] {
     let span = match capture.samples.first() {
         Some(sample) => sample.patches,
@@ -218,8 +218,8 @@ pub(crate) fn new_symbol_of<'a>(
 }
 
 impl<'a> Functions<'a> {
-    /// What a log names. `guesses` has the patch that is in transition last taken for a cumulative one: a log that was
-    /// cut off doesn't show that of it.
+    /// What a log names. With `guesses`, takes the last patch in transition for a cumulative one: a log that was cut
+    /// off doesn't show that.
     pub fn of(
         alloc: Global,
         capture: &Capture<'a>,
@@ -324,8 +324,7 @@ impl<'a> Functions<'a> {
         Ok(())
     }
 
-    /// Adds the symbols of each object that its functions are named by: those of the log, and others where it has too
-    /// few.
+    /// Adds the symbols of each object that its functions are named by: those of the log, and others if it has too few.
     fn add_symbols(&mut self, capture: &Capture<'a>) -> Result<(), AllocError> {
         for place in 0..self.functions.len() {
             let Some(function) = self.functions.get(place).copied() else {

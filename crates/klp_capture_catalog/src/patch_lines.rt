@@ -18,7 +18,7 @@ impl<'r> PatchLines<'r> {
         writeln!(self.text, "load {name}")
     }
 
-    /// It stood before the log began.
+    /// The patch stood before the log began.
     pub fn stand(&mut self) -> Result<(), AllocError> {
         self.load()?;
         self.poll()
@@ -37,8 +37,8 @@ impl<'r> PatchLines<'r> {
         self.text.push_str("poll\n")
     }
 
-    /// What led from one reading of its files to the next, but for the poll that completes a transition at the end. A
-    /// patch that a cumulative one replaced does nothing.
+    /// Writes what led from one reading of its files to the next, except the poll that completes a transition at the
+    /// end. A patch that a cumulative one replaced does nothing.
     pub fn change(
         &mut self,
         before: Files,
@@ -59,7 +59,7 @@ impl<'r> PatchLines<'r> {
         }
     }
 
-    /// What its files read.
+    /// Writes what its files read.
     pub fn saw(&mut self, files: Files) -> Result<(), AllocError> {
         let name = Text(self.name);
         match files {
@@ -81,7 +81,7 @@ pub fn completes(before: Files, after: Files, is_replaced: bool) -> bool {
     }
 }
 
-/// Whether a transition starts by a change of a patch's files: not where it is reversed, or goes on.
+/// Whether a transition starts by a change of a patch's files: not if it is reversed, or goes on.
 pub fn starts(before: Files, after: Files, is_replaced: bool) -> bool {
     match (before, after) {
         (None, Some(_)) => true,

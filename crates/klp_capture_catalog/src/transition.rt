@@ -34,7 +34,7 @@ pub struct End {
 pub enum Ending {
     /// All tasks reached its target.
     Complete,
-    /// It was turned round. The patch may be back at the other end already.
+    /// It was reversed. The patch may be back at the other end already.
     Reversed,
 }
 
@@ -44,7 +44,7 @@ impl Moved {
         self.patch == patch && self.target == target
     }
 
-    /// What came of it, by what its patch's files read once it isn't under way.
+    /// What came of it, by what its patch's files read afterwards.
     pub fn ending_by(&self, files: Files) -> Ending {
         let is_enabled = matches!(files, Some((true, _)));
         if is_enabled == self.target {

@@ -1,4 +1,4 @@
-//! A log explained: a catalog of what it names, a run of the rules that shows it, and whether that is one.
+//! Explaining a log: a catalog of what it names, a run of the rules that shows it, and whether it really is one.
 ghost use Rattle.std.specs.Prelude.{◌≡◌, ◌≤◌, ◌<◌, ◌↔◌, true, false, length, string_bytes, None, is_some, Ok, IfOk};
 ghost use Rattle.std.specs.Prelude.{IfSome};
 ghost use Rattle.std.specs.Str.Lines.{lines};
@@ -30,26 +30,26 @@ pub struct Explained<'a> {
     pub threads: Vec<Thread>,
     /// The text of the catalog, whose patches, objects and functions are those that the log names.
     pub catalog: String,
-    /// Which sample no run of the rules leads to, if there is one; the first counts as 0.
+    /// The first sample that none of the runs leads to which were tried, if there is one, counted from 0.
     pub failed: Option<usize>,
-    /// The same in a log that was cut off. A force may lead to that sample, whose line such a log lacks. So neither it
-    /// nor what comes later is judged.
+    /// The same in a log that was cut off. Such a log may lack the line of a force that leads there. So neither that
+    /// sample nor what comes later is judged.
     pub unjudged: Option<usize>,
-    /// The first sample that the trace lacks, though something led to it. There is none unless the search is at fault.
+    /// The first sample that the trace lacks, though something led to it. There is one only if the search is at fault.
     pub unshown: Option<usize>,
-    /// How many samples weren't come to: those behind a force, and those from the first on that nothing leads to.
+    /// How many samples weren't reached: those after a force, and those from the first that nothing leads to.
     pub later: u64,
-    /// When the transition was forced, if it was. What was seen later isn't looked at.
+    /// When the transition was forced, if it was. Later samples aren't looked at.
     pub forced: Option<Moment>,
-    /// What is said of the trace.
+    /// The verdict on the trace.
     pub verdict: Verdict,
     /// Who lags at the end of the trace, by the numbers of the tasks. None if the trace isn't as the rules say.
     pub lags: Option<Lags>,
 }
 
 impl<'a> Explained<'a> {
-    /// Whether a run of the rules shows what was recorded: some sample is in the trace, nothing leads to none of them,
-    /// the trace is honest, and it is known who lags at its end.
+    /// Whether a run of the rules shows what was recorded: some sample is in the trace, no sample is `failed` or
+    /// `unshown`, the trace is honest, and it is known who lags at its end.
     pub fn is_explained(&self) -> bool
         ensures { (result ≡ true) ↔
             ((is_honest self.now.verdict ≡ true) × (self.now.failed ≡ None) × (self.now.unshown ≡ None)
@@ -66,7 +66,7 @@ impl<'a> Explained<'a> {
         }
     }
 
-    /// Whether no run of the rules shows what was recorded. A log that shows no sample at all is neither explained nor
+    /// Whether no run that was tried shows what was recorded. A log that shows no sample at all is neither explained nor
     /// refuted.
     pub fn is_refuted(&self) -> bool
         ensures { (result ≡ false) ↔
@@ -87,8 +87,8 @@ impl<'a> Explained<'a> {
 }
 
 impl<'a> Explained<'a> {
-    /// The tasks that hold the transition up at the end of the trace, which is the last settled sample. None does if no
-    /// transition is under way there.
+    /// The tasks that hold the transition up at the end of the trace, which is the last settled sample. There are none
+    /// if no transition is under way there.
     pub fn holders(&self, alloc: Global) -> Result<Vec<Holder>, AllocError>
         ensures { IfOk result (λ list. list.items ≡ holders_in self.now.lags) }
     {
@@ -107,7 +107,7 @@ impl<'a> Explained<'a> {
     }
 }
 
-// The manager goes then.
+// Drops the manager then.
 fn explore_by<'a>(
     alloc: Global,
     manager: Manager,
@@ -122,7 +122,7 @@ fn explore_by<'a>(
     failed
 }
 
-// Boots a manager over a plan. The callbacks are made here, as where a trace is watched; a plan of a log has none.
+// Boots a manager over a plan. The callbacks are made here, as for watching a trace; a log's plan has none.
 fn explore_over_plan<'a>(
     alloc: Global,
     plan: Plan,
@@ -167,7 +167,7 @@ fn explored<'a>(
     })
 }
 
-/// How far a run comes: the first sample that it doesn't lead to.
+/// How far a run gets: the first sample that it doesn't lead to.
 fn reached(
     alloc: Global,
     capture: &Capture<'_>,
@@ -178,8 +178,8 @@ fn reached(
     Ok(found.stopped)
 }
 
-/// Whether a run comes further if the patch that is in transition last is taken for a cumulative one. A log shows that
-/// only once its transition is complete, or by the symbols at its end. One that was cut off may lack both.
+/// Whether a run gets further if the last patch in transition is taken for a cumulative one. A log shows this only once
+/// the transition is complete, or by the symbols at the log's end. A log that was cut off may lack both.
 fn is_better_guessed(
     alloc: Global,
     capture: &Capture<'_>,
@@ -207,9 +207,9 @@ fn samples_before(number: Option<usize>, samples: &[Sample]) -> &[Sample]
     }
 }
 /// Explains a log: makes a catalog of what it names, and looks for a run of the rules that shows each sample. The
-/// verdict is that of `klpwatch` on the trace that was found, over that catalog. Up to the first sample to which
-/// nothing leads, the trace has each that is settled and before a force: the states of the tasks that it names, and the
-/// files of the patches. Who lags at the end is what the rules say of the state that the trace leads to.
+/// verdict is that of `klpwatch` on the trace that was found, over that catalog. Up to the first sample that nothing
+/// leads to, the trace shows each settled sample before a force: the states of the tasks that the sample names, and the
+/// files of the patches. The rules say who lags at the end, by the state that the trace leads to.
 pub fn explain<'a>(alloc: Global, capture: &Capture<'a>) -> Result<Explained<'a>, Fault>
     ensures judged { IfOk result
         (λ found. Watches (string_bytes found.catalog) (string_bytes found.run.trace) (Ok found.verdict)) }

@@ -54,7 +54,7 @@ fn holds(manager: &mut Manager, item: &Observed) -> bool
     }
 }
 
-/// Whether a manager takes the events of these lines, and shows between them what they say. Calls are compared by the
+/// Whether a manager takes the events of these lines, whatever it answers, and shows between them what they say. Calls are compared by the
 /// versions that ran. The events that it took stay.
 pub(crate) fn fits(alloc: Global, manager: &mut Manager, text: &str) -> bool
     requires { IsWellFormed manager.old }

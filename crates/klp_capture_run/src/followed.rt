@@ -10,7 +10,7 @@ use std::alloc::AllocError;
 pub struct Followed<'a> {
     /// The thread's number.
     pub thread: u64,
-    /// When the thread began, so that a number that is given again isn't taken for the same thread.
+    /// When the thread began, so that a reused number isn't taken for the same thread.
     pub start: u64,
     /// What it is called.
     pub name: &'a [u8],
@@ -20,7 +20,7 @@ pub struct Followed<'a> {
     /// The functions that it called and hasn't returned from, outermost first.
     pub(crate) inside: Vec<SeenVersion>,
     pub(crate) state: PatchedState,
-    /// How often it had a processor, as it was seen last.
+    /// How often it had got a processor when it was seen last.
     pub(crate) runs: u64,
     /// Since when it hasn't run, as far as was seen.
     pub(crate) since: Moment,
@@ -81,7 +81,7 @@ impl<'r, 'a> TaskLines<'r, 'a> {
         writeln!(self.text, "task {word} {number}")
     }
 
-    /// It calls a function, and this version of it runs.
+    /// The task calls a function, and this version of it runs.
     fn call(&mut self, place: SeenVersion) -> Result<(), AllocError> {
         let number = self.number;
         write!(self.text, "call {number} ")?;
@@ -116,7 +116,7 @@ impl<'r, 'a> TaskLines<'r, 'a> {
         self.text.push_str("\n")
     }
 
-    /// It begins, and gets to where it was seen first.
+    /// The task begins, and gets to where it was seen first.
     pub(crate) fn begin(&mut self, seen: &Sighting) -> Result<(), AllocError> {
         self.event("new")?;
         if seen.activity == Activity::Running && seen.places.is_empty() {
@@ -132,7 +132,8 @@ impl<'r, 'a> TaskLines<'r, 'a> {
         Ok(())
     }
 
-    /// It ran since it was seen last, and gets to where it is now. If it was switched it left the kernel meanwhile.
+    /// The task ran since it was seen last, and gets to where it is now. If it was switched, it left the kernel in
+    /// between.
     pub(crate) fn go_on(
         &mut self,
         task: &Followed<'_>,
@@ -166,7 +167,7 @@ impl<'r, 'a> TaskLines<'r, 'a> {
         Ok(())
     }
 
-    /// It returns from all functions, and ends.
+    /// The task returns from all functions, and ends.
     pub(crate) fn end(&mut self, task: &Followed<'_>) -> Result<(), AllocError> {
         if task.mode == Mode::Asleep {
             self.event("wake")?;
@@ -175,7 +176,7 @@ impl<'r, 'a> TaskLines<'r, 'a> {
         self.event("end")
     }
 
-    /// What its `patch_state` read.
+    /// What the task's `patch_state` read.
     pub(crate) fn saw(&mut self, state: PatchedState) -> Result<(), AllocError> {
         let number = self.number;
         let state = match state {

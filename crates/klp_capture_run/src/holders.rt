@@ -1,5 +1,5 @@
-//! Who holds a transition up at the end of a trace. The trace is read back, and done over a manager that is booted
-//! anew: so what is told follows from the rules and the trace alone, and not from how the trace was found.
+//! Who holds a transition up at the end of a trace. The trace is read back, and done over a newly booted manager: so
+//! the result follows from the rules and the trace alone, and not from how the trace was found.
 ghost use Rattle.std.specs.Prelude.{◌≡◌, ◌≤◌, ◌++◌, length, OnOk, IfOk, IfSome};
 ghost use Rattle.klp_catalog_text.specs.Within.{AreTargetsWithin};
 ghost use Rattle.klp_capture_run.specs.Holders.{LagBehind, LagBehindTrace, LagOverPlan, LagOver, holder_at};
@@ -15,7 +15,7 @@ use klp_types::{MAX_TASKS, Version};
 use klp_watch::{Observed, compare_whole};
 use std::alloc::{AllocError, Global};
 
-/// For each task why it isn't at the target of the transition that is under way.
+/// For each task, why it isn't at the target of the transition under way.
 pub type Lags = [Option<Lag>; MAX_TASKS];
 
 /// A task that holds a transition up.
@@ -41,7 +41,7 @@ fn lags_behind(manager: Manager, items: &[Observed]) -> Option<Lags>
     }
 }
 
-// The same of the items of a trace. None if it can't be read.
+// The same for the items of a trace. None if it can't be read.
 fn lags_behind_trace(alloc: Global, manager: Manager, trace: &[u8]) -> Option<Lags>
     ensures { IfSome result (λ lags. LagBehindTrace manager trace.now lags) }
 {
@@ -54,7 +54,7 @@ fn lags_behind_trace(alloc: Global, manager: Manager, trace: &[u8]) -> Option<La
     }
 }
 
-// The same over a plan. The callbacks are made here, as where a trace is watched; a plan of a log has none.
+// The same over a plan. The callbacks are made here, as for watching a trace; a log's plan has none.
 fn lags_over_plan(alloc: Global, plan: Plan, trace: &[u8]) -> Result<Option<Lags>, Fault>
     requires { AreTargetsWithin (length plan.objects) plan.patches }
     ensures { IfOk result (λ found. IfSome found (λ lags. LagOverPlan plan trace.now lags)) }

@@ -11,7 +11,7 @@ use std::alloc::{AllocError, Global};
 struct Lines<'r, 'a> {
     run: &'r Run<'a>,
     text: String,
-    /// Before which of the places a poll stands; they count from 0.
+    /// The place before which a poll stands, counted from 0.
     poll: Option<usize>,
     place: usize,
 }
@@ -34,7 +34,7 @@ impl<'r, 'a> Lines<'r, 'a> {
         }
     }
 
-    /// The tasks that the sample doesn't name were as before when it was taken.
+    /// Adds that the tasks which the sample doesn't name were as before when it was taken.
     fn add_unnamed(&mut self, step: &Step, known: usize) -> Result<(), AllocError> {
         for number in 0..known {
             let is_named = step.named.iter().any(|named| named.number == number);
@@ -50,7 +50,7 @@ impl<'r, 'a> Lines<'r, 'a> {
         Ok(())
     }
 
-    /// Which modules were loaded.
+    /// Adds which modules were loaded.
     fn add_loads(&mut self, loads: &[usize]) -> Result<(), AllocError> {
         for object in loads {
             let name = Text(
@@ -66,7 +66,7 @@ impl<'r, 'a> Lines<'r, 'a> {
         Ok(())
     }
 
-    /// The patches that stood when the log began.
+    /// Adds the patches that stood when the log began.
     fn add_standing(&mut self) -> Result<(), AllocError> {
         for (patch, files) in self.run.functions.patches.iter().zip(&self.run.files) {
             if files.is_some() {
@@ -80,7 +80,7 @@ impl<'r, 'a> Lines<'r, 'a> {
         Ok(())
     }
 
-    /// What happened to patches, but for the completion of a transition.
+    /// Adds what happened to patches, except the completion of a transition.
     fn add_changes(&mut self, after: &[Files]) -> Result<(), AllocError> {
         for (number, patch) in self.run.functions.patches.iter().enumerate() {
             let before = self.run.files.get(number).copied().unwrap_or(None);
@@ -95,7 +95,7 @@ impl<'r, 'a> Lines<'r, 'a> {
         Ok(())
     }
 
-    /// What a task did that is named, if it ran.
+    /// Adds what a named task did, if it ran.
     fn add_task(&mut self, facts: &Facts, named: &Named) -> Result<(), AllocError> {
         let Some(task) = self.run.tasks.get(named.number) else {
             return Ok(());

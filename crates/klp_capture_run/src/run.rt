@@ -1,9 +1,9 @@
 //! A run of the rules that shows what a log shows, sample by sample.
 //!
 //! A log says what was, not what happened. Between two samples this looks for events that the rules allow, and that
-//! lead from one to the next: it tries lines of a trace on a manager, compares what is shown then, and takes them back
-//! where it isn't as the log has it. It needs no trust: what it finds is a trace, which is held against the rules as
-//! any other.
+//! lead from one to the next: it tries lines of a trace on a manager, compares what the manager shows then, and takes
+//! the lines back if the log shows something else. The search needs no trust: it finds a trace, which is checked
+//! against the rules like any other.
 ghost use Rattle.klp_core.specs.Journaled.{IsWellFormed};
 
 use crate::fits::fits;
@@ -38,7 +38,7 @@ pub struct Run<'a> {
     pub shown: u64,
     /// The transitions that were seen, in their order.
     pub transitions: Vec<Moved>,
-    /// The last sample that was come to.
+    /// The last sample that was reached.
     pub last: Option<usize>,
 }
 
@@ -102,9 +102,9 @@ impl<'a> Run<'a> {
         Ok(loads)
     }
 
-    /// Goes on to a sample: looks for lines that lead to it, and takes their events. False if there are none; then the
-    /// trace has the lines that were tried first. But a log that was cut off may lack the line of a force that leads to
-    /// it, so such lines aren't to be judged.
+    /// Goes on to a sample: looks for lines that lead to it, and takes their events. Returns false if there are none.
+    /// Then the trace gets the lines that were tried first, if the log is whole: one that was cut off may lack the line
+    /// of a force, so these lines aren't to be judged.
     fn advance(
         &mut self,
         alloc: Global,
@@ -212,7 +212,7 @@ impl<'a> Run<'a> {
         Ok(())
     }
 
-    /// Notes what is under way in a sample that was come to, and who lags behind it.
+    /// Notes what is under way in a sample that was reached, and who lags behind it.
     fn note(
         &mut self,
         manager: &Manager,
@@ -238,8 +238,7 @@ impl<'a> Run<'a> {
         Ok(())
     }
 
-    /// Goes on to each sample in turn, up to this moment. Returns the number of the first sample to which nothing
-    /// leads.
+    /// Goes on to each sample in turn, up to this moment. Returns the number of the first sample that nothing leads to.
     pub(crate) fn explore(
         &mut self,
         alloc: Global,

@@ -1,4 +1,4 @@
-//! What a run knows once it has come to a sample.
+//! What a run knows once it has reached a sample.
 use crate::followed::{Followed, Sighting, Stay};
 use crate::run::Run;
 use crate::step::{Facts, Named, Step, state_at};
@@ -8,7 +8,7 @@ use klp_core::Lag;
 use klp_types::Mode;
 use std::alloc::AllocError;
 
-/// What a task is inside of, and how it is, once it was seen so.
+/// Returns the mode of a task that was seen so.
 fn mode_of(seen: &Sighting) -> Mode {
     if seen.is_asleep() {
         Mode::Asleep
@@ -18,8 +18,8 @@ fn mode_of(seen: &Sighting) -> Mode {
 }
 
 impl<'a> Followed<'a> {
-    /// It lags so in a sample of a transition, or doesn't. A stay goes on as long as it holds the transition up in the
-    /// same function in samples that follow one another, and doesn't run.
+    /// Notes how the task lags in a sample of a transition, if it does. A stay goes on as long as the task holds the
+    /// transition up in the same function in successive samples, and doesn't run.
     pub(crate) fn note_lag(
         &mut self,
         lag: Option<Lag>,
@@ -49,7 +49,7 @@ impl<'a> Followed<'a> {
         Ok(())
     }
 
-    /// It has begun, and is where it was seen first.
+    /// The task has begun, and is where it was seen first.
     fn settle_begun(&mut self, facts: &Facts, seen: Sighting) {
         let is_outside = seen.activity == Activity::Running && seen.places.is_empty();
         self.mode = if is_outside {
@@ -67,7 +67,7 @@ impl<'a> Followed<'a> {
         }
     }
 
-    /// It was seen so.
+    /// Notes how the task was seen.
     fn settle(&mut self, facts: &Facts, seen: Sighting) {
         let has_left = facts.is_switched(self.state, &seen);
         self.state = seen.state;
@@ -86,7 +86,7 @@ impl<'a> Followed<'a> {
 }
 
 impl<'a> Run<'a> {
-    /// The run has come to this sample.
+    /// Notes that the run has reached this sample.
     pub(crate) fn settle(&mut self, step: Step, after: Vec<Files>, loads: &[usize]) {
         let Step {
             facts,
@@ -119,7 +119,8 @@ impl<'a> Run<'a> {
         }
     }
 
-    /// What the files read before the first sample: the patches that it shows stood already, but for one that comes.
+    /// Notes what the files read before the first sample: the patches that it shows stood already, except one that is
+    /// being enabled.
     pub(crate) fn stand(&mut self, after: &[Files]) {
         for patch in 0..self.files.len() {
             let now = after.get(patch).copied().unwrap_or(None);

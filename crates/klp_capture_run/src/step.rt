@@ -27,7 +27,7 @@ pub(crate) struct Named {
     pub(crate) seen: Sighting,
 }
 
-/// A sample, and what has to be told before it.
+/// A sample, and what the trace must say before it.
 #[derive(Drop)]
 pub(crate) struct Step {
     pub(crate) facts: Facts,
@@ -35,7 +35,7 @@ pub(crate) struct Step {
     pub(crate) named: Vec<Named>,
     /// The numbers of the tasks that have ended.
     pub(crate) ended: Vec<usize>,
-    /// The tasks that begin before it, the first of which has the next number.
+    /// The tasks that begin before it. The first has the next number.
     pub(crate) begun: Vec<Sighting>,
 }
 
@@ -48,7 +48,7 @@ pub(crate) fn state_at(target: bool) -> PatchedState {
 }
 
 impl<'a> Run<'a> {
-    /// The functions that a task is inside of, outermost first, as far as the log's patches have to do with them.
+    /// The functions that a task is inside of, outermost first, as far as the log's patches concern them.
     fn places_of(
         &self,
         alloc: Global,
@@ -126,7 +126,8 @@ impl<'a> Run<'a> {
     }
 }
 
-/// Where a transition that starts in a sample ends: the number of the first sample that shows another one, or none.
+/// Where a transition that starts in a sample ends: the number of the first sample that shows another transition, or
+/// none.
 fn end_of_transition(capture: &Capture<'_>, number: usize) -> usize {
     let samples = capture.samples.get(number..).unwrap_or(&[]);
     let Some(first) = samples.first() else {
@@ -157,7 +158,7 @@ impl<'a> Run<'a> {
         Ok(files)
     }
 
-    /// Whether a patch is gone since a cumulative one replaced it: the other's transition completed.
+    /// Whether a patch is gone because a cumulative patch replaced it, whose transition completed.
     pub(crate) fn is_replaced(&self, patch: usize, after: &[Files]) -> bool {
         let pairs = self.files.iter().zip(after);
         pairs.zip(&self.functions.patches).enumerate().any(|(other, ((before, after), found))| {
@@ -165,7 +166,7 @@ impl<'a> Run<'a> {
         })
     }
 
-    /// What a sample says, and what has to be told before it.
+    /// What a sample says, and what the trace must say before it.
     pub(crate) fn step(
         &mut self,
         alloc: Global,
@@ -180,7 +181,7 @@ impl<'a> Run<'a> {
         } else {
             number.saturating_add(1)
         };
-        // What was told in samples that were left out counts too.
+        // What samples say that were left out counts too.
         let first = match self.last {
             Some(last) => last.saturating_add(1),
             None => 0,
@@ -283,7 +284,7 @@ impl<'a> Run<'a> {
 }
 
 impl Facts {
-    /// Whether a task that ran was switched meanwhile, as it left the kernel. It was in this state before.
+    /// Whether a task that ran was switched in between, by leaving the kernel. `before` is its earlier state.
     pub(crate) fn is_switched(&self, before: PatchedState, seen: &Sighting) -> bool {
         let Some(target) = self.target else {
             return false;

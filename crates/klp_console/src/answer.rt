@@ -22,8 +22,8 @@ use klp_console_io::{Answers, Failed, Marks, Sink};
 use klp_core::Manager;
 use klp_model::{Event, Refusal, Reply};
 
-/// Undoes all events but the first `mark`, and says whether that was done. Returns whether the journal has fewer
-/// events, so that nothing was undone.
+/// Undoes all events but the first `mark`, and says whether that was done. Returns true if the journal has fewer
+/// events; then nothing was undone.
 fn rewind<W: Sink>(manager: &mut Manager, mark: u32, answers: &mut Answers, writer: &mut W) -> bool
     requires { answers.old.has_failed ≡ false }
     ensures { IsSaid (IsRewoundAs manager.old manager.new mark) (answers.old, W.written writer.old)
@@ -41,8 +41,8 @@ fn rewind<W: Sink>(manager: &mut Manager, mark: u32, answers: &mut Answers, writ
     }
 }
 
-/// Takes an event, says its reply or refusal, and returns that. It is inlined, so that callers who drop the reply don't
-/// pay for copying it.
+/// Takes an event, says its reply or refusal, and returns the same. Inlined, so that callers who drop the reply don't
+/// pay for a copy.
 #[inline(always)]
 fn answer_event<W: Sink>(
     manager: &mut Manager,
@@ -153,7 +153,7 @@ fn take_line<W: Sink>(
 /// the same function as `serve`. An `Err` means that the sink failed or took nothing: the line is done all the same,
 /// but the end of its answer is missing.
 ///
-/// The line may have any length. The cost is that of its words and of what it asks for. Allocates nothing.
+/// The line may have any length. It costs as much as its words and what it asks for. Allocates nothing.
 pub fn answer_line<W: Sink>(
     manager: &mut Manager,
     line: &[u8],
@@ -185,8 +185,8 @@ fn count(served: &mut Served, is_refused: bool)
     }
 }
 
-/// Does what a line asks for and gathers its answer. The sink may fail meanwhile, in an earlier answer; then the line
-/// is taken back. So the line must be one that can be taken back, unless nothing is gathered before it.
+/// Does what a line asks for and gathers its answer. If the sink fails at an earlier answer, takes the line back. So
+/// the line must be one that can be taken back, unless no answer is gathered before it.
 fn gather<W: Sink>(
     manager: &mut Manager,
     asked: &Option<Result<Asked, LineFault>>,
@@ -220,7 +220,7 @@ fn gather<W: Sink>(
     }
 }
 
-/// Answers a line and counts it. A line that can be taken back is done ahead: its answer is gathered behind the answers
+/// Answers a line and counts it. A line that can be taken back is done ahead: its answer is gathered after the answers
 /// that aren't written yet. Before any other line, all gathered answers are written.
 pub(crate) fn serve_line<W: Sink>(
     manager: &mut Manager,

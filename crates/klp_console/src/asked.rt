@@ -1,4 +1,4 @@
-//! What a line or a word asks for, for callers that don't do it at once. Of the manager only the names are used, so its
+//! What a line or a word asks for, for callers that don't do it at once. Only the manager's names are used, so its
 //! state makes no difference.
 ghost use Rattle.std.specs.Prelude.{◌≡◌};
 ghost use Rattle.klp_console.specs.Asked.{event_of, site_of};

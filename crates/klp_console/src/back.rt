@@ -39,13 +39,12 @@ pub(crate) fn take_back(manager: &mut Manager, marks: &Marks, answers: &Answers,
     ensures { IsTakenBack manager.old manager.new (events_at_cut (gathered - answers.now.held) marks.now) }
 {
     if let Some(events) = marks.events_at_cut(gathered - answers.held()) {
-        // the journal has that many, since no line after the mark removed any
+        // the journal has so many events: no line after the mark removed any
         let _ = manager.rewind(events);
     }
 }
 
-/// Marks the line that was answered last. If all that was gathered before it is written, first drops the marks before
-/// it.
+/// Marks the line that was answered last. First drops all earlier marks, if all answers before this line's are written.
 pub(crate) fn mark_line(marks: &mut Marks, answers: &Answers, events: u32)
     requires { length marks.old < MARKS_ROOM }
     ensures { marks.new ≡ back.marks_on answers.now.held marks.old
@@ -83,8 +82,8 @@ pub(crate) fn write_out<W: Sink>(
     }
 }
 
-/// Writes all gathered answers if the next line can't be taken back, or if there is no room for another mark. So when a
-/// line is done that can't be taken back, all answers before it are written.
+/// Writes all gathered answers if the next line can't be taken back, or if there is no room for another mark. So all
+/// earlier answers are written before a line is done that can't be taken back.
 pub(crate) fn make_ready<W: Sink>(
     manager: &mut Manager,
     is_ahead: bool,

@@ -1,4 +1,4 @@
-//! Serving a whole input, by reads into room of a fixed size, until the end.
+//! Serving a whole input until its end, by reads into a buffer of a fixed size.
 ghost use Rattle.std.specs.Prelude.{◌≡◌, ◌+◌, ◌<◌, ◌≤◌, ◌^◌, false, [], ◌∷◌, ◌++◌, length, IfOk, IfErr};
 ghost use Rattle.klp_types.specs.declared.limits.TheConstants.{MAX_CONSOLE_LINE};
 ghost use Rattle.klp_console_io.specs.Lines.{lines_and_rest};
@@ -97,9 +97,9 @@ fn end<W: Sink>(
 /// A line ends with a line feed, or with the input, and has at most [`MAX_CONSOLE_LINE`](klp_types::MAX_CONSOLE_LINE)
 /// bytes. Each answer is written before the next read, so that someone who types sees it at once. The contract implies
 /// this, since any read may be the one that fails (docs/DECISIONS.md, "Answers before the next read"). A patch that was
-/// withdrawn leaves no trace, as after `Manager::run`. That holds in comparison with the state before any of the lines,
-/// if no later line is a `seal`, or a `rewind` to before that line. A line costs as much as its words and what it asks
-/// for. Allocates nothing.
+/// withdrawn leaves no trace, as after `Manager::run`. Compared with the state before any one line, this holds if no
+/// later line is a `seal`, or a `rewind` to before that line. A line costs as much as its words and what it asks for.
+/// Allocates nothing.
 pub fn serve<R: Source, W: Sink>(
     reader: &mut R,
     writer: &mut W,
@@ -150,6 +150,6 @@ pub fn serve<R: Source, W: Sink>(
             return Err(fault);
         }
     }
-    // So many reads were made, and none was the end. An input that never ends must be stopped somewhere.
+    // All `MAX_READS` reads were made, and none was the end. Serving must stop somewhere if an input never ends.
     Err(ServeFault::Read)
 }

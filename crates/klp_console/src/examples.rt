@@ -1,5 +1,5 @@
-//! Worked examples of answers, proved by computation. A function here does nothing: its contract is the example, and a
-//! definition that gives another text isn't proved.
+//! Worked examples of answers, proved by computation. A function here does nothing: its contract is the example, and
+//! its proof fails if a definition gives another text.
 ghost use Rattle.std.specs.Prelude.{◌≡◌, negsuc, true, false, [], ◌∷◌, codes, None, Some, Ok, Err};
 ghost use Rattle.klp_types.specs.declared.version.Version.TheVariants.{Original, New};
 ghost use Rattle.klp_model.specs.declared.event.Reply.TheVariants.{Done, Started, Reversed, Pending, Completed};

@@ -6,8 +6,8 @@ ghost use Rattle.klp_console.specs.Served.{Console, HasWriteFailed};
 
 /// The bytes that were written determine which lines are done after a failed write. Take two servings of the same lines
 /// by one manager, whose sinks took the same bytes. They have done the same lines, and leave the same manager except
-/// for its undo records, however reads cut the input and whatever was done ahead of its answer. This holds for lines
-/// that the journal has room for: of an event's records it is only promised that they are few and undo the event.
+/// for its undo records, however reads cut the input and whichever lines were done ahead of their answers. This holds
+/// for lines that the journal has room for: an event's records are only promised to be few and to undo the event.
 pub fn what_stands_is_sent_by_what_was_written()
     ensures { (before after other : Console) (all : List (List ℕ)) (taken : List ℕ)
         → (one : HasWriteFailed before after) → (two : HasWriteFailed before other)

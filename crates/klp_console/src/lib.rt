@@ -9,8 +9,8 @@
 //! An answer is one or more whole lines, and each call writes exactly the defined text. A refusal is answered with its
 //! number and its name (`specs/Refusals`). A reply says what the event did, with the names of patch and object, and
 //! with a task's functions outermost first, by symbol and position or by patch and index (`specs/Replies`, `Names`). A
-//! query is answered with the text that the definition gives for the manager, line by line: the files of patches and
-//! tasks, the text and the entries of sites, and what callbacks did (`specs/Queries`); or it is refused. Nothing here
+//! query is refused, or answered with the text that the definition gives for the manager, line by line: the files of
+//! patches and tasks, the text and the entries of sites, and what callbacks did (`specs/Queries`). Nothing here
 //! allocates.
 //!
 //! `examples` has every reply and refusal, and the answers to queries of a small kernel.

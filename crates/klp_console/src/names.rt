@@ -1,4 +1,4 @@
-//! The names in answers. Replies have numbers, which nobody should have to look up.
+//! The names in answers. Replies have numbers; nobody should have to look these up.
 ghost use Rattle.std.specs.Prelude.{◌≡◌, ◌++◌, codes};
 ghost use Rattle.klp_console_io.specs.Says.{Says};
 ghost use Rattle.klp_console_io.specs.Texts.{address_text};

@@ -82,7 +82,7 @@ pub(crate) fn say_query<W: Sink>(
     result
 }
 
-/// Answers a write of 0 to the `force` file of a patch. Says that it was done, though it does nothing, as in the kernel
+/// Answers a write of 0 to the `force` file of a patch. Says `ok`, though the write does nothing, as in the kernel
 /// (`force_store`). If the patch isn't installed, says `NotFound` and returns it.
 pub(crate) fn say_force_nothing<W: Sink>(
     answers: &mut Answers,

@@ -35,8 +35,8 @@ fn refusal_line(refusal: Refusal) -> &'static [u8]
 }
 
 /// Says why an event was refused, as `error NUMBER NAME`. The number is that of a Linux error with a similar meaning: 2
-/// is `ENOENT`, 12 `ENOMEM`, 16 `EBUSY` and 22 `EINVAL`. Which number a refusal has is this project's own choice. Says
-/// one text of at most 22 bytes, so it is gathered at once.
+/// is `ENOENT`, 12 `ENOMEM`, 16 `EBUSY` and 22 `EINVAL`. This project itself chose the number of each refusal. Says one
+/// text of at most 22 bytes, so it is gathered at once.
 pub(crate) fn say_refusal<W: Sink>(answers: &mut Answers, writer: &mut W, refusal: Refusal)
     ensures { Says (answers.old, W.written writer.old) (answers.new, W.written writer.new) (refusal_text refusal) }
 {

@@ -32,7 +32,7 @@ fn say_number<W: Sink>(answers: &mut Answers, writer: &mut W, word: &[u8], numbe
     answers.say(writer, b"\n");
 }
 
-/// Says that the pre-patch callback of a patch for an object returned a status and so refused. It is no error, since
+/// Says that a patch's pre-patch callback for an object refused, and which status it returned. This is no error, since
 /// the event was accepted.
 fn say_pre_failed<W: Sink>(
     answers: &mut Answers,
@@ -145,7 +145,7 @@ fn say_frames<W: Sink>(
     }
 }
 
-/// Says on one line what a task was inside of that woke up: the word alone if it was inside of nothing.
+/// Says on one line the functions that a woken task was inside of, or the word alone if there were none.
 fn say_woken<W: Sink>(
     answers: &mut Answers,
     writer: &mut W,
@@ -166,8 +166,8 @@ fn say_woken<W: Sink>(
 /// Says the reply to an event, as its word followed by its names and numbers, or says why the event was refused.
 ///
 /// A function that a task was inside of is spelled as a livepatch symbol, with the position from 1 (livepatch module
-/// ELF format, livepatch symbols), or as `PATCH:INDEX`, by its place over the patch's objects from 0. The time is
-/// linear in the length of the answer. Needs no look-up by name.
+/// ELF format, livepatch symbols), or as `PATCH:INDEX`, where `INDEX` counts the patch's functions over its objects
+/// from 0. The time is linear in the length of the answer. Needs no look-up by name.
 pub(crate) fn say_answer<W: Sink>(
     answers: &mut Answers,
     writer: &mut W,

@@ -7,7 +7,7 @@ use thiserror::Error;
 pub struct Served {
     /// All lines, also empty ones, so that the count is the number of the last line.
     pub lines: u64,
-    /// The lines that were answered with an error. For a script that should have none, a caller checks that it is 0.
+    /// The lines that were answered with an error. A caller whose script should have none checks that this is 0.
     pub refused: u64,
 }
 

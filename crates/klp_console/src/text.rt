@@ -103,7 +103,7 @@ pub(crate) fn say_stack<W: Sink>(
     }
 }
 
-/// Says a version and its address. For an original no name is said, since it is that of the site that was asked for.
+/// Says a version and its address. Says no name for an original: it has the name of the site that was asked for.
 fn say_version<W: Sink>(answers: &mut Answers, writer: &mut W, catalog: &Catalog, target: &Target)
     ensures { Says (answers.old, W.written writer.old) (answers.new, W.written writer.new)
         (version_text catalog.now target.now.version target.now.address) }

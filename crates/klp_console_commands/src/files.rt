@@ -1,4 +1,4 @@
-//! The lines with paths of files, which are those of a kernel, so that its users find them here too.
+//! The lines with paths of files. The paths are a kernel's, so that its users find them here too.
 
 ghost use Rattle.std.specs.Prelude.{◌≡◌};
 ghost use Rattle.klp_console_commands.specs.Lines.{switch, enabled_line, force_line, echo_file, echo_line, proc_query};

@@ -10,7 +10,7 @@ pub enum Request {
     Take(Event),
     /// Write 0 to the `force` file of a patch, which does nothing. It is a request, since the file may not exist.
     ForceNothing(PatchId),
-    /// Undo all accepted events but the first so many. The manager knows whether it has that many.
+    /// Undo all accepted events after the first so many. The manager knows whether it has that many.
     Rewind(u32),
     /// Empty the journal, so that no earlier event can be undone.
     Seal,
@@ -18,8 +18,9 @@ pub enum Request {
     Ask(Query),
 }
 
-/// What a line asks for, in a few bytes. An event is kept beside it, in room of its own: an event is large, since it
-/// may have the frames of a sleeper, and so no line pays for moving it (docs/DECISIONS.md, "An event beside its line").
+/// What a line asks for, in a few bytes. An event is kept beside it, in a place of its own: an event is large, since it
+/// may have a sleeper's frames, and this way no line pays for moving it (docs/DECISIONS.md, "An event beside its
+/// line").
 #[derive(Clone, Copy)]
 pub enum Asked {
     /// [`Request::Take`] of the event beside it.

@@ -1,5 +1,5 @@
-//! Texts on their way to a sink. They are gathered first, and written when the room is full: a write for each word
-//! would be a call of the kernel for each.
+//! Texts on their way to a sink. They are gathered first, and written when the buffer is full: a write for each word
+//! would be a system call for each.
 ghost use Rattle.std.specs.Prelude.{◌≡◌, ℕ, ◌+◌, ◌<◌, ◌≤◌, ◌⊎◌, false, List, [], length, OnOk, IfErr};
 ghost use Rattle.std.specs.Fmt.{decimal, signed_decimal};
 ghost use Rattle.std.specs.Io.KnownBytes.{Appends};
@@ -13,7 +13,7 @@ use itoa::Buffer;
 use klp_types::ANSWER_ROOM;
 use std::marker::Model;
 
-/// How many bytes are turned into hexadecimal digits at a time. So the room for digits is small, however long a body
+/// How many bytes are turned into hexadecimal digits at a time. So the buffer for digits is small, however long a body
 /// is.
 const PIECE: usize = 32;
 
@@ -156,7 +156,7 @@ impl Answers {
     }
 
     /// Says a text. It must fit behind the gathered bytes, or nothing may be gathered. A text that is longer than the
-    /// whole room is written at once.
+    /// whole buffer is written at once.
     #[tactic(auto, unfolding(crate::specs::Says::Speaks))]
     fn take<W: Sink>(&mut self, writer: &mut W, text: &[u8])
         requires { (length self.old.bytes + length text.now ≤ ANSWER_ROOM) ⊎

@@ -74,7 +74,7 @@ impl<'a, L: Ledger> Feed<'a, L> {
         }
     }
 
-    /// Returns the bytes that are still to be read. By them a test sees how much was read.
+    /// Returns the bytes that are still to be read. They show a test how much was read.
     pub fn left(&self) -> &'a [u8]
         ensures { result.now ≡ self.now.left }
     {
@@ -90,7 +90,7 @@ impl<'a, L: Ledger> Source for Feed<'a, L> {
     ghost supply = { supply_of };
 
     /// Reads as many bytes as `most`, the bytes left and the room allow. The read that is to fail returns none. A read
-    /// into no room doesn't count as the end.
+    /// into an empty buffer doesn't count as the end.
     fn read(&mut self, buf: &mut [u8]) -> Result<usize, Failed>
         ensures ok { IfOk result (λ n. Gives (supply_of self.old) (supply_of self.new) buf.new n) }
         ensures err { OnErr result (Fails (supply_of self.old) (supply_of self.new) buf.new) }

@@ -1,14 +1,14 @@
 //! Input and output of a console: bytes from a source, lines made of them, and answers to a sink.
 //!
-//! **In.** A [`Source`] gives bytes. A read into room returns the first of the bytes left, and no byte only at their
-//! end. A line may be cut across reads: a [`LineBuffer`] gathers its bytes in room of a fixed size, and allocates
-//! nothing. To contracts it is its bytes, at most 256 and without a line feed. Bytes that are heard piece by piece have
-//! the same lines as all of them together (`laws::lines_add_up`). [`LineBuffer::hear`] takes a piece up to its first
-//! line feed and returns the rest. Buffer and piece together have the lines of the finished line and of the rest;
-//! without a line feed they are one line, which continues. It returns `Err` exactly if that first line is longer than
-//! 256 bytes, finished or not, and then nothing changes. Later bytes leave finished lines as they are (`specs/Lines`).
-//! [`LineBuffer::whole_line`] borrows a line from the piece itself, if none of it was heard before and the piece
-//! finishes it.
+//! **In.** A [`Source`] gives bytes. A read into a non-empty buffer returns the first of the bytes left, and no byte
+//! only at their end. A line may be cut across reads: a [`LineBuffer`] gathers its bytes in room of a fixed size, and
+//! allocates nothing. Contracts see it as its bytes, at most 256 and without a line feed. Bytes that are heard piece by
+//! piece have the same lines as all of them together (`laws::lines_add_up`). [`LineBuffer::hear`] takes a piece up to
+//! its first line feed and returns the rest. Buffer and piece together have the lines of the finished line and of the
+//! rest; without a line feed they are one line, which continues. It returns `Err` exactly if that first line is longer
+//! than 256 bytes, finished or not, and then nothing changes. Later bytes leave finished lines as they are
+//! (`specs/Lines`). [`LineBuffer::whole_line`] borrows a line from the piece itself, if none of it was heard before and
+//! the piece finishes it.
 //!
 //! **Out.** [`Answers`] are gathered in room of a fixed size, and written to a [`Sink`], which takes the first of the
 //! bytes that it is given. A caller needn't ask after each word whether it was taken: a failure of the sink is kept,

@@ -1,4 +1,4 @@
-//! Where the answers to gathered lines end. By this one knows, after a failed write, which of them was cut off.
+//! Where the answers to gathered lines end. After a failed write, this shows which of them was cut off.
 ghost use Rattle.std.specs.Prelude.{◌≡◌, ◌<◌, ◌≤◌, IsTrue, ◌↔◌, List, [], ◌∷◌, ◌++◌, length};
 ghost use Rattle.klp_console_io.specs.Marks.{events_at_cut};
 
@@ -6,7 +6,7 @@ use arrayvec::ArrayVec;
 use std::marker::Model;
 
 /// How many lines may be gathered. The shortest answer to an event is three bytes, `ok` and its line feed. So only an
-/// input with many short answers fills the room for marks before that for answers.
+/// input with many short answers runs out of marks before the buffer of answers is full.
 pub const MARKS_ROOM: usize = 512;
 
 /// A line whose answer is gathered.

@@ -8,8 +8,8 @@ use std::io::Read;
 use std::marker::Model;
 use std::sync::ledger::{Blank, Book, Ledger};
 
-/// A reader of std as a source. Contracts know the bytes that it has left if they know them of the reader: they do for
-/// a slice, and don't for standard input.
+/// A reader of std as a source. Contracts know which bytes it has left if they know this of the reader: they do for a
+/// slice, and don't for standard input.
 #[derive(Drop)]
 pub struct OverRead<R: Read, L: Ledger> {
     reader: R,

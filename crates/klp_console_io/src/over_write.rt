@@ -7,8 +7,8 @@ use std::io::Write;
 use std::marker::Model;
 use std::sync::ledger::{Blank, Book, Ledger};
 
-/// A writer of std as a sink. Contracts know the bytes that it took if they know them of the writer: they do for a
-/// list, and don't for standard output.
+/// A writer of std as a sink. Contracts know which bytes it took if they know this of the writer: they do for a list,
+/// and don't for standard output.
 #[derive(Drop)]
 pub struct OverWrite<W: Write, L: Ledger> {
     writer: W,

@@ -9,9 +9,9 @@ pub trait Source {
     /// The bytes still to be read, if they are known, and what went wrong.
     ghost supply: { Self → Supply };
 
-    /// Reads some bytes into the front of `buf`, and returns how many. Reading no byte into some room means the end. An
-    /// `Err` is a failure, which takes no byte. A read into no room can't find the end, so it is counted only if it
-    /// fails. Contracts also count the room of all reads, so that they can say how much was asked for.
+    /// Reads some bytes into the front of `buf`, and returns how many. Reading no byte into a non-empty `buf` means the
+    /// end. An `Err` is a failure, which takes no byte. A read into an empty `buf` can't find the end, so it is counted
+    /// only if it fails. Contracts also add up the lengths of `buf` over all reads, to say how much was asked for.
     fn read(&mut self, buf: &mut [u8]) -> Result<usize, Failed>
         ensures ok { IfOk result (λ n. Gives (supply self.old) (supply self.new) buf.new n) }
         ensures err { OnErr result (Fails (supply self.old) (supply self.new) buf.new) };

@@ -4,7 +4,7 @@ use klp_faulty_words::item::Item;
 use klp_catalog_text::Lines;
 use std::alloc::{AllocError, Global};
 
-/// In front of a symbol's object, in its spelling.
+/// What stands before the object in a symbol's spelling.
 const SPELLING: &[u8] = b".klp.sym.";
 
 /// A call that wasn't returned from.
@@ -34,8 +34,8 @@ impl<'a> Call<'a> {
 }
 
 impl<'a> Calls<'a> {
-    /// Adds the call that a line makes, or takes away the one that it returns from: the task's last. `Err` if memory
-    /// runs out.
+    /// Adds the call that a line makes, or removes the call that the line returns from: the task's last. `Err` if
+    /// memory runs out.
     fn add(&mut self, item: Option<Item<'a>>) -> Result<(), AllocError> {
         match item {
             Some(Item::Call(task, symbol)) => self.open.push(Call { task, symbol })?,
@@ -49,7 +49,7 @@ impl<'a> Calls<'a> {
         Ok(())
     }
 
-    /// Returns the calls that are open behind so many lines of a trace. These lines must be honest items: then a task
+    /// Returns the calls that are open after so many lines of a trace. These lines must be honest items: then a task
     /// that ended had returned from all its calls, and none of them is open. `Err` if memory runs out.
     pub(crate) fn behind(
         alloc: Global,
@@ -72,8 +72,8 @@ impl<'a> Calls<'a> {
         Some(call.symbol)
     }
 
-    /// Returns, of all tasks that are inside of a module, the one with the lowest number, with the symbol of the module
-    /// that the task called last. `None` if no task is.
+    /// Returns the task with the lowest number among those inside of a module, and the symbol of the module that the
+    /// task called last. `None` if there is none.
     pub(crate) fn first_in(&self, module: &[u8]) -> Option<(u64, &'a [u8])> {
         let mut first: Option<Call<'a>> = None;
         for call in &self.open {

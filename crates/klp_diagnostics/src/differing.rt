@@ -1,4 +1,4 @@
-//! What the rules have at a line of a trace at which the kernel differs from them, and why, in words.
+//! Describing what the rules have at a line of a trace where the kernel differs from them, and why.
 ghost use Rattle.klp_core.specs.Journaled.{IsWellFormed};
 
 use klp_faulty_words::escaped::Escaped;
@@ -10,7 +10,7 @@ use klp_trace::{Trace, answer_text};
 use klp_watch::Observed;
 use std::alloc::{AllocError, Global};
 
-/// Tells an answer of the rules, and why they answer so.
+/// Describes an answer of the rules, and why they answer so.
 fn answer_and_why(
     alloc: Global,
     manager: &Manager,
@@ -32,7 +32,7 @@ fn answer_and_why(
     }
 }
 
-/// Does the event of an answer, and tells what the rules answer.
+/// Does an event that the kernel answered, and describes what the rules answer.
 fn answered(alloc: Global, manager: &mut Manager, event: &Event) -> Result<String, AllocError>
     requires { IsWellFormed manager.old }
 {
@@ -41,7 +41,7 @@ fn answered(alloc: Global, manager: &mut Manager, event: &Event) -> Result<Strin
     answer_and_why(alloc, manager, &answer)
 }
 
-/// Tells what the rules have at the first of these items. `None` if it has neither an answer nor a sight: the rules
+/// Describes what the rules have at the first of these items. `None` if it has neither an answer nor a sight: the rules
 /// can't differ there. `None` also if memory runs out.
 fn rules_of(alloc: Global, manager: &mut Manager, items: &[Observed]) -> Option<String>
     requires { IsWellFormed manager.old }
@@ -53,8 +53,8 @@ fn rules_of(alloc: Global, manager: &mut Manager, items: &[Observed]) -> Option<
     }
 }
 
-/// Tells what the rules have at a line, once the manager has done all lines in front. `None` if the rules can't differ
-/// there, or if memory runs out.
+/// Describes what the rules have at a line, once the manager has done all lines before it. `None` if the rules can't
+/// differ there, or if memory runs out.
 pub(crate) fn rules_at(alloc: Global, manager: &mut Manager, line: &[u8]) -> Option<String>
     requires { IsWellFormed manager.old }
 {

@@ -1,4 +1,4 @@
-//! What an item that isn't honest tells: who does what.
+//! Who does what in an item that isn't honest.
 
 use crate::calls::Calls;
 use klp_faulty_words::escaped::Escaped;
@@ -49,8 +49,8 @@ fn goes<'a>(module: &'a [u8], calls: &Calls<'a>) -> Option<Act<'a>> {
     Some(Act::Going(module, task, symbol))
 }
 
-/// Returns what a task does in an item, or in which task's way the item is. `calls` are those that are open before it.
-/// `None` if no task is at fault.
+/// Returns what a task does in an item, or which task is in the item's way. `calls` are open before the item. `None` if
+/// no task is at fault.
 fn act_in<'a>(cause: Cause, item: Item<'a>, calls: &Calls<'a>) -> Option<Act<'a>> {
     let (task, does) = match (cause, item) {
         (Cause::FramesLeft, Item::Exit(task)) => (task, "leaves the kernel"),
@@ -63,7 +63,7 @@ fn act_in<'a>(cause: Cause, item: Item<'a>, calls: &Calls<'a>) -> Option<Act<'a>
     Some(Act::Inside(task, does, calls.last_of(task)))
 }
 
-/// Returns what is told of an item that breaks the premise of this cause. `calls` are those that are open before it.
+/// Returns what to say of an item that breaks the premise of this cause. `calls` are open before the item.
 pub(crate) fn act_of<'a>(cause: Cause, item: Option<Item<'a>>, calls: &Calls<'a>) -> Act<'a> {
     let act = match item {
         Some(item) => act_in(cause, item, calls),

@@ -1,4 +1,4 @@
-//! The files of a program, and what is told of them on standard error, a line each.
+//! The files of a program, and the lines about them on standard error.
 ghost use Rattle.std.specs.Prelude.{◌≡◌, IfErr};
 
 use crate::calls::Calls;
@@ -41,7 +41,7 @@ pub struct FileText<'a> {
     pub bytes: &'a [u8],
 }
 
-/// The two files of a program. Where a line can't be written to standard error, it is left out.
+/// The two files of a program. If a line can't be written to standard error, it is left out.
 #[derive(Clone, Copy)]
 pub struct Inputs<'a> {
     /// The name that the program gives itself.
@@ -71,7 +71,7 @@ pub fn file_in<R: Files + AllocGlobal, E: Write>(
     }
 }
 
-/// Returns what is wrong with a line of a trace that is no item. `plan` is that of the catalog.
+/// Returns what is wrong with a line of a trace that is no item. `plan` is the catalog's.
 fn wrong_item<'a>(mut plan: Plan, line: &'a [u8], catalog: &'a [u8]) -> Wrong<'a> {
     let objects = plan.take_objects();
     let (patches, _names) = plan.into_patches();
@@ -106,9 +106,9 @@ impl<'a> FileText<'a> {
 }
 
 impl<'a> Inputs<'a> {
-    /// Writes hints to `err`. One is at a function of the catalog whose symbol isn't picked. The others are at what
-    /// means something in other files and not in the one beside the catalog: the first line of each kind. Writes
-    /// nothing if the files are swapped, since then the fault tells all.
+    /// Writes hints to `err`. One points at a function of the catalog whose symbol isn't picked. The others point at
+    /// the first line of each kind that means something in other files, but not in the file beside the catalog. Writes
+    /// nothing if the files are swapped, since then the fault says enough.
     pub fn hint<E: Write>(&self, err: &mut E) {
         if self.are_swapped() {
             return;
@@ -120,7 +120,7 @@ impl<'a> Inputs<'a> {
     }
 
     /// Writes a hint to `err` at the first line of a script that may be misspelled. The console refuses such a line,
-    /// but it also refuses lines that are meant to be.
+    /// but a script may also mean a line to be refused.
     pub fn hint_line<E: Write>(&self, alloc: Global, err: &mut E) {
         let text = self.second.bytes;
         if begins_as_catalog(text) || begins_as_utf16(text) {
@@ -131,9 +131,9 @@ impl<'a> Inputs<'a> {
         }
     }
 
-    /// Writes to `err` why a verdict is so. If the trace isn't honest, that is the task, and the function that it is
-    /// inside of. If the kernel differs from the rules, it is what the rules have there, and why. If neither, it is a
-    /// hint at the events that are refused, if any are.
+    /// Writes to `err` why a verdict is so. If the trace isn't honest, names the task, and the function that it is
+    /// inside of. If the kernel differs from the rules, says what the rules have there, and why. If neither, hints at
+    /// the events that are refused, if any are.
     pub fn print_verdict<E: Write>(&self, alloc: Global, verdict: Verdict, err: &mut E) {
         let _ = match verdict {
             Verdict::Honest(_) => self.write_refused(alloc, err),
@@ -150,7 +150,7 @@ impl<'a> Inputs<'a> {
         FAULT
     }
 
-    /// Hints at the first function of the catalog whose symbol isn't picked, if that is worth it.
+    /// Hints at the first function of the catalog whose symbol isn't picked, if it is worth a hint.
     fn write_unloadable<E: Write>(&self, err: &mut E) -> io::Result<()> {
         match first_unloadable(self.catalog.bytes, self.second.bytes) {
             Some(found) => {
@@ -186,7 +186,7 @@ impl<'a> Inputs<'a> {
         Ok(())
     }
 
-    /// Hints at the first line of this kind. If the file is UTF-16, that alone is told: its lines are others than they
+    /// Hints at the first line of this kind. If the file is UTF-16, hints only at that: its lines aren't what they
     /// seem.
     fn write_stray<E: Write>(&self, stray: Stray, err: &mut E) -> io::Result<()> {
         let text = self.second.bytes;
@@ -209,7 +209,7 @@ impl<'a> Inputs<'a> {
         }
     }
 
-    /// Hints at the first event that is refused, and tells how many are.
+    /// Hints at the first event that is refused, and says how many are.
     fn write_first_refused<E: Write>(&self, replay: &Replay, err: &mut E) -> io::Result<()> {
         let Some(first) = replay.first else {
             return Ok(());
@@ -224,7 +224,7 @@ impl<'a> Inputs<'a> {
         )
     }
 
-    /// Tells the line that breaks a premise: its cause, and who does what.
+    /// Writes the line that breaks a premise: its cause, and who does what.
     fn write_item<E: Write>(&self, alloc: Global, fault: NotHonest, err: &mut E) -> io::Result<()> {
         let (line, trace) = (fault.item as u64, self.second.bytes);
         self.second.write_item_place(self.program, line, err)?;
@@ -235,7 +235,7 @@ impl<'a> Inputs<'a> {
         }
     }
 
-    /// Tells the line at which the kernel differs from the rules: what was seen, what the rules have, and why.
+    /// Writes the line at which the kernel differs from the rules: what was seen, what the rules have, and why.
     fn write_difference<E: Write>(
         &self,
         alloc: Global,
@@ -279,7 +279,7 @@ impl<'a> Inputs<'a> {
         }
     }
 
-    /// Ends a line of `err` with the versions that a task is inside of behind so many lines of the trace.
+    /// Ends a line of `err` with the versions that a task is inside of after so many lines of the trace.
     fn write_versions<E: Write>(
         &self,
         alloc: Global,
@@ -315,7 +315,7 @@ impl<'a> Inputs<'a> {
         begins_as_catalog(self.second.bytes) && !begins_as_catalog(self.catalog.bytes)
     }
 
-    /// Tells a faulty line of the catalog: the word, and what is wanted there.
+    /// Writes a faulty line of the catalog: the word, and what is wanted there.
     fn write_line<E: Write>(&self, alloc: Global, fault: TextFault, err: &mut E) -> io::Result<()> {
         let wrong = if self.are_swapped() {
             Wrong::Swapped(self.second.name)
@@ -326,7 +326,7 @@ impl<'a> Inputs<'a> {
         writeln!(err, "{}: {wrong}", fault.kind)
     }
 
-    /// Tells a fault of the whole catalog, each line of which is good.
+    /// Writes a fault of the whole catalog. Each of its lines is good.
     fn write_whole<E: Write>(&self, alloc: Global, fault: Fault, err: &mut E) -> io::Result<()> {
         match Catalog::read(alloc, self.catalog.bytes) {
             Ok(plan) => self.write_in_plan(plan, fault, err),
@@ -334,7 +334,7 @@ impl<'a> Inputs<'a> {
         }
     }
 
-    /// Tells a fault of the whole catalog by its plan, with the symbols or functions at fault.
+    /// Writes a fault of the whole catalog by its plan, with the symbols or functions at fault.
     fn write_in_plan<E: Write>(&self, mut plan: Plan, fault: Fault, err: &mut E) -> io::Result<()> {
         let (objects, handler) = (plan.take_objects(), plan.handler());
         let (patches, _names) = plan.into_patches();
@@ -345,7 +345,7 @@ impl<'a> Inputs<'a> {
         self.write_catalog_fault(fault, wrong, err)
     }
 
-    /// Tells a fault of the whole catalog, and what is wrong, if that is known.
+    /// Writes a fault of the whole catalog, and what is wrong, if that is known.
     fn write_catalog_fault<E: Write>(
         &self,
         fault: Fault,
@@ -359,7 +359,7 @@ impl<'a> Inputs<'a> {
         }
     }
 
-    /// Tells a faulty line of the trace: the word, and what is wanted there.
+    /// Writes a faulty line of the trace: the word, and what is wanted there.
     fn write_trace_fault<E: Write>(
         &self,
         alloc: Global,
@@ -392,7 +392,7 @@ impl<'a> Inputs<'a> {
         }
     }
 
-    /// Tells the line of the script that is too long.
+    /// Writes the line of the script that is too long.
     fn write_long_line<E: Write>(&self, err: &mut E) -> io::Result<()> {
         let bytes = self.second.bytes;
         let mut lines = bytes.split(|b| *b == b'\n');

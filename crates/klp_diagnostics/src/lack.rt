@@ -1,4 +1,4 @@
-//! What a call lacks that can't be.
+//! What an impossible call lacks.
 
 use crate::inputs::Inputs;
 use klp_catalog_text::Lines;
@@ -8,11 +8,11 @@ use std::alloc::Global;
 use std::io;
 use std::io::Write;
 
-/// What is told if there is no memory to find out.
+/// What is written if there is no memory to find out.
 const EITHER: &str = "and isn't running in the kernel, or its object isn't loaded";
 
-/// Adds the lines of a trace to `text`, up to this one. In front of that line it adds three that bring the task into
-/// the kernel, wherever it is: those that don't apply are refused. `Err` if memory runs out.
+/// Adds the lines of a trace to `text`, up to this one. Before that line, adds three that bring the task into the
+/// kernel, wherever it is: those that don't apply are refused. `Err` if memory runs out.
 fn load_line(text: &mut Vec<u8>, trace: &[u8], line: u64, task: u64) -> io::Result<()> {
     let mut lines = Lines::new(trace);
     for _ in 1..line {
@@ -23,8 +23,9 @@ fn load_line(text: &mut Vec<u8>, trace: &[u8], line: u64, task: u64) -> io::Resu
     text.write_all(lines.next().unwrap_or(&[]))
 }
 
-/// Returns what a call lacks that can't be. It is in this line, the first that isn't honest. The trace is judged once
-/// more with the task brought into the kernel in front of it: if the call still can't be, its object isn't loaded.
+/// Returns what the impossible call in this line lacks. The line is the first that isn't honest. Judges the trace once
+/// more, with the task brought into the kernel before the call: if the call is still impossible, its object isn't
+/// loaded.
 pub(crate) fn lack_of(alloc: Global, inputs: &Inputs<'_>, line: u64, task: u64) -> &'static str {
     let mut text = Vec::new(alloc);
     if load_line(&mut text, inputs.second.bytes, line, task).is_err() {

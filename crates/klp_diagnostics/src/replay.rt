@@ -1,5 +1,5 @@
-//! A trace, whose events a manager takes once more. It finds out which are refused, which versions a task is inside of,
-//! and what the rules have at a line.
+//! Replaying a trace: a manager takes its events once more. This shows which are refused, which versions a task is
+//! inside of, and what the rules have at a line.
 ghost use Rattle.std.specs.Prelude.{◌≤◌, length};
 ghost use Rattle.klp_catalog_text.specs.Within.{AreTargetsWithin};
 ghost use Rattle.klp_core.specs.Journaled.{IsWellFormed};
@@ -22,7 +22,7 @@ use std::alloc::{AllocError, Global};
 use std::io;
 use std::io::Write;
 
-/// How many of a task's versions are told.
+/// How many of a task's versions are written.
 const REPORTED: usize = 4;
 
 /// A version that a task called and hasn't returned from.
@@ -31,7 +31,7 @@ struct Entered {
     task: u64,
     /// The line of the call.
     line: u64,
-    /// That of its symbol.
+    /// The position of its symbol.
     position: u32,
     version: Version,
 }
@@ -49,12 +49,12 @@ pub(crate) struct Replay {
     pub(crate) events: usize,
     pub(crate) refused: usize,
     pub(crate) first: Option<Refused>,
-    /// What the rules have at the line behind, if that is asked and can be told.
+    /// What the rules have at the next line, if that is asked and known.
     rules: Option<String>,
     entered: Vec<Entered>,
 }
 
-/// What a manager is to find out by a trace.
+/// What a manager is to find out from a trace.
 #[derive(Clone, Copy)]
 enum Question {
     /// What comes of so many lines.
@@ -75,7 +75,7 @@ fn function_at(patch: &PlanPatch, number: u16) -> Option<&PlanFunction> {
     None
 }
 
-/// Returns the symbol that a line calls, spelled as there, without its position.
+/// Returns the symbol that a line calls, as the line spells it, without its position.
 fn symbol_in(line: &[u8]) -> &[u8] {
     let words = LineWords::new(LineParts::of(line).item, Separators::Spaces);
     let (symbol, _) = cut(word_at(words, 3), b',');
@@ -149,8 +149,7 @@ impl Replay {
         }
     }
 
-    /// Does the event that a line asks for, and counts it, and whether it is refused. A line that asks for none is
-    /// passed over.
+    /// Does the event that a line asks for, and counts it, and whether it is refused. Skips a line that asks for none.
     fn take(&mut self, manager: &mut Manager, line: u64, text: &[u8])
         requires { IsWellFormed manager.old }
         ensures { IsWellFormed manager.new }
@@ -161,7 +160,7 @@ impl Replay {
         };
         make_room(manager);
         self.events = self.events.saturating_add(1);
-        // A refusal that the kernel answered too is as it was seen.
+        // If the line has an answer, the kernel refused this too.
         if let Err(refusal) = manager.apply(event)
             && !is_answered(parts)
         {
@@ -211,7 +210,7 @@ impl Replay {
         Ok(())
     }
 
-    /// Does the first lines of a trace, so many. `Err` if memory runs out.
+    /// Does the first so many lines of a trace. `Err` if memory runs out.
     fn see_all(&mut self, manager: &mut Manager, trace: &[u8], lines: u64) -> Result<(), AllocError>
         requires { IsWellFormed manager.old }
     {
@@ -288,7 +287,7 @@ fn replay_by(
     }
 }
 
-// Boots a manager over a plan, and asks it. The boxes of the callbacks are made here, as where a trace is watched.
+// Boots a manager over a plan, and asks it. The boxes of the callbacks are made here, as for watching a trace.
 fn replay_plan(
     alloc: Global,
     plan: Plan,

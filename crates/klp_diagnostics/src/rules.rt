@@ -5,7 +5,7 @@ use klp_types::{Mode, PatchId, Site, TaskId, Version};
 use klp_watch::{PatchFiles, Sight};
 use std::fmt;
 
-/// How many of the tasks that aren't at the target of a transition are told.
+/// How many of the tasks that aren't at the target of a transition are written.
 const REPORTED: usize = 3;
 
 /// Writes a version as a line of a trace names it, a new function with its name.
@@ -23,8 +23,8 @@ struct Lagging<'a> {
     lag: Lag,
 }
 
-/// Tells, behind a colon, which tasks aren't at the target of the transition, and why: first those that block it. Of
-/// many, the first ones and their number. Empty if there are none.
+/// Writes, behind a colon, which tasks aren't at the target of the transition, and why: first those that block it. Of
+/// many, writes the first ones and counts the others. Empty if there are none.
 #[derive(Clone, Copy)]
 pub(crate) struct Holders<'a>(pub(crate) &'a Manager);
 
@@ -35,7 +35,7 @@ pub(crate) struct InPlaceOf<'a> {
     pub(crate) sight: &'a Sight,
 }
 
-/// Returns the name of a patch. A manager has one for each patch that it knows.
+/// Returns the name of a patch. A manager has a name for each patch that it knows.
 fn patch_name(manager: &Manager, patch: PatchId) -> &str {
     manager.catalog().patch_name(patch).unwrap_or("a patch")
 }
@@ -46,7 +46,7 @@ pub(crate) fn moving_name(manager: &Manager) -> Option<&str> {
     Some(patch_name(manager, moving.patch))
 }
 
-/// Writes a site as the symbol that it is the entry of. Writes nothing if there is none.
+/// Writes the symbol whose entry a site is. Writes nothing if there is none.
 fn write_symbol<W: fmt::Write>(
     f: &mut fmt::Formatter<W>,
     manager: &Manager,
@@ -118,8 +118,8 @@ fn is_moving(manager: &Manager, patch: PatchId) -> bool {
     }
 }
 
-/// Writes those of the tasks that lag which are blocked, or those which aren't, behind so many that are written.
-/// Returns how many there are then.
+/// Writes the lagging tasks that are blocked, or those that aren't. `before` tasks come before these. Returns how many
+/// there are in all.
 fn write_lagging<W: fmt::Write>(
     f: &mut fmt::Formatter<W>,
     manager: &Manager,
@@ -177,8 +177,8 @@ fn write_state<W: fmt::Write>(
     }
 }
 
-/// Writes what the files of a patch read. If they say that the patch is in transition and the kernel's say that it
-/// isn't, writes also which tasks aren't at the target.
+/// Writes what the files of a patch read. If they say that the patch is in transition and the kernel's don't, also
+/// writes which tasks aren't at the target.
 fn write_files<W: fmt::Write>(
     f: &mut fmt::Formatter<W>,
     manager: &Manager,

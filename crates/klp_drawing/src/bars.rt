@@ -19,7 +19,7 @@ pub(crate) struct Mark {
     pub sign: Sign,
 }
 
-/// A bar from the line `from` up to the line `to`, which is the first one behind the bar.
+/// A bar from the line `from` up to the line `to`, which is the first one after the bar.
 #[derive(Clone, Copy)]
 pub(crate) struct Bar {
     pub from: u64,
@@ -95,7 +95,7 @@ impl Lane {
 }
 
 impl Bars {
-    /// Returns bars of a run of which no line has been seen. Takes no memory.
+    /// Returns the bars of a run before its first line. Takes no memory.
     pub fn new(alloc: Global) -> Bars {
         Bars {
             changed: Vec::new(alloc),
@@ -200,7 +200,7 @@ impl Bars {
         }
     }
 
-    /// Ends all bars behind the last line, and computes where each line is drawn: to scale by time if all lines that
+    /// Ends all bars after the last line, and computes where each line is drawn: to scale by time if all lines that
     /// change something have a time, else by line numbers. `Err` if memory runs out, or ran out before.
     pub fn close(&mut self, lines: u64, names: &Names) -> Result<(), AllocError> {
         for number in 0..LANES {

@@ -5,10 +5,10 @@
 //! known, else each as wide as another. Long stretches in which nothing changes are cut with a mark. What comes from
 //! the catalog is escaped, as all on a `Sheet` is; the rest is layout, and has no contract.
 //!
-//! It is a table with a row for each lane, so that a name may take several lines, and no page of a print parts a
-//! lane. Who holds a transition up is told by hatching and an outline in black and white, whatever the colours are.
-//! [`STYLE`] is what a page's style needs for it, over the page's own colours `--paper`, `--ink`, `--soft`,
-//! `--rule`, `--card` and `--focus`.
+//! It is a table with a row for each lane, so that a name may take several lines, and a print splits no lane between
+//! pages. Hatching and an outline in black and white show who holds a transition up, whatever the colours are.
+//! [`STYLE`] is what a page's style needs for it, over the page's own colours `--paper`, `--ink`, `--soft`, `--rule`,
+//! `--card` and `--focus`.
 #![tactic(auto)]
 
 mod axis;

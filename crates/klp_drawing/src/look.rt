@@ -25,7 +25,7 @@ pub(crate) enum Shade {
 pub(crate) struct Look {
     pub shade: Shade,
     pub mode: Mode,
-    /// Whether a sentence tells of this stay of the task. Then the stay has a label, and the bar gets no words.
+    /// Whether a sentence reports this stay of the task. Then the stay has a label, and the bar gets no words.
     pub is_shown: bool,
 }
 

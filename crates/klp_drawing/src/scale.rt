@@ -13,7 +13,7 @@ const KEPT: u64 = 4;
 /// The width of a cut in points.
 pub(crate) const CUT: u64 = 12;
 
-/// How much width each cut is charged when cuts are weighed against narrower lines.
+/// How much width each cut counts for when cuts are compared with narrower lines.
 pub(crate) const COST: u64 = 40;
 
 /// The width that shows the state after the last line, in a drawing to scale by time.

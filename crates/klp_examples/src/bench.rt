@@ -12,8 +12,8 @@ use std::rt::{Clock, Files};
 use std::time::Instant;
 use std::{fs, io};
 
-/// A kernel of as many functions as there may be, of eight bytes each, and as many patches as there may be, each with
-/// as many functions as it may have: four of them cover the kernel.
+/// A kernel of as many functions as possible, of eight bytes each, and as many patches as possible, each with as many
+/// functions as possible: four patches cover the kernel.
 const LARGE: &str = "bench.catalog";
 
 /// The example that the console is measured with, and how often its script stands in the input.
@@ -35,7 +35,7 @@ fn booted(alloc: Global, text: &[u8]) -> Option<Manager> {
     }
 }
 
-// All items of a trace count as accepted where it is honest, else none.
+// Counts all items of a trace as accepted if it is honest, else none.
 fn counted(ended: Result<(), NotHonest>, items: usize) -> (u64, u64) {
     match ended {
         Ok(()) => (items as u64, 0),
@@ -43,10 +43,10 @@ fn counted(ended: Result<(), NotHonest>, items: usize) -> (u64, u64) {
     }
 }
 
-// One round of a scene, over a manager of its own, slice after slice of each list. In each slice the list's
-// events are taken, and those of some lists are then taken back, which alone is measured; the journal has
-// room for one slice. The round is left in one place while it holds the manager: each further way out would
-// be proved with all that is known of it.
+// Does one round of a scene, over a manager of its own, slice after slice of each list. Each slice takes the list's
+// events; for some lists it then takes them back, and only this is measured. The journal has room for one slice. The
+// round has one exit while it holds the manager: each further exit would be proved with all that is known of the
+// manager.
 fn round<R: Clock>(
     rt: &R,
     alloc: Global,
@@ -114,7 +114,7 @@ fn measure_events<R: Clock + Print>(
     Ok(())
 }
 
-// What events cost over this catalog, and to read it.
+// What events cost over this catalog, and what reading it costs.
 fn measure_large<R: Clock + Print>(
     rt: &R,
     alloc: Global,
@@ -153,8 +153,8 @@ fn run_small<R: Clock + Files + Print + AllocGlobal>(rt: &R, rounds: u32) -> io:
     measure_small(rt, rt.alloc(), &case.catalog, &input, rounds)
 }
 
-/// Measures so many rounds. Each figure is a line: what was accepted, refused and answered, and behind it the
-/// shortest time, which is told only of several rounds.
+/// Measures so many rounds. Each figure is a line: what was accepted, refused and answered, and after it the shortest
+/// time, which is written only for several rounds.
 pub(crate) fn run<R: Clock + Files + Print + AllocGlobal>(rt: &R, rounds: u32) -> io::Result<()> {
     run_large(rt, rounds)?;
     run_small(rt, rounds)

@@ -4,7 +4,7 @@ use klp_program::catalog_in;
 use std::rt::Files;
 use std::{fs, io};
 
-/// What stands for the catalog that is served where no file is named.
+/// What stands for the catalog that is served if no file is named.
 const BUILT_IN: &str = "-";
 
 /// A catalog, the script over it, and what has to be written.

@@ -27,10 +27,10 @@ const ALL_TASKS: u64 = MAX_TASKS as u64;
 
 const TASKS: u64 = 8;
 
-/// What happens in a turn, which goes by its number.
+/// What happens in a turn, depending on the turn's number.
 #[derive(Clone, Copy)]
 pub(crate) enum Step {
-    /// The patch of this number is enabled, or is refused where there is none.
+    /// The patch of this number is enabled, or is refused if there is none.
     Enable,
     /// The first patch is enabled, and disabled.
     EnableFirst,
@@ -67,7 +67,7 @@ pub(crate) const ENABLED: [Turns; 1] = [Turns {
     steps: &[Step::Enable, Step::Poll],
 }];
 
-/// Where all patches are installed, each of these is refused.
+/// If all patches are installed, each of these is refused.
 pub(crate) const REFUSED: [Turns; 1] = [Turns {
     times: 1,
     numbers: (0, 32),
@@ -100,7 +100,7 @@ pub(crate) const BEGUN: [Turns; 1] = [Turns {
     steps: &[Step::NewTask],
 }];
 
-/// They enter the kernel and leave it in turn.
+/// The eight tasks enter the kernel and leave it in turn.
 pub(crate) const ENTERED: [Turns; 1] = [Turns {
     times: PAIRS,
     numbers: (0, TASKS),
@@ -145,7 +145,7 @@ pub(crate) const CYCLE: [Turns; 1] = [Turns {
     ],
 }];
 
-/// As many tasks as there may be fall asleep, and beside them the first patch comes and goes, and shadow variables do.
+/// As many tasks as there may be fall asleep, and the first patch and shadow variables come and go.
 pub(crate) const MIXED: [Turns; 2] = [
     Turns {
         times: 1,
@@ -233,7 +233,7 @@ impl Step {
     }
 }
 
-/// Puts the events of such turns behind the others.
+/// Puts the events of such turns after the others.
 fn take(events: &mut Vec<Event>, turns: Turns) -> Result<(), AllocError> {
     for _ in 0..turns.times {
         for number in turns.numbers.0..turns.numbers.1 {

@@ -1,6 +1,6 @@
 //! Runs each example. A script over its catalog has to print its output, and nothing else, however few bytes a read
-//! gives and a write takes, and where no memory is left once a manager is booted. At once it takes five seconds at
-//! most. Traces and what is refused are tried by ./tests, over the programs that the gate has built.
+//! gives and a write takes, and even if no memory is left once a manager is booted. At once it takes five seconds at
+//! most. ./tests tries traces and what is refused, over the programs that the gate has built.
 
 use crate::case::Case;
 use crate::few::Few;
@@ -26,7 +26,7 @@ enum Way {
     Starved,
 }
 
-/// All ways, each with what is told where an example doesn't hold in it.
+/// All ways, each with what is written if an example doesn't hold in it.
 const WAYS: [(Way, &str); 6] = [
     (Way::AtOnce, "differs, or takes more than five seconds"),
     (Way::Cut(1, usize::MAX), "differs, read byte by byte"),
@@ -63,8 +63,8 @@ fn holds<R: Clock>(rt: &R, alloc: Global, case: &Case, way: Way) -> io::Result<b
     }
 }
 
-/// Whether the example of this line holds in all ways. Each in which it doesn't is told. The example is borrowed, since
-/// each way out would drop it.
+/// Whether the example of this line holds in all ways. Writes each way in which it doesn't. The example is borrowed,
+/// since each exit would drop it.
 fn holds_all<R: Clock + Print + AllocGlobal>(rt: &R, line: &str, case: &Case) -> io::Result<bool> {
     let mut all = true;
     for (way, fault) in &WAYS {
@@ -76,14 +76,14 @@ fn holds_all<R: Clock + Print + AllocGlobal>(rt: &R, line: &str, case: &Case) ->
     Ok(all)
 }
 
-/// The same, read out of its files.
+/// The same for an example read from its files.
 fn holds_line<R: Clock + Files + Print + AllocGlobal>(rt: &R, line: &str) -> io::Result<bool> {
     let case = Case::read(rt, line)?;
     holds_all(rt, line, &case)
 }
 
-/// Counts the examples of an index that hold, which has a line for each: the name of the script and the output, as
-/// `NAME.script` and `NAME.output`, and that of the catalog where it is another, as `CATALOG.catalog`. Lines that begin
+/// Counts the examples of an index that hold. The index has a line for each: the name of the script and the output, as
+/// `NAME.script` and `NAME.output`, and the catalog's name if it is another, as `CATALOG.catalog`. Lines that begin
 /// with `#` say what the next ones show.
 pub(crate) fn run<R: Clock + Files + Print + AllocGlobal>(
     rt: &R,

@@ -2,7 +2,7 @@
 use std::io;
 use std::io::{Read, Write};
 
-/// A stream of which a read gives, and a write takes, so many bytes at most.
+/// A stream whose reads give, and whose writes take, so many bytes at most.
 #[derive(Drop)]
 pub(crate) struct Few<S> {
     stream: S,

@@ -1,4 +1,4 @@
-//! All memory that a process may have, taken, so that each allocation is refused until it is let go.
+//! Taking all memory that a process may have, so that each allocation is refused until this memory is freed.
 
 use std::alloc::{AllocError, Global};
 use std::ops::Range;
@@ -6,14 +6,14 @@ use std::ops::Range;
 /// The largest block that is tried: half of all that a process can address.
 const LARGEST: usize = 1 << 46;
 
-/// How many blocks there is room for. A machine hands out none that is larger than all of its memory, so there may
-/// be some ten thousands.
+/// How many blocks there is room for. A machine hands out no block larger than all of its memory, so there may be some
+/// ten thousands.
 const MOST: usize = 60_000;
 
 /// How much a siege leaves, which is more than a manager takes.
 const SPARE: usize = 1 << 26;
 
-/// Once a block of this size was let go, an allocator keeps those of up to this size, and hands parts of them out.
+/// Once a block of this size was freed, an allocator keeps blocks of up to this size, and hands out parts of them.
 const KEPT: usize = 1 << 24;
 
 /// Blocks of memory that nothing else can have.
@@ -34,7 +34,7 @@ impl Hoard {
         Hoard::new(alloc, MOST / 4)
     }
 
-    /// All memory but for some 64 megabytes, so that these can be taken and let go again and again.
+    /// Takes all memory except some 64 megabytes, so that these can be taken and freed again and again.
     pub(crate) fn siege(alloc: Global) -> Result<Hoard, AllocError> {
         let mut hoard = Hoard::new(alloc, MOST)?;
         let spare: Result<Vec<u8>, AllocError> = Vec::with_capacity(alloc, SPARE);
@@ -74,7 +74,7 @@ impl Hoard {
         }
     }
 
-    /// Whether room for blocks was left, so that memory was what ended the taking, and the least block is refused.
+    /// Whether room for blocks was left, so that only memory ended the taking, and the least block is refused.
     pub(crate) fn is_all(&self, alloc: Global) -> bool {
         self.blocks.len() < self.blocks.capacity() && Box::new(alloc, 0u8).is_err()
     }
@@ -90,7 +90,7 @@ impl Hoard {
         }
     }
 
-    /// Lets all blocks go.
+    /// Frees all blocks.
     pub(crate) fn clear(&mut self) {
         self.blocks.clear();
     }

@@ -8,7 +8,7 @@ use crate::time::Shortest;
 use klp_model::{Event, Seen};
 use std::alloc::{AllocError, Global};
 
-/// How often a list is taken that leaves everything as it was.
+/// How often a list that leaves everything as before is taken.
 const SLICES: u64 = 64;
 
 /// How often a list is taken back.
@@ -22,8 +22,8 @@ struct Row {
     events: &'static [Turns],
 }
 
-/// How lists are taken: as they are; watched, with calls and returns; or so that they are taken back each time, which
-/// alone is measured then.
+/// How lists are taken: as they are; watched, with calls and returns; or taken back each time, and then only this is
+/// measured.
 #[derive(Clone, Copy)]
 pub(crate) enum Way {
     Taken,
@@ -189,7 +189,7 @@ pub(crate) const SCENES: [Scene; 7] = [
 pub(crate) struct Measured {
     pub(crate) name: &'static str,
     pub(crate) events: Vec<Event>,
-    /// The same where it is watched.
+    /// The same if it is watched.
     pub(crate) items: Vec<Seen>,
     /// How often a round takes it.
     pub(crate) slices: u64,

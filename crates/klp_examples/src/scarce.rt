@@ -1,5 +1,5 @@
-//! Want of memory before a manager is booted: catalogs over which so little memory is left, from none to enough.
-//! Then each allocation that needs more than there was before is refused in its turn.
+//! Lack of memory before a manager is booted: catalogs for which little memory is left, from none to enough. Then each
+//! allocation that needs more than there was before is refused in its turn.
 
 use crate::hoard::Hoard;
 use crate::starved::Room;
@@ -9,22 +9,22 @@ use std::alloc::{AllocError, Global};
 use std::rt::Files;
 use std::{fs, io};
 
-/// Catalogs that are refused, each behind a line of what is written to standard error, with a mark in front. A line
-/// feed before a mark isn't the catalog's, so an empty line ends its last line, and else that has no end.
+/// Catalogs that are refused, each after a line with a mark and what is written to standard error. The line feed before
+/// a mark isn't the catalog's: an empty line there ends the catalog's last line, which else has no end.
 const CATALOGS: &str = "refused.catalogs";
 
 const CATALOG_MARK: &str = "\n=== ";
 
-/// How much memory is left at most, which is more than is taken over the largest catalog.
+/// How much memory is left at most, which is more than the largest catalog takes.
 const SPAN: usize = 10_752 * 1024;
 
 /// What is read of the console's input.
 const INPUT: &[u8] = b"mark\n";
 
-/// The least that memory grows by is 16 bytes. Over the small catalog that is tried for all that is read of its text
-/// and all tables of names, and then by 4,096 bytes, less than any table of a manager has. Over the largest it is
-/// tried by 128 bytes for its first lines, and then by 20 kilobytes, as long as trying each time would take minutes.
-/// So many times so many bytes more are left each time, one after another.
+/// The least that memory grows by is 16 bytes. The small catalog is tried in such steps for all that is read of its
+/// text and all tables of names, and then in steps of 4,096 bytes, less than any table of a manager has. The largest is
+/// tried in steps of 128 bytes for its first lines, and then of 20 kilobytes, since trying each time would take
+/// minutes. Each pair has how many steps there are, and of how many bytes.
 const SCARCITIES: [(&str, [(u16, usize); 2]); 2] = [
     ("k1.catalog", [(1024, 16), (2044, 4096)]),
     ("largest.catalog", [(256, 128), (510, 20480)]),
@@ -38,9 +38,9 @@ const FAULTY_STEPS: [(u16, usize); 1] = [(128, 256)];
 enum Ended {
     // There was memory enough.
     Enough,
-    // Want of memory was reported for a line of the catalog.
+    // A lack of memory was reported for a line of the catalog.
     NoMemoryAtLine,
-    // Want of memory was reported, for no line.
+    // A lack of memory was reported, for no line.
     NoMemory,
     // It ended in another way, which none may.
     Unexpected,
@@ -82,11 +82,11 @@ impl Seen {
 #[derive(Drop)]
 struct Siege {
     alloc: Global,
-    // One piece that is in nobody's hands but while the console runs. It is taken again before the small blocks are,
-    // while all else is free, so that nothing comes to lie in its midst.
+    // One piece that is free only while the console runs. It is taken again before the small blocks are, while all else
+    // is free, so that nothing is placed within it.
     span: Option<Vec<u8>>,
-    // Small blocks, which an allocator keeps apart once they are let go. They are let go before all others, so that
-    // it keeps these, and puts the others together again.
+    // Small blocks, which an allocator keeps apart once they are freed. They are freed before all others, so that the
+    // allocator keeps these, and puts the others together again.
     few: Hoard,
     // All other memory, and what is written.
     room: Room,
@@ -106,8 +106,8 @@ impl Siege {
         })
     }
 
-    // Runs the console over a catalog where so many bytes of memory are left, in one piece. The answer is the exit
-    // status and how much of the input isn't read. All memory that was taken is there again afterwards.
+    // Runs the console over a catalog with so many bytes of memory left, in one piece. Returns the exit status and how
+    // much of the input isn't read. All memory that was taken is there again afterwards.
     fn run(&mut self, catalog: &[u8], left: usize) -> Result<(u8, usize), AllocError> {
         self.room.out.clear();
         self.room.err.clear();
@@ -139,7 +139,7 @@ impl Siege {
             && self.room.out.as_slice() == b"0\n".as_slice()
     }
 
-    // What was told, if nothing was read and written, and else nothing.
+    // What was reported, if nothing was read and written, and else nothing.
     fn fault_text(&self, (status, unread): (u8, usize)) -> &[u8] {
         if status == 1 && unread == INPUT.len() && self.room.out.is_empty() {
             &self.room.err
@@ -199,7 +199,7 @@ fn try_all(
     Ok(seen)
 }
 
-// Tries all amounts of memory over one catalog. Lines are refused, then what stands behind the text, and at last
+// Tries all amounts of memory over one catalog. First lines are refused, then what comes after the text, and at last
 // there is enough.
 fn try_catalog<R: Files + AllocGlobal>(
     rt: &R,
@@ -213,7 +213,7 @@ fn try_catalog<R: Files + AllocGlobal>(
     Ok(seen.lines && seen.others && seen.is_enough)
 }
 
-// Tries the catalogs of a text that are refused. Each is told its own fault, or want of memory.
+// Tries the catalogs of a text that are refused. Each reports its own fault, or a lack of memory.
 fn try_faulty(siege: &mut Siege, text: &str, tally: &mut Tally) -> Result<bool, AllocError> {
     let mut all = true;
     for case in text.split(CATALOG_MARK).skip(1) {
@@ -250,8 +250,8 @@ fn run_besieged<R: Files + Print + AllocGlobal>(rt: &R) -> io::Result<bool> {
     run_siege(rt, &mut siege)
 }
 
-/// Whether want of memory is told, or else nothing, whatever is left of memory. How many amounts of it were tried is
-/// told.
+/// Whether a lack of memory is reported, or else nothing, however much memory is left. Writes how many amounts were
+/// tried.
 pub(crate) fn run<R: Files + Print + AllocGlobal>(rt: &R) -> io::Result<bool> {
     let _besieged = Hoard::siege(rt.alloc())?;
     run_besieged(rt)

@@ -1,5 +1,5 @@
-//! Want of memory once a manager is booted: all memory is taken when its input is read first, and each script is
-//! answered as ever, since no call of a manager takes memory after boot.
+//! Lack of memory once a manager is booted: all memory is taken at the first read of its input, and each script is
+//! answered as ever, since no call of a manager allocates after boot.
 
 use crate::case::Case;
 use crate::hoard::Hoard;
@@ -8,10 +8,10 @@ use std::alloc::{AllocError, Global};
 use std::io;
 use std::io::Read;
 
-/// How many bytes there is room for that are written to standard error, and beside what has to be printed.
+/// How many bytes there is room for on standard error, and beyond what has to be printed.
 const ROOM: usize = 256;
 
-/// What has its room before all other memory is taken.
+/// What is allocated before all other memory is taken.
 #[derive(Drop)]
 pub(crate) struct Room {
     pub(crate) hoard: Hoard,
@@ -29,7 +29,7 @@ impl Room {
     }
 }
 
-// A script behind whose first read no memory is left.
+// A script after whose first read no memory is left.
 #[derive(Drop)]
 struct Starving<'a> {
     script: &'a [u8],
@@ -49,7 +49,7 @@ impl Read for Starving<'_> {
     }
 }
 
-/// Whether the script prints its output, and nothing else, where no memory is left once a manager is booted.
+/// Whether the script prints its output, and nothing else, if no memory is left once a manager is booted.
 pub(crate) fn is_served(alloc: Global, case: &Case) -> Result<bool, AllocError> {
     let Room {
         hoard,

@@ -26,7 +26,7 @@ impl Tally {
         }
     }
 
-    /// Tells how many hold and how many don't, and answers whether all do.
+    /// Writes how many hold and how many don't, and returns whether all do.
     pub(crate) fn print_tally<R: Print>(
         self,
         rt: &R,

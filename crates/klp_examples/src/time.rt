@@ -3,7 +3,7 @@
 use std::time::Instant;
 use std::{fmt, io};
 
-/// The nanoseconds of the shortest of some rounds. It is told where there were several, behind what was done.
+/// The nanoseconds of the shortest of some rounds. It is written if there were several, after what was done.
 #[derive(Clone, Copy)]
 pub(crate) struct Shortest {
     nanoseconds: u128,

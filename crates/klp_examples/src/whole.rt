@@ -13,11 +13,11 @@ use std::time::Instant;
 pub(crate) enum Work<'a> {
     /// A catalog's text is read.
     Read(&'a [u8]),
-    /// A manager is booted over a catalog's text, serves this input, and goes again.
+    /// A manager is booted over a catalog's text, serves this input, and is dropped.
     Serve(&'a [u8], &'a [u8]),
 }
 
-/// Does the work once. What is answered is put into `out`, which keeps its room.
+/// Does the work once. Puts what is answered into `out`, which keeps its capacity.
 fn done(alloc: Global, work: Work<'_>, out: &mut Vec<u8>) -> io::Result<()> {
     match work {
         Work::Read(catalog) => match Catalog::read(alloc, catalog) {
@@ -35,7 +35,7 @@ fn done(alloc: Global, work: Work<'_>, out: &mut Vec<u8>) -> io::Result<()> {
     }
 }
 
-/// Does the work so many times. The answer is the shortest time, and how many bytes were answered at last.
+/// Does the work so many times. Returns the shortest time, and how many bytes were answered at last.
 pub(crate) fn shortest<R: Clock>(
     rt: &R,
     alloc: Global,

@@ -17,7 +17,7 @@ const UTF16_MARKS: [[u8; 2]; 2] = [[0xfe, 0xff], [0xff, 0xfe]];
 /// How many digits a byte of a body has.
 const DIGITS: usize = 2;
 
-/// Whether a text begins as a catalog does that may have no fault: with its handler, or with an object.
+/// Whether a text begins as a catalog without a fault can: with its handler, or with an object.
 pub fn begins_as_catalog(text: &[u8]) -> bool {
     let mut lines = Lines::new(text);
     for _ in 0..text.len() {
@@ -74,7 +74,7 @@ fn is_spelled(alloc: Global, part: Part, word: &[u8]) -> bool {
     }
 }
 
-/// Returns the first of these words that is no edit, as what is wrong. Looks at `most` words at most.
+/// Returns as wrong the first of these words that is no edit. Looks at `most` words at most.
 fn bad_edit<'a>(alloc: Global, mut words: LineWords<'a>, most: usize) -> Wrong<'a> {
     let mut word = words.next().unwrap_or(&[]);
     for _ in 0..most {
@@ -86,8 +86,8 @@ fn bad_edit<'a>(alloc: Global, mut words: LineWords<'a>, most: usize) -> Wrong<'
     Wrong::Word(word, Part::Edit.wanted())
 }
 
-/// Returns the first word of a line that isn't spelled as its part of the form is, as what is wrong. If all words are,
-/// it is the symbol: that is of another object than the target's.
+/// Returns as wrong the first word of a line that isn't spelled as its part of the form. If all words are, returns the
+/// symbol, which is of another object than the target's.
 fn bad_word<'a>(alloc: Global, form: &Form, line: &'a [u8]) -> Wrong<'a> {
     let mut words = words_of(line);
     words.next();
@@ -103,7 +103,7 @@ fn bad_word<'a>(alloc: Global, form: &Form, line: &'a [u8]) -> Wrong<'a> {
     Wrong::Word(word_at(words_of(line), 2), Part::Symbol.wanted())
 }
 
-/// Returns what is wrong with a line that says again what one above says: the word that is there already.
+/// Returns what is wrong with a line that repeats one above: the word that is there already.
 fn twice<'a>(form: &Form, line: &'a [u8]) -> Wrong<'a> {
     let number = match form.parts {
         [Part::Name | Part::Id, ..] => 2,
@@ -112,7 +112,7 @@ fn twice<'a>(form: &Form, line: &'a [u8]) -> Wrong<'a> {
     Wrong::Word(word_at(words_of(line), number), form.once)
 }
 
-/// Returns what is wrong with a line of which there are too many, or with a body that is too long.
+/// Returns what is wrong with a line that is one too many, or with a body that is too long.
 fn too_many<'a>(form: &Form, line: &'a [u8]) -> Wrong<'a> {
     let body = word_at(words_of(line), 4);
     match form.parts {

@@ -5,11 +5,11 @@ use std::fmt;
 /// How many bytes of a word are shown.
 const SHOWN: usize = 64;
 
-/// Writes bytes as they are, except those that drive a terminal, can't be seen or are no text: these it escapes.
+/// Writes bytes as they are, but escapes those that drive a terminal, can't be seen or are no text.
 #[derive(Clone, Copy)]
 pub struct Escaped<'a>(pub &'a [u8]);
 
-/// Writes bytes as [`Escaped`] does, between quotes. Cuts them off behind the first [`SHOWN`], and writes `..` then.
+/// Writes bytes as [`Escaped`] does, between quotes. Cuts them off after the first [`SHOWN`], and then writes `..`.
 #[derive(Clone, Copy)]
 pub struct Quoted<'a>(pub &'a [u8]);
 

@@ -4,7 +4,7 @@ use klp_types::{
     MAX_EDITS, MAX_FUNCTIONS, MAX_OBJECTS, MAX_PATCHES, MAX_SITES, MAX_STATES, MAX_TARGETS,
 };
 
-/// What a word behind the first one of a line is.
+/// What a word after a line's first word is.
 #[derive(Clone, Copy)]
 pub(crate) enum Part {
     Name,

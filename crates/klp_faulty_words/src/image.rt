@@ -4,10 +4,10 @@ use crate::wrong::{Named, Wrong};
 use klp_text::ImageFault;
 use klp_types::{ENTRY_SITE_LEN, ObjectText, SymbolText};
 
-/// ENDBR64, behind which the entry site of a function is that begins with it.
+/// ENDBR64. A function that begins with it has its entry site behind it.
 const ENDBR64: [u8; 4] = [0xf3, 0x0f, 0x1e, 0xfa];
 
-/// Returns how many bytes of a symbol's body its entry site ends behind.
+/// Returns after how many bytes of a symbol's body its entry site ends.
 fn entry_end(symbol: &SymbolText) -> usize {
     if symbol.body.starts_with(&ENDBR64) {
         ENDBR64.len() + ENTRY_SITE_LEN

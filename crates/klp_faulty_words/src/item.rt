@@ -1,5 +1,4 @@
-//! The lines of a trace, as far as they tell of one task, and one that is no item; and a line of a script that may be
-//! misspelled.
+//! The lines of a trace that are about one task, or are no items; and a line of a script that may be misspelled.
 
 use crate::lines::word_at;
 use crate::names::{Kind, Names, wrong_word};
@@ -10,7 +9,7 @@ use klp_types::MAX_FRAMES;
 use klp_words::{LineWords, Separators, microseconds, number64};
 
 /// How items are written. A word in capital letters stands for one of its kind, and `..` for more of the last kind. The
-/// lines of shadow variables have no names to be told.
+/// lines of shadow variables have no names to report.
 static FORMS: [&str; 19] = [
     "call TASK SYMBOL",
     "return TASK",
@@ -33,10 +32,10 @@ static FORMS: [&str; 19] = [
     "task sleep TASK FRAME ..",
 ];
 
-/// How what the files of a patch read is written, which begins as other items do.
+/// How a sight of a patch's files is written. It begins as other items do.
 const FILES: &str = "saw PATCH ENABLED TRANSITION";
 
-/// With what the items begin that are no events.
+/// The first words of items that are no events.
 const OF_NO_EVENT: [&[u8]; 6] = [b"call", b"return", b"saw", b"ran", b"hooked", b"plain"];
 
 /// What the words in capital letters stand for.
@@ -53,11 +52,11 @@ static KINDS: [(&str, Kind); 10] = [
     ("STATE", Kind::State),
 ];
 
-/// What is wanted where a line has none of these forms, or one that asks for no event.
+/// What is wanted if a line has none of these forms, or one that asks for no event.
 const ITEM: &str =
     "is call TASK SYMBOL, return TASK, or a line of the console that asks for an event";
 
-/// What is wanted in front of an answer, where no event stands.
+/// What is wanted before an answer, if no event stands there.
 const ANSWERED: &str = "is a line without =>, behind which an event's answer stands";
 
 /// What is wanted behind `=>`.
@@ -67,10 +66,10 @@ const ANSWER: &str =
 /// What is wanted behind `@`.
 const TIME: &str = "is seconds, with 6 decimals at most, and an item behind a space";
 
-/// What is wanted where a line of a script has none of the console's forms.
+/// What is wanted if a line of a script has none of the console's forms.
 const LINE: &str = "is a line of the console";
 
-/// What a line of a trace says of a task, or of a module that goes. Other lines aren't told apart.
+/// What a line of a trace says of a task, or of a module that goes. Other lines aren't distinguished.
 #[derive(Clone, Copy)]
 pub enum Item<'a> {
     /// The task calls the function that is spelled so.
@@ -92,7 +91,7 @@ fn word(line: &[u8], number: usize) -> &[u8] {
     word_at(words_of(line), number)
 }
 
-/// Returns what a line says whose first word is `task`, by its second and third. `None` if nothing of it is told apart.
+/// Returns what a line with the first word `task` says, by its second and third word. `None` for any other line.
 fn task_item<'a>(verb: &[u8], task: &[u8]) -> Option<Item<'a>> {
     let task = number64(task)?;
     if verb == b"sleep".as_slice() {
@@ -107,7 +106,7 @@ fn task_item<'a>(verb: &[u8], task: &[u8]) -> Option<Item<'a>> {
 }
 
 impl<'a> Item<'a> {
-    /// Reads what a line says of a task or a module. `None` if it says nothing that is told apart.
+    /// Reads what a line says of a task or a module. `None` for any other line.
     pub fn read(line: &'a [u8]) -> Option<Item<'a>> {
         let item = LineParts::of(line).item;
         let (first, second, third) = (word(item, 1), word(item, 2), word(item, 3));
@@ -221,8 +220,7 @@ fn is_of_no_event(item: &[u8]) -> bool {
     OF_NO_EVENT.iter().any(|first| *first == word(item, 1))
 }
 
-/// Returns what is wrong with a line of a trace that is no item. Both the names of the catalog and its text are looked
-/// at.
+/// Returns what is wrong with a line of a trace that is no item. Looks at both the names of the catalog and its text.
 pub fn wrong_of<'a>(line: &'a [u8], names: &Names<'_>, catalog: &'a [u8]) -> Wrong<'a> {
     let parts = LineParts::of(line);
     if let Some(time) = parts.time
@@ -244,8 +242,8 @@ pub fn wrong_of<'a>(line: &'a [u8], names: &Names<'_>, catalog: &'a [u8]) -> Wro
 }
 
 /// Returns what may be misspelled in a line of a script: the line is none of the console's, or has a name that the
-/// catalog lacks. `None` if nothing is, and for lines that only ask or are about shadow variables, which aren't looked
-/// into.
+/// catalog lacks. `None` if nothing is, and for lines that aren't checked: those that only ask, or are about shadow
+/// variables.
 pub fn misspelled_in<'a>(
     line: &'a [u8],
     names: &Names<'_>,

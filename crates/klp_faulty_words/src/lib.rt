@@ -6,10 +6,10 @@
 //! for one site. A [`Wrong`](wrong::Wrong) is what was found, as a sentence.
 //!
 //! A hint says what means something in other files and nothing here (`stray.rt`), or names a function of the catalog
-//! whose symbol isn't picked (`unpicked.rt`), with a name that is spelled nearly so (`near.rt`).
+//! whose symbol isn't picked (`unpicked.rt`), with a similarly spelled name (`near.rt`).
 //!
-//! All of it is for people, and has no contract. No file drives a terminal by it (`escaped.rt`), and each call is done
-//! with any files.
+//! All of it is for people, and has no contract. No file can drive a terminal through it (`escaped.rt`), and each call
+//! works with any files.
 #![tactic(auto)]
 
 pub mod catalog_fault;

@@ -7,7 +7,7 @@ use klp_catalog_text::PlanPatch;
 use klp_types::{MAX_INDEX, MAX_TASKS, ObjectText};
 use klp_words::{cut, number64, spelling_of};
 
-/// What the files of a patch begin with.
+/// What the paths of a patch's files begin with.
 const BELOW_PATCHES: &[u8] = b"/sys/kernel/livepatch/";
 
 /// What a word of a trace has to be.
@@ -46,7 +46,7 @@ pub struct Names<'a> {
     pub patches: &'a [PlanPatch],
 }
 
-/// Returns what is wrong with a word that isn't of this kind. The text of the catalog tells what a symbol's name may
+/// Returns what is wrong with a word that isn't of this kind. The text of the catalog shows what a symbol's name may
 /// have been meant for.
 pub(crate) fn wrong_word<'a>(kind: Kind, word: &'a [u8], catalog: &'a [u8]) -> Wrong<'a> {
     let unpicked = match kind {

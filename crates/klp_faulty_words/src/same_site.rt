@@ -68,7 +68,7 @@ fn pair_of<'a>(objects: &'a [ObjectText], patch: &'a PlanPatch) -> Option<Pair<'
     None
 }
 
-/// Returns, for the first patch that has such, the first two functions that are for one site. `None` if no patch has.
+/// Returns the first two functions for one site, of the first patch that has such. `None` if no patch has.
 pub fn first_pair<'a>(
     objects: &'a [ObjectText],
     patches: &'a [PlanPatch],

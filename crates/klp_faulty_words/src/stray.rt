@@ -31,7 +31,7 @@ pub enum Stray {
     Comment,
 }
 
-/// The first of these tells all, where it is UTF-16.
+/// If the file is UTF-16, only the first of these is reported.
 pub const STRAYS: [Stray; 8] = [
     Stray::Utf16,
     Stray::Catalog,
@@ -67,8 +67,8 @@ fn is_of_trace(line: &[u8]) -> bool {
         )
 }
 
-/// Whether nothing is to be told of a line's spelling. So it is if the line has no words, gets another hint, is a
-/// fault, or is about shadow variables, which have no names.
+/// Whether a line's spelling needs no hint here: the line has no words, gets another hint, is a fault, or is about
+/// shadow variables, which have no names.
 pub(crate) fn is_reported_elsewhere(line: &[u8]) -> bool {
     let (first, _) = first_words(line);
     let has_stray = line.iter().any(|b| matches!(*b, b'\r' | b'\t'));
@@ -78,7 +78,7 @@ pub(crate) fn is_reported_elsewhere(line: &[u8]) -> bool {
 }
 
 impl Stray {
-    /// Whether a line has it, or, of what is told of a whole file, whether a text has it.
+    /// Whether a line has it, or a whole text, for what concerns a whole file.
     fn is_in(self, line: &[u8]) -> bool {
         match self {
             Stray::Catalog => begins_as_catalog(line),
@@ -102,7 +102,7 @@ impl Stray {
         Some(place?.saturating_add(1))
     }
 
-    /// Returns what is told of it in a file of this kind. `None` if such a file may have it.
+    /// Returns the hint at it in a file of this kind. `None` if such a file may have it.
     pub fn hint(self, kind: Kind) -> Option<&'static str> {
         Some(match (self, kind) {
             (Stray::Catalog, Kind::Script) => "a catalog, where a script is wanted",

@@ -1,4 +1,4 @@
-//! A symbol that a name and a position don't pick: there is none of the name, there are several, or there are fewer.
+//! A symbol that a name and a position don't pick: there is none of the name, there are several, or there are too few.
 
 use crate::catalog_fault::first_words;
 use crate::escaped::{Escaped, Quoted};
@@ -12,13 +12,13 @@ const KERNEL: &[u8] = b"vmlinux";
 /// Why a symbol isn't picked.
 #[derive(Clone, Copy)]
 pub enum Why<'a> {
-    /// The catalog has no such object, but maybe one of a name that is nearly so.
+    /// The catalog has no such object, but maybe one with a similar name.
     NoObject(Option<&'a [u8]>),
-    /// The object has no such symbol, but maybe one of a name that is nearly so.
+    /// The object has no such symbol, but maybe one with a similar name.
     NoSymbol(Option<&'a [u8]>),
-    /// It has so many.
+    /// The object has so many.
     Several(usize),
-    /// It has no more than so many.
+    /// The object has only so many.
     Fewer(usize),
 }
 
@@ -49,7 +49,7 @@ struct Found<'a> {
     near_symbol: Option<&'a [u8]>,
 }
 
-/// Writes that a name is spelled nearly so, if there is one.
+/// Writes a similarly spelled name, if there is one.
 fn write_but<W: fmt::Write>(f: &mut fmt::Formatter<W>, near: Option<&[u8]>) -> fmt::Result {
     match near {
         Some(name) => write!(f, ", but {}", Escaped(name)),
@@ -104,8 +104,8 @@ impl<'a> fmt::Display for Unloadable<'a> {
     }
 }
 
-/// Returns what a catalog has in place of this symbol. Only lines in front of the first patch are looked at, since
-/// objects and symbols stand there.
+/// Returns what a catalog has in place of this symbol. Looks only at lines before the first patch, since objects and
+/// symbols stand there.
 fn found_in<'a>(catalog: &'a [u8], wanted: &Spelling<'_>) -> Found<'a> {
     let (object, symbol) = (wanted.object.as_bytes(), wanted.symbol.as_bytes());
     let mut found = Found {
@@ -157,8 +157,8 @@ fn is_loaded(text: &[u8], patch: &[u8]) -> bool {
         .any(|line| first_words(line) == (b"load".as_slice(), patch))
 }
 
-/// Whether a hint is worth it. A symbol that isn't there is always told. That there are several of its name is told
-/// only if the script or the trace loads the patch.
+/// Whether a hint is worth it. A missing symbol of an object always gets one. Several symbols of its name get one only
+/// if the script or the trace loads the patch.
 fn is_reported(unpicked: &Unpicked<'_>, patch: &[u8], second: &[u8]) -> bool {
     match unpicked.why {
         Why::NoSymbol(_) | Why::Fewer(_) => true,

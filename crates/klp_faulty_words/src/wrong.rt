@@ -20,7 +20,7 @@ pub struct Pair<'a> {
     pub site: Named<'a>,
 }
 
-/// What is wrong. What is wanted begins with its verb.
+/// What is wrong. Each text of what is wanted begins with its verb.
 #[derive(Clone, Copy)]
 pub enum Wrong<'a> {
     /// Something is lacking.
@@ -31,7 +31,7 @@ pub enum Wrong<'a> {
     Unpicked(&'a [u8], Unpicked<'a>),
     /// A line stands where one of this form is wanted.
     Form(&'a [u8], &'static str),
-    /// It is one more than there may be of these.
+    /// This is one more than the allowed number of these.
     Most(&'a [u8], usize, &'static str),
     Symbol(Named<'a>, &'static str),
     SharedAddress(Named<'a>, Named<'a>),

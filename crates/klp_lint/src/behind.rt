@@ -1,4 +1,4 @@
-//! What a manager would answer behind events, which are all taken back at once.
+//! What a manager would answer after events, which are all taken back at once.
 ghost use Rattle.std.specs.Prelude.{◌≡◌};
 ghost use Rattle.klp_core.specs.Journaled.{IsWellFormed};
 ghost use Rattle.klp_manager_state.specs.Managed.{setting_of};
@@ -8,11 +8,11 @@ use klp_core::Manager;
 use klp_model::{Event, Refusal, Reply};
 use klp_types::{ShadowKey, ShadowValue};
 
-/// Takes events one after another and one more behind them, returns the reply to that one or why it was refused, and
-/// takes all of them back. A refused one changes nothing.
+/// Takes events one after another, and then one more. Returns the reply to the last one, or why it was refused, and
+/// takes all of them back. A refused event changes nothing.
 ///
-/// The manager is then as it was, but for the counts of the callbacks that ran: these stay raised, since no call lowers
-/// them. So call this for a manager that was booted for it, and not for one whose counts somebody reads.
+/// The manager is then as before, except that the counts of the callbacks that ran stay raised: no call lowers them. So
+/// call this for a manager that was booted for it, and not for one whose counts somebody reads.
 pub fn reply_behind(
     manager: &mut Manager,
     events: &[Event],

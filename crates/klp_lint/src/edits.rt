@@ -118,8 +118,8 @@ pub(crate) fn edit_touches(key: ShadowKey, edit: &Edit) -> bool
     }
 }
 
-/// A variable that two edits might both touch, if there is one that they do: one that either names, or else one of the
-/// id that both free.
+/// A variable that both edits touch, if they touch a common one: one that either names, or else one of the id that both
+/// free.
 fn candidate(one: &Edit, other: &Edit) -> ShadowKey
     ensures { (key : AnyKey) → scripts.edit_touches key one.now ≡ true → scripts.edit_touches key other.now ≡ true
         → (scripts.edit_touches result one.now ≡ true) × (scripts.edit_touches result other.now ≡ true) }
@@ -145,7 +145,7 @@ fn common_key(one: &Edit, other: &Edit) -> Option<ShadowKey>
     }
 }
 
-/// A variable that the edit touches, and one of the others too.
+/// A variable that this edit and one of the others touch.
 fn common_with(one: &Edit, others: &[Edit]) -> Option<ShadowKey>
     ensures { MatchOption result (AreEditsApart (one.now ∷ []) others.now)
         (λ key. (scripts.edit_touches key one.now ≡ true) × (one_edit_touches others.now key ≡ true)) }

@@ -1,5 +1,5 @@
-//! Whether the premises of the round trip hold of a patch: in the state of a manager, or wherever none of its variables
-//! is there.
+//! Whether the premises of the round trip hold for a patch: in the state of a manager, or wherever none of the patch's
+//! variables is there.
 ghost use Rattle.std.specs.Prelude.{◌≡◌, slice_get, IfOk, IfErr};
 ghost use Rattle.klp_catalog.specs.Catalog.{targets_of_patch};
 ghost use Rattle.klp_manager_state.specs.Managed.{setting_of};
@@ -51,7 +51,7 @@ fn judge<V: Variables>(
 /// Whether a patch that is enabled now and withdrawn later leaves no trace: whether it is at a fair start of the round
 /// trip (docs/ROUND_TRIP.md). `Err` has a premise that fails.
 ///
-/// `patches` are those of the plan over which the manager was booted: a manager doesn't tell the scripts of its
+/// `patches` are those of the plan over which the manager was booted: a manager doesn't show the scripts of its
 /// callbacks.
 pub fn leaves_no_trace(
     manager: &Manager,

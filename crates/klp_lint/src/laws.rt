@@ -21,8 +21,8 @@ ghost use Rattle.klp_lint.specs.Behind.{IsAnsweredBehind};
 ghost use Rattle.klp_lint.specs.Premises.{ArePatchesOf, Fails, FailsOf, HoldEverywhere};
 
 /// A manager that is booted over a plan has its patches, which `leaves_no_trace` takes: it has the names of its image,
-/// the plan's patches but for the scripts, and the plan's scripts in order (klp_program/specs/Booted). Events leave the
-/// setting.
+/// the plan's patches without the scripts, and the plan's scripts in order (klp_program/specs/Booted). Events don't
+/// change the setting.
 pub fn a_booted_manager_has_the_patches_of_its_plan()
     ensures { (managed : Managed) (patches : List PlanPatch)
         → managed.catalog.names ≡ names_of managed.image.objects
@@ -30,7 +30,7 @@ pub fn a_booted_manager_has_the_patches_of_its_plan()
         → scripts_of managed.catalog.patches ≡ scripts_of patches → ArePatchesOf (setting_of managed) patches }
 {}
 
-/// Where a premise fails, the patch isn't at a fair start.
+/// If a premise fails, the patch isn't at a fair start.
 pub fn what_fails_is_no_fair_start()
     ensures { (setting : Setting) (patch : ℕ) (state : State) (premise : AnyPremise)
         → Fails setting patch state premise → IsFairStart setting patch state → ⊥ }
@@ -38,7 +38,7 @@ pub fn what_fails_is_no_fair_start()
     klp_types::laws::untouched_variables_stay();
 }
 
-/// What fails where there are no variables at all doesn't hold in each world without those that the callbacks touch.
+/// A premise that fails without any variables doesn't hold in each world without those that the callbacks touch.
 pub fn what_fails_without_variables_fails_somewhere()
     ensures { (setting : Setting) (patch : ℕ) (state : State) (premise : AnyPremise)
         → FailsOf (λ _. None) (taking_part setting state patch) premise → HoldEverywhere setting patch state → ⊥ }
@@ -47,15 +47,15 @@ pub fn what_fails_without_variables_fails_somewhere()
     klp_types::laws::edits_go_key_by_key();
 }
 
-/// Behind no events, the answer of `reply_behind` is that of the definitions at the manager's own state.
+/// After no events, the answer of `reply_behind` is that of the definitions at the manager's own state.
 pub fn behind_nothing_is_now()
     ensures { (before after : Journaled) (event : Event) (result : Result Reply Refusal)
         → IsAnsweredBehind before after [] event result
         → result ≡ answer_in (setting_of before.managed) before.managed.state before.groups event }
 {}
 
-/// Where the premises hold before fair events, and the patch isn't installed behind them, no trace of it is left: this
-/// is what `Manager::run` promises, of whom `leaves_no_trace` says that it is at a fair start.
+/// If the premises hold before fair events, and the patch isn't installed after them, no trace of it is left.
+/// `Manager::run` promises this for a patch that is at a fair start, as `leaves_no_trace` says.
 pub fn what_is_fair_leaves_no_trace()
     ensures { (before after : Journaled) (patch : ℕ) → LeavesNoTrace before after
         → IsFairStart (setting_of before.managed) patch before.managed.state

@@ -9,9 +9,10 @@
 //! variables stay as they are. `src/objects.rt` goes over the objects of a patch (`specs/Acting`). Neither knows a
 //! manager: what variables there are is a trait ([`variables`]).
 //!
-//! `src/behind.rt` asks a manager what it would answer behind events, which are all taken back (`specs/Behind`).
+//! `src/behind.rt` asks a manager what it would answer after events, which are all taken back (`specs/Behind`).
 //!
-//! `laws` says that what is told to fail does, and what `Manager::run` then promises of a patch at a fair start.
+//! `laws` says that a premise that is reported to fail does fail, and what `Manager::run` promises of a patch at a fair
+//! start.
 #![tactic(auto)]
 
 mod behind;

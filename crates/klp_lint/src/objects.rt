@@ -1,4 +1,4 @@
-//! The premises of the objects of a patch, for those that are loaded, before the first whose pre-patch refuses.
+//! The premises of a patch's objects: of the loaded ones, before the first whose pre-patch refuses.
 ghost use Rattle.std.specs.Prelude.{◌≡◌, ℕ, ◌+◌, ◌^◌, ◌<◌, ◌≤◌, true, [], ◌∷◌, length, MatchOption, OnOk};
 ghost use Rattle.klp_types.specs.Callbacks.{script_for, is_refusing};
 ghost use Rattle.klp_types.specs.Setting.{PatchObject};
@@ -17,7 +17,7 @@ use klp_catalog_text::{PlanCallback, PlanTarget};
 use klp_modules::Modules;
 use klp_types::{Edit, ShadowKey, Which};
 
-/// An object whose callbacks make changes, with its index in the patch, and the targets behind it.
+/// An object whose callbacks make changes, with its index in the patch, and the targets after it.
 #[derive(Clone, Copy)]
 struct Acting<'a> {
     place: usize,

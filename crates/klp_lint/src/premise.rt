@@ -20,7 +20,7 @@ pub(crate) struct Left {
     pub(crate) key: ShadowKey,
 }
 
-/// A premise of the round trip that a patch doesn't keep (docs/ROUND_TRIP.md). An object is told by its index among
+/// A premise of the round trip that a patch doesn't keep (docs/ROUND_TRIP.md). An object is given by its index among
 /// those of the patch, from 0.
 #[derive(Clone, Copy, PartialEq, Eq)]
 pub enum Premise {

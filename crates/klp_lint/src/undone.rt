@@ -43,8 +43,8 @@ pub(crate) fn first_unrestored(
     None
 }
 
-/// The first variable of the id that a pair of an object's callbacks doesn't restore. One that isn't there stays away,
-/// as far as a freeing of the id goes.
+/// The first variable of the id that a pair of an object's callbacks doesn't restore. A variable that isn't there stays
+/// absent when the id is freed.
 fn left_of_id<V: Variables>(variables: &V, callbacks: &[PlanCallback], id: u64) -> Option<Left>
     ensures { MatchOption result (IsHarmless (V.values variables.now) callbacks.now (AnyEdit.FreeAll id))
         (λ left. IsLeft (V.values variables.now) callbacks.now left) }
@@ -77,7 +77,7 @@ fn left_of<V: Variables>(variables: &V, callbacks: &[PlanCallback], edit: &Edit)
     }
 }
 
-/// The same of the first of these edits that names such a thing.
+/// The same for the first of these edits that names such a thing.
 fn first_left<V: Variables>(
     variables: &V,
     callbacks: &[PlanCallback],
@@ -107,7 +107,7 @@ pub(crate) fn left_by<V: Variables>(variables: &V, callbacks: &[PlanCallback]) -
     }
 }
 
-/// The value of a variable that the first callback of a pair finds. Before pre-patch it has this one.
+/// The value of a variable that the first callback of a pair finds. Before pre-patch it has the value `was`.
 pub fn found_by(
     callbacks: &[PlanCallback],
     pair: Pair,
@@ -122,8 +122,8 @@ pub fn found_by(
     }
 }
 
-/// The value that the variable has behind both callbacks of the pair. The pair restores it where both values are the
-/// same.
+/// The value that the variable has after both callbacks of the pair. The pair restores the variable if the first
+/// callback found this value.
 pub fn left_behind(
     callbacks: &[PlanCallback],
     pair: Pair,

@@ -18,7 +18,7 @@ pub(crate) trait Variables {
         ensures { result ≡ values self.now key };
 
     /// The lowest parent object above `after` that has a variable of the id, or the lowest of all without `after`. None
-    /// if none has one there.
+    /// if there is no such parent.
     fn next_parent(&self, id: u64, after: Option<u64>) -> Option<u64>
         ensures { IsNextOf (values self.now) id (lowest_above after) result };
 }

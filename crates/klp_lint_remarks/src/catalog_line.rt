@@ -31,7 +31,7 @@ struct Passed {
 }
 
 impl Passed {
-    /// Goes past a line that begins with this word. Whether a patch or a target begins in it.
+    /// Goes past a line that begins with this word. Returns whether a patch or a target begins in it.
     fn pass(&mut self, word: &[u8]) -> bool {
         match word {
             b"patch" => {
@@ -47,7 +47,7 @@ impl Passed {
         }
     }
 
-    /// Whether a line with this first word, which begins a patch or a target or doesn't, is at the place.
+    /// Whether a line with this first word is at the place. `begins` is whether it begins a patch or a target.
     fn is_at(self, place: CatalogPlace<'_>, word: &[u8], begins: bool) -> bool {
         let targets = match place.target {
             Some(target) => target.saturating_add(1),
@@ -61,7 +61,7 @@ impl Passed {
     }
 }
 
-/// The line of the place in a catalog without a fault, counted from 1. 0 where there is no such line.
+/// The line of the place in a catalog without a fault, counted from 1; 0 if there is no such line.
 pub(crate) fn line_of(text: &[u8], place: CatalogPlace<'_>) -> u64 {
     let mut passed = Passed {
         patches: 0,

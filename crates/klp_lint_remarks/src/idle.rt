@@ -1,4 +1,4 @@
-//! What of a patch can't work, or does nothing, in any world.
+//! What in a patch can't work, or does nothing, in any world.
 
 use crate::catalog_line::word_of;
 use crate::remark::{Kind, Remark};
@@ -50,7 +50,7 @@ fn idle_state(patch: &PlanPatch, patches: &[PlanPatch], edit: &Edit) -> Option<I
     }
 }
 
-/// Says the edits of a callback that do nothing, and answers how many there are.
+/// Says the edits of a callback that do nothing, and returns how many there are.
 fn say_idle_edits<W: Write>(
     own: &LintedPatch<'_>,
     place: usize,
@@ -72,7 +72,7 @@ fn say_idle_edits<W: Write>(
     Ok(count)
 }
 
-/// Says the edits of a patch that do nothing, and answers how many there are.
+/// Says the edits of a patch that do nothing, and returns how many there are.
 pub(crate) fn say_idle<W: Write>(own: &LintedPatch<'_>, out: &mut W) -> io::Result<u64> {
     let mut count = 0u64;
     let patch = own.patch;
@@ -109,7 +109,7 @@ impl fmt::Display for Unpicked<'_> {
     }
 }
 
-/// Says the functions of a patch whose symbols aren't picked, and answers how many there are.
+/// Says the functions of a patch whose symbols aren't picked, and returns how many there are.
 pub(crate) fn say_unpicked<W: Write>(
     own: &LintedPatch<'_>,
     modules: &Modules,

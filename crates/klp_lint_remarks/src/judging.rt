@@ -1,5 +1,5 @@
-//! A manager is booted over a catalog, serves a script, and then each patch is judged. Another one is booted, in which
-//! they are loaded over each other.
+//! Booting a manager over a catalog, serving a script, and then judging each patch. Another manager is booted, in which
+//! the patches are loaded over each other.
 ghost use Rattle.std.specs.Prelude.{◌≡◌, ◌<◌, ◌≤◌, length, IfSome};
 ghost use Rattle.klp_catalog_text.specs.Within.{AreTargetsWithin};
 
@@ -22,7 +22,7 @@ use std::io::Write;
 use std::marker::Brand;
 use std::sync::ledger::{Blank, Ledger};
 
-/// Does a line of the script. Its answer is dropped.
+/// Does a line of the script, and drops its answer.
 fn do_line<M: Ledger>(
     alloc: Global,
     manager: &mut Manager,
@@ -41,7 +41,7 @@ fn do_line<M: Ledger>(
     }
 }
 
-/// The first line of a text, and what comes behind it. None if nothing is left.
+/// The first line of a text, and what comes after it. None if nothing is left.
 fn cut_line(text: &[u8]) -> Option<(&[u8], &[u8])>
     ensures { IfSome result (λ cut. length cut.1.now < length text.now) }
 {
@@ -65,7 +65,7 @@ fn do_lines(alloc: Global, manager: &mut Manager, script: &[u8]) -> Result<(), F
     Ok(())
 }
 
-/// Says what comes of a patch, and answers how many findings that is.
+/// Says what comes of a patch, and returns how many findings that is.
 fn say<W: Write>(
     own: &LintedPatch<'_>,
     manager: &Manager,
@@ -79,7 +79,7 @@ fn say<W: Write>(
     }
 }
 
-/// Judges a patch by itself, and answers how many findings there are.
+/// Judges a patch by itself, and returns how many findings there are.
 fn judge_one<W: Write>(own: &LintedPatch<'_>, manager: &Manager, out: &mut W) -> io::Result<u64> {
     let (patches, patch) = (own.linted.patches, patch_id(own.number));
     let judged = leaves_no_trace(manager, patches, patch);
@@ -96,7 +96,7 @@ fn judge_one<W: Write>(own: &LintedPatch<'_>, manager: &Manager, out: &mut W) ->
     )
 }
 
-/// Says what of a patch is near a limit, or is just like another patch.
+/// Says what in a patch is near a limit, or whether it is just like another patch.
 fn say_limits<W: Write>(own: &LintedPatch<'_>, out: &mut W) -> io::Result<u64> {
     let near = say_near(own, out)?;
     let room = say_room(own, out)?;
@@ -104,7 +104,7 @@ fn say_limits<W: Write>(own: &LintedPatch<'_>, out: &mut W) -> io::Result<u64> {
     Ok(near.saturating_add(room).saturating_add(alike))
 }
 
-/// Judges each patch by itself, and answers how many findings there are.
+/// Judges each patch by itself, and returns how many findings there are.
 fn judge_all<W: Write>(linted: Linted<'_>, manager: &Manager, out: &mut W) -> io::Result<u64> {
     let mut findings = 0u64;
     for number in 0..linted.patches.len() {
@@ -152,7 +152,7 @@ fn lint<W: Write>(
     judge(part, linted, manager, out)
 }
 
-// The manager goes then.
+// Drops the manager then.
 fn lint_by<W: Write>(
     alloc: Global,
     mut manager: Manager,
@@ -166,7 +166,7 @@ fn lint_by<W: Write>(
     ended
 }
 
-// Boots a manager over a plan, and judges the patches by it. The callbacks are made here, as where a trace is watched.
+// Boots a manager over a plan, and judges the patches by it. The callbacks are made here, as for watching a trace.
 fn lint_over_plan<W: Write>(
     alloc: Global,
     plan: Plan,
@@ -209,11 +209,11 @@ fn lint_parts<W: Write>(
     Ok(alone.saturating_add(together))
 }
 
-/// Judges each patch of the catalog by itself, and then loads them over each other, each time behind the script. The
-/// answer is how many findings there are.
+/// Judges each patch of the catalog by itself, and then loads them over each other, each time after the script. Returns
+/// how many findings there are.
 ///
-/// The two are done by two managers, since loading patches raises the counts of their callbacks. The catalog is read
-/// once more, since booting takes the plan.
+/// Two managers do this, since loading patches raises the counts of their callbacks. The catalog is read once more for
+/// each, since booting takes the plan.
 pub fn lint_over_text<W: Write>(
     alloc: Global,
     text: CatalogText<'_>,

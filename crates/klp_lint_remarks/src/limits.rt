@@ -11,10 +11,10 @@ use std::{fmt, io};
 /// How far a call reaches: 2 GiB.
 const REACH: u64 = 0x8000_0000;
 
-/// How near to that a call is reported: 1 MiB.
+/// How near to this limit a call is reported: 1 MiB.
 const NEAR: u64 = 0x10_0000;
 
-/// The instruction in front of an entry site, where a kernel tracks indirect branches.
+/// The instruction in front of an entry site, if a kernel tracks indirect branches.
 const ENDBR64: [u8; 4] = [0xf3, 0x0f, 0x1e, 0xfa];
 
 /// The symbol that a function replaces. `None` if its name and position pick none.
@@ -137,7 +137,7 @@ fn count_wanted(patch: &PlanPatch) -> usize {
     count
 }
 
-/// Says whether the callbacks of a patch may find no room, where all that the catalog's callbacks add is there.
+/// Says whether the callbacks of a patch may find no room, if all that the catalog's callbacks add is there.
 pub(crate) fn say_room<W: Write>(own: &LintedPatch<'_>, out: &mut W) -> io::Result<u64> {
     let mut all = 0usize;
     for patch in own.linted.patches {
@@ -187,7 +187,7 @@ fn is_alike(one: &PlanPatch, other: &PlanPatch) -> bool {
         })
 }
 
-/// A patch that an older one is like.
+/// The older patch that a patch is just like.
 #[derive(Clone, Copy)]
 struct Alike<'a>(&'a str);
 

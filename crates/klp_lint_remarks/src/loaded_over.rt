@@ -16,7 +16,7 @@ use klp_types::{MAX_PATCHES, ObjId, PatchId, Which};
 use std::io::Write;
 use std::{fmt, io};
 
-/// How many events load all patches, each with a poll, and one more event twice.
+/// The most events of one loading: two for each patch, an `Enable` and a poll, and four that follow them.
 pub(crate) const MAX_LOADING: usize = 2 * MAX_PATCHES + 4;
 
 /// Patches in the order in which they are loaded.
@@ -30,7 +30,7 @@ pub(crate) struct Loading {
 }
 
 impl Loading {
-    /// Adds an event. Nothing happens if there are as many as all patches need.
+    /// Adds an event. Does nothing if there are already as many as all patches need.
     pub(crate) fn push(&mut self, event: Event) {
         if let Some(place) = self.events.get_mut(self.len) {
             *place = event;
@@ -63,7 +63,7 @@ pub(crate) enum End {
     Other,
 }
 
-/// Asks a manager what it would answer behind events.
+/// Asks a manager what it would answer after events.
 fn reply_to(manager: &mut Manager, events: &[Event], event: &Event) -> Result<Reply, Refusal>
     requires { IsWellFormed manager.old }
 {
@@ -123,7 +123,7 @@ pub(crate) fn end_over(manager: &mut Manager, below: &[PatchId], patch: PatchId)
     end_of(manager, events.events())
 }
 
-/// Whether a patch is loaded over these, and its transition completes. Where it isn't loaded there is none.
+/// Whether a patch is loaded over these, and its transition completes. A patch that isn't loaded has none.
 pub(crate) fn stands_over(manager: &mut Manager, below: &[PatchId], patch: PatchId) -> bool {
     end_over(manager, below, patch) == End::Completed
 }
@@ -241,7 +241,7 @@ impl Together<'_> {
     }
 }
 
-/// Why a patch isn't loaded over these, where this comes of it.
+/// Why a patch isn't loaded over these, if this is the outcome.
 fn why_of<'a>(
     linted: Linted<'a>,
     manager: &Manager,
@@ -266,7 +266,7 @@ fn why_of<'a>(
     }
 }
 
-/// The line of a patch that tells why it isn't loaded.
+/// The line of a patch that shows why it isn't loaded.
 fn line_of_why(own: &LintedPatch<'_>, outcome: Outcome, why: Why<'_>) -> u64 {
     match (outcome, why) {
         (Outcome::Failed { object, .. }, _) => {
@@ -282,7 +282,7 @@ fn line_of_why(own: &LintedPatch<'_>, outcome: Outcome, why: Why<'_>) -> u64 {
     }
 }
 
-/// Says that a patch isn't loaded over these. Where a symbol isn't there that is said of the function.
+/// Says that a patch isn't loaded over these. Says nothing if a symbol isn't there: `say_unpicked` says that.
 fn say_outcome<W: Write>(
     own: &LintedPatch<'_>,
     manager: &Manager,
@@ -329,7 +329,7 @@ fn say_not_loaded<W: Write>(
     own.say(remark, &NotLoaded { below: names, why }, out)
 }
 
-/// Loads a patch alone, and tells what is wrong with that. Whether others can be loaded over it.
+/// Loads a patch alone, and says what is wrong with that. Returns how many findings there are.
 fn try_alone<W: Write>(
     own: &LintedPatch<'_>,
     manager: &mut Manager,
@@ -350,7 +350,7 @@ fn try_alone<W: Write>(
     }
 }
 
-/// Loads a patch over another one, and tells what comes of it, where that isn't what comes of it alone.
+/// Loads a patch over another one, and says what comes of it, unless the same comes of it alone.
 fn try_over_one<W: Write>(
     own: &LintedPatch<'_>,
     manager: &mut Manager,
@@ -370,7 +370,7 @@ fn try_over_one<W: Write>(
     say_outcome(own, manager, &[below], outcome, out)
 }
 
-/// Loads a patch over two others that stand, and tells what comes of it, where that comes of it over neither.
+/// Loads a patch over two others that stand, and says what comes of it, unless the same comes over one of them.
 fn try_over_two<W: Write>(
     own: &LintedPatch<'_>,
     manager: &mut Manager,
@@ -462,9 +462,9 @@ fn try_one<W: Write>(
 }
 
 /// Loads the patches that aren't installed: each alone, over each other one, and over each pair that stands; and all of
-/// them, in each order. Tells what comes of that, but for what just starts.
+/// them, in each order. Says what comes of that, except for what just starts.
 ///
-/// The manager is asked for its replies alone. Afterwards it is as before, but for the counts of its callbacks.
+/// Only asks the manager for its replies. Afterwards the manager is as before, except for the counts of its callbacks.
 pub(crate) fn say_together<W: Write>(
     linted: Linted<'_>,
     manager: &mut Manager,

@@ -13,7 +13,7 @@ use std::fmt;
 /// How many times a patch is loaded at most. All orders of six patches take 1,956 loadings.
 const MAX_LOADINGS: u32 = 2000;
 
-/// How many steps that takes at most: each loads a patch, passes one over that is loaded, or goes back.
+/// How many steps that takes at most: each loads a patch, skips a loaded one, or goes back.
 const MAX_STEPS: u32 = 40_000;
 
 /// How many events load a patch: it is enabled, and a poll completes its transition.
@@ -53,7 +53,7 @@ impl fmt::Display for Orders<'_> {
     }
 }
 
-/// Loads a patch, and answers whether its transition completes. If it doesn't all is as before.
+/// Loads a patch, and returns whether its transition completes. If it doesn't, all is as before.
 fn load(manager: &mut Manager, patch: PatchId) -> bool
     requires { IsWellFormed manager.old }
 {
@@ -66,7 +66,7 @@ fn load(manager: &mut Manager, patch: PatchId) -> bool
     stands
 }
 
-/// Takes back all events but so many.
+/// Takes back all events after the first so many.
 fn take_back(manager: &mut Manager, mark: u32)
     requires { IsWellFormed manager.old }
 {
@@ -86,7 +86,7 @@ struct Search {
 }
 
 impl Search {
-    /// Takes the last patch out again. Whether there was one.
+    /// Takes the last patch out again. Returns whether there was one.
     fn step_back(&mut self, manager: &mut Manager, free: &[PatchId]) -> bool {
         let Some(last) = self.order.pop() else {
             return false;
@@ -100,7 +100,7 @@ impl Search {
         true
     }
 
-    /// Does one step. Whether there is another one.
+    /// Does one step. Returns whether there is another one.
     fn step(&mut self, manager: &mut Manager, free: &[PatchId]) -> bool {
         let Some(patch) = free.get(self.next) else {
             return self.step_back(manager, free);
@@ -126,7 +126,7 @@ impl Search {
     }
 }
 
-/// Does steps until there are no more. Whether there are too many loadings.
+/// Does steps until there are no more. Returns whether loadings or steps ran out.
 fn search_all(search: &mut Search, manager: &mut Manager, free: &[PatchId]) -> bool {
     for _ in 0..MAX_STEPS {
         if search.loadings == MAX_LOADINGS {
@@ -139,7 +139,7 @@ fn search_all(search: &mut Search, manager: &mut Manager, free: &[PatchId]) -> b
     true
 }
 
-/// Those of these patches that are loaded alone, so that their transition completes.
+/// Those of these patches whose transition completes if they are loaded alone.
 fn standing_alone(manager: &mut Manager, free: &Order) -> Order {
     let mut standing = Order::new();
     for patch in free.as_slice() {

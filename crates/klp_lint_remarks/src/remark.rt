@@ -56,7 +56,7 @@ impl Kind {
         }
     }
 
-    /// Whether something is wrong with the patch. What remains only says how things are.
+    /// Whether something is wrong with the patch. The other kinds only say how things are.
     pub(crate) fn is_finding(self) -> bool {
         !matches!(
             self,

@@ -59,7 +59,7 @@ impl fmt::Display for ForgetsState<'_> {
     }
 }
 
-/// A variable of a patch that is taken out, which is there for good.
+/// A variable that stays for good when its patch is taken out.
 #[derive(Clone, Copy)]
 struct LeavesVariable<'a> {
     key: ShadowKey,
@@ -77,7 +77,7 @@ impl fmt::Display for LeavesVariable<'_> {
     }
 }
 
-/// Asks a manager which value a variable would have behind events.
+/// Asks a manager which value a variable would have after events.
 fn value_of(manager: &mut Manager, events: &[Event], key: ShadowKey) -> Option<ShadowValue>
     requires { IsWellFormed manager.old }
 {
@@ -130,14 +130,14 @@ fn say_forgotten<W: Write>(own: &LintedPatch<'_>, other: PatchId, out: &mut W) -
     Ok(count)
 }
 
-/// The events that load a patch, and this one over it, and then withdraw this one, but for the last poll.
+/// The events that load `below`, and `patch` over it, and then withdraw `patch`, except the last poll.
 fn replacing(below: PatchId, patch: PatchId) -> Loading {
     let mut events = events_for(&[below, patch]);
     events.push(Event::SetEnabled(patch, false));
     events
 }
 
-/// Says the variables of a patch that is taken out which are still there once this one is gone too.
+/// Says which variables of a patch that is taken out are still there once this one is gone too.
 fn say_left<W: Write>(
     own: &LintedPatch<'_>,
     manager: &mut Manager,

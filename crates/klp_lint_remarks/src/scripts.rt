@@ -79,8 +79,8 @@ fn change_by(id: u64, edit: &Edit) -> Change {
     }
 }
 
-/// What the callbacks of a patch do with this system state while the patch comes. One that takes the value over counts
-/// before one that sets it.
+/// What the callbacks of a patch do with this system state while the patch comes. Taking the value over counts before
+/// setting it.
 pub(crate) fn change_of(patch: &PlanPatch, id: u64) -> Change {
     let mut change = Change::Nothing;
     for target in patch.targets.iter() {

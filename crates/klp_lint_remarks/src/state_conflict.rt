@@ -13,7 +13,7 @@ pub(crate) struct Conflict<'a> {
     /// The version of the installed patch.
     there: u32,
     installed: &'a str,
-    /// The version of the other one.
+    /// The version of the other patch.
     own: Option<u32>,
     /// Which of its states that is.
     pub(crate) place: Option<usize>,
@@ -35,7 +35,7 @@ impl fmt::Display for Conflict<'_> {
     }
 }
 
-/// The patches that are installed behind the loading of others: a cumulative one takes out the older ones.
+/// The patches that are installed after others were loaded: a cumulative one takes out the older ones.
 fn standing(
     patches: &[PlanPatch],
     installed: &[PatchId],
@@ -83,8 +83,8 @@ fn conflict_of<'a>(
     })
 }
 
-/// The first system state that keeps a patch from being loaded where these patches are installed, and those of `below`
-/// are loaded over them.
+/// The first system state that keeps a patch from being loaded if these patches are installed, and those of `below` are
+/// loaded over them.
 pub(crate) fn conflict_with<'a>(
     patches: &'a [PlanPatch],
     installed: &[PatchId],

@@ -66,8 +66,8 @@ pub(crate) fn name_of(which: Which) -> &'static str {
     }
 }
 
-/// A pair of callbacks that leaves a variable with another value than it had. The line of the first is 0 where the
-/// other one is reported alone.
+/// A pair of callbacks that leaves a variable with another value than it had. The line of the first is 0 if only the
+/// other one is reported.
 #[derive(Clone, Copy)]
 struct NotUndone<'a> {
     object: &'a str,
@@ -131,7 +131,7 @@ impl<'a> LintedPatch<'a> {
         self.line_behind(target, word, 0)
     }
 
-    /// The line behind so many that begin with the same word.
+    /// The line after so many that begin with the same word.
     pub(crate) fn line_behind(
         &self,
         target: Option<usize>,
@@ -156,7 +156,7 @@ impl<'a> LintedPatch<'a> {
         }
     }
 
-    /// Says something of the patch, and answers how many findings that is.
+    /// Says something of the patch, and returns how many findings that is.
     pub(crate) fn say<W: Write, S: fmt::Display>(
         &self,
         remark: Remark<'_>,
@@ -178,7 +178,7 @@ impl<'a> LintedPatch<'a> {
         Ok(u64::from(remark.kind.is_finding()))
     }
 
-    /// Says something of the patch as a whole.
+    /// Says something of the whole patch.
     pub(crate) fn say_whole<W: Write, S: fmt::Display>(
         &self,
         kind: Kind,

@@ -1,8 +1,8 @@
 //! What a page is written on.
 //!
-//! A [`Sheet`] takes markup, which stands in the program, and what comes from a run, which it escapes: so nothing
-//! that a catalog, a script or a trace says can be taken for markup (`specs/Escaped`). A want of memory is kept, so
-//! whoever adds ten pieces asks once, at the end (`specs/Adds`).
+//! A [`Sheet`] takes markup, which stands in the program, and what comes from a run, which it escapes: so nothing that
+//! a catalog, a script or a trace says can be taken for markup (`specs/Escaped`). A sheet keeps whether memory ran out,
+//! so whoever adds ten pieces asks once, at the end (`specs/Adds`).
 //!
 //! The names of a catalog are spelled by `names` (`specs/Names`), lists of tasks by `tasks` (`specs/Tasks`), with
 //! what each task is called (`specs/Called`), and times by `times` (`specs/Times`).

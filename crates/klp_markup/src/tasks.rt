@@ -12,7 +12,7 @@ use klp_types::TaskId;
 /// How many tasks a shortened list names. It says how many others there are.
 pub const MAX_NAMED: usize = 8;
 
-/// Returns the word for one of something, or for another number of it.
+/// Returns the singular or the plural of a word.
 pub fn plural(count: usize, one: &'static str, more: &'static str) -> &'static str
     ensures { result.now ≡ plural count one.now more.now }
 {

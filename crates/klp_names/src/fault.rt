@@ -6,8 +6,8 @@ use std::alloc::{AllocError, AllocFailed};
 use std::{error, fmt};
 use thiserror::Error;
 
-/// What is wrong with a line of a text of names. If a line has several faults, the first of these is reported, but for
-/// `NoMemory`, which may stand in place of any.
+/// What is wrong with a line of a text of names. If a line has several faults, the first of these is reported, except
+/// that `NoMemory` may replace any.
 #[derive(Clone, Copy, Debug, PartialEq, Eq)]
 pub enum NamesFaultKind {
     /// The line begins neither with `task` nor with `line`.
@@ -20,9 +20,9 @@ pub enum NamesFaultKind {
     BadLine,
     /// A time isn't seconds with up to six decimals.
     BadTime,
-    /// A task is named that has a name already.
+    /// The line names a task that has a name already.
     NamedTwice,
-    /// A line has a time behind a later line, or a second time.
+    /// A line gets a time after a later line got one, or a second time.
     LineFalls,
     /// A line is earlier than the one before it.
     TimeFalls,

@@ -1,4 +1,4 @@
-//! What is wrong with a line of a text of names, told to people.
+//! What is wrong with a line of a text of names, for people.
 
 use crate::fault::{NamesFault, NamesFaultKind};
 use klp_words::cut;

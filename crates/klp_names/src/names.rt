@@ -69,7 +69,7 @@ impl Names {
     }
 
     /// Returns the duration, in microseconds, of something that was so after the lines from `from` to `to`. It ended
-    /// with the line behind `to`. `None` if it hasn't ended, or if a time isn't known.
+    /// with the line after `to`. `None` if it hasn't ended, or if a time isn't known.
     pub fn lasted(&self, from: u64, to: Option<u64>) -> Option<u64>
         ensures { result ≡ lasted self.now.timed from to }
     {
@@ -107,8 +107,8 @@ impl Names {
         Ok(())
     }
 
-    /// Adds the time of a line, in microseconds. `Err` if the line isn't behind the last one with a time, if its time
-    /// is before that one's, or if memory runs out: then nothing is added.
+    /// Adds the time of a line, in microseconds. `Err` if the line isn't after the last line with a time, if its time
+    /// is before that line's, or if memory runs out: then nothing is added.
     pub(crate) fn add_time(&mut self, line: u64, at: u64) -> Result<(), NamesFaultKind>
         ensures { IsOutcome self.old (with_time self.old line at) self.new result }
     {

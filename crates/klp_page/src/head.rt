@@ -41,7 +41,7 @@ pub struct Differing {
     pub first: u64,
 }
 
-/// Whether the sentence tells of the start of a transition.
+/// Whether the sentence reports the start of a transition.
 fn is_start(sentence: &Sentence) -> bool
     ensures { result ≡ is_start sentence.now }
 {
@@ -61,7 +61,7 @@ pub(crate) fn transitions(sentences: &[Sentence]) -> u64
     count as u64
 }
 
-/// Adds a number, and the word for one of something or for another number of it.
+/// Adds a number, and the singular or the plural of what it counts.
 fn add_count(sheet: &mut Sheet, count: u64, one: &'static str, many: &'static str)
     ensures { Adds sheet.old sheet.new (count_text count one.now many.now) }
 {
@@ -81,7 +81,7 @@ fn add_refusals(sheet: &mut Sheet, count: u64)
     }
 }
 
-/// Adds that one of the transitions is still under way, if it is.
+/// Adds that a transition is still under way, if one is.
 fn add_under_way(sheet: &mut Sheet, is_moving: bool)
     ensures { Adds sheet.old sheet.new (if is_moving then codes ", one still under way" else []) }
 {

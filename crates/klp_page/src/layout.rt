@@ -1,4 +1,4 @@
-//! What of a page is layout: the drawing, and what a row shows that opens.
+//! The layout of a page: the drawing, and what an open row shows.
 
 use klp_catalog_text::Plan;
 use klp_console::Outcome;
@@ -17,7 +17,7 @@ pub struct Cards {
     pub is_open: bool,
 }
 
-/// The state of what has no contract, the drawing and the cards, as a run is served line by line.
+/// The state of the drawing and the cards, which have no contract, while a run is served line by line.
 #[derive(Drop)]
 pub struct Layout<'a> {
     names: &'a Names,
@@ -33,7 +33,7 @@ fn stands_open(parts: &RowParts, act: &Option<Fact>) -> bool {
 }
 
 impl<'a> Layout<'a> {
-    /// Returns the layout of a run of which no line was served. Takes no memory.
+    /// Returns the layout of a run before its first line. Takes no memory.
     pub fn new(alloc: Global, names: &'a Names) -> Layout<'a> {
         Layout {
             names,

@@ -1,16 +1,16 @@
 //! A page that shows the run of a script: who holds a transition up, in which function, and what is live meanwhile.
 //!
-//! [`page_over_text`] boots a manager over a catalog's text, serves the script line by line, and answers a page that
-//! has a row for each line in order (`specs/Pages`, `Rows`). With each line a moment is seen: what it did, and what
-//! the manager shows afterwards. Above the rows stands how the run ends, and all that there is to be said of the
-//! moments (`klp_timeline`, `klp_story`). A row has the line, the console's answer, and the tasks that hold the
-//! transition up, where that changed. Lines are folded away where a page has nothing to say of them, and no others.
-//! What comes from the catalog, the script or the names is escaped (`specs/Text`).
+//! [`page_over_text`] boots a manager over a catalog's text, serves the script line by line, and returns a page that
+//! has a row for each line in order (`specs/Pages`, `Rows`). With each line a moment is seen: what it did, and what the
+//! manager shows afterwards. Above the rows the page says how the run ends, and all that there is to say of the moments
+//! (`klp_timeline`, `klp_story`). A row has the line, the console's answer, and the tasks that hold the transition up,
+//! where that changed. A page folds away only lines that it has nothing to say of. What comes from the catalog, the
+//! script or the names is escaped (`specs/Text`).
 //!
-//! Where an observer knows what tasks are called, or when lines were ([`klp_names::Names`]), the page says it beside
-//! their numbers. Without that it is as if none were known.
+//! If an observer knows what tasks are called, or when lines were ([`klp_names::Names`]), the page says so beside their
+//! numbers. Without these it is as if none were known.
 //!
-//! The drawing, and what a row shows that opens, are layout, and `klp_drawing`'s and `klp_page_layout`'s.
+//! The drawing, and what an open row shows, are layout: `klp_drawing` and `klp_page_layout` make them.
 #![tactic(auto)]
 
 mod head;

@@ -1,4 +1,4 @@
-//! A manager is booted over a catalog's text, and a script is shown by it.
+//! Booting a manager over a catalog's text, and showing a script by it.
 ghost use Rattle.std.specs.Prelude.{◌≡◌, length, count_by, IfOk, IfErr};
 ghost use Rattle.klp_catalog_text.specs.Within.{AreTargetsWithin};
 ghost use Rattle.klp_page.specs.Rows.{last_view};

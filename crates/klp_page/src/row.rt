@@ -224,7 +224,7 @@ fn add_fold_end(sheet: &mut Sheet, quiet: usize)
     }
 }
 
-/// Adds the rows in order. Of more than [`QUIET_ROWS`] quiet rows in a row the others are folded away.
+/// Adds the rows in order. Of successive quiet rows, shows the first [`QUIET_ROWS`], and folds the others away.
 pub(crate) fn add_rows(sheet: &mut Sheet, names: &Names, rows: &[Row])
     ensures { Adds sheet.old sheet.new (rows_text names.now rows.now) }
 {

@@ -30,8 +30,8 @@ fn begins_with_dash(word: &str) -> bool
     word.as_bytes().first() == Some(&b'-')
 }
 
-/// Returns the paths behind that of the catalog, each in its place. `None` if there are too few or too many, or if one
-/// is an option.
+/// Returns the paths after the catalog's, each in its place. `None` if there are too few or too many, or if one is an
+/// option.
 fn files_with<'a>(catalog: &'a str, words: &'a [String], is_trace: bool) -> Option<PageFiles<'a>>
     ensures { option_map meaning result ≡ files_with is_trace catalog.now (map string_bytes words.now) }
 {
@@ -57,8 +57,8 @@ fn files_with<'a>(catalog: &'a str, words: &'a [String], is_trace: bool) -> Opti
     }
 }
 
-/// Returns the paths that these arguments name: of a catalog, of a script or a trace, and perhaps of names. `None` if
-/// they are others.
+/// Returns the paths that these arguments name: of a catalog, of a script or a trace, and perhaps of names. `None` for
+/// any other arguments.
 fn files_in<'a>(given: &'a [String]) -> Option<PageFiles<'a>>
     ensures { option_map meaning result ≡ page_files (map string_bytes given.now) }
 {

@@ -37,7 +37,7 @@ impl Callbacks {
     }
 
     /// Updates the watched shadow variables with an event that runs no callback, so that a later change by a callback
-    /// is told apart. Does nothing in a catalog without callbacks. `Err` if memory runs out.
+    /// is recognized. Does nothing in a catalog without callbacks. `Err` if memory runs out.
     pub(crate) fn hear(&mut self, manager: &Manager, outcome: &Outcome) -> Result<(), AllocError> {
         match outcome {
             Outcome::Answered(event, Ok(_)) if !self.calls.is_empty() => {

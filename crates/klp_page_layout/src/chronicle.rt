@@ -59,7 +59,7 @@ pub struct Chronicle<'a> {
 }
 
 /// What the tasks add up to at one line: whether one changed, whether one began or ceased to hold the transition up,
-/// how many have cards, and how many have none for want of room.
+/// how many have cards, and how many have none, for lack of room.
 #[derive(Clone, Copy)]
 struct Crowd {
     is_changed: bool,
@@ -69,8 +69,8 @@ struct Crowd {
 }
 
 impl<'a> Chronicle<'a> {
-    /// Returns the chronicle of a run of which no line was served. Cards have the names of tasks from `names`. Takes
-    /// no memory.
+    /// Returns the chronicle of a run before its first line. Cards have the names of tasks from `names`. Takes no
+    /// memory.
     pub fn new(alloc: Global, names: &'a Names) -> Chronicle<'a> {
         Chronicle {
             names,

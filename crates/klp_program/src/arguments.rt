@@ -16,7 +16,7 @@ use std::{env, io};
 /// The name that the program gives itself.
 const NAME: &str = "klpsim";
 
-/// The word for two task threads, and the names of what is given.
+/// The command for two task threads, and the names of the arguments.
 const LIVE: &str = "live";
 
 const CATALOG: &str = "CATALOG";
@@ -56,7 +56,7 @@ fn command<'a>(alloc: Global) -> Result<Command<'a>, AllocError>
     command.subcommand(live_command(alloc)?)
 }
 
-// Returns the path that was given for the argument of this name. `None` if none was.
+// Returns the path that was given for the argument of this name, or `None`.
 fn path_of(
     alloc: Global,
     matches: &ArgMatches<'_>,
@@ -187,8 +187,8 @@ pub fn report_usage<W: Write>(err: &mut W) -> u8
     report_usage_as(NAME, err)
 }
 
-/// Returns what a program says of refused words: how it is called, and where that is explained. klpsim says the word
-/// `usage` alone, for which scripts wait.
+/// Returns what a program writes about refused words: how it is called, and where to read more. klpsim writes the word
+/// `usage` alone, since scripts wait for it.
 fn usage_of(name: &str) -> &'static str {
     match name.as_bytes() {
         b"klpwatch" => "usage: klpwatch CATALOG TRACE (man klpwatch)",

@@ -35,7 +35,7 @@ pub enum Fault {
     Trace(TraceFault),
 }
 
-// A conversion that is derived has no clause, and `boot` and `over_text` promise which fault they answer.
+// A derived conversion has no clause, but `boot` and `over_text` promise which fault they return.
 impl From<TextFault> for Fault {
     ghost from_gives = { λ fault own. own ≡ Text fault };
 

@@ -1,4 +1,4 @@
-//! The catalog that is served, out of its file.
+//! Reading the catalog that is served from its file.
 ghost use Rattle.std.specs.Prelude.{◌≡◌, ◌⊎◌, IsSome, IfOk, IfErr};
 ghost use Rattle.klp_program.specs.declared.fault.Fault.TheVariants.{CannotRead, NoMemory};
 
@@ -9,7 +9,7 @@ use std::io::ErrorKind;
 use std::rt::Files;
 
 /// Returns the whole text in the file at this path, or the built-in catalog if there is no path. `Err` if the file
-/// can't be read, or if memory runs out. No clause can say what a file has.
+/// can't be read, or if memory runs out. No clause can say what a file contains.
 pub fn catalog_in<R: Files + AllocGlobal>(rt: &R, path: Option<String>) -> Result<Vec<u8>, Fault>
     ensures built_in { path ≡ None → IfOk result (λ catalog. catalog.items ≡ CATALOG.now) }
     ensures fault { IfErr result (λ fault. (fault ≡ NoMemory) ⊎ ((fault ≡ CannotRead) × IsSome path)) }

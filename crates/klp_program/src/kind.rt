@@ -11,7 +11,7 @@ use std::alloc::{AllocError, Global};
 /// A callback for a script, in a box that names its kind.
 ///
 /// A manager takes boxes that name no kind. But the check can't follow such a box if a function makes it and hands it
-/// out. So whoever boots a manager turns one box into the other.
+/// out. So whoever boots a manager turns this box into one without a kind.
 #[derive(Drop)]
 pub(crate) enum Kind {
     Scripted(Box<Scripted>),
@@ -19,7 +19,7 @@ pub(crate) enum Kind {
     Quiet(Box<Quiet>),
 }
 
-// Makes a callback that means the script, of the simplest kind that can. `Err` if memory runs out.
+// Makes a callback that means the script, of the simplest possible kind. `Err` if memory runs out.
 fn kind_of(alloc: Global, script: &Script) -> Result<Kind, AllocError>
     ensures { IfOk result (λ kind. lent_by kind ≡ never_ran script.now) }
 {

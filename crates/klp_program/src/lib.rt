@@ -1,7 +1,6 @@
-//! What the programs do, apart from the process: they read their words and the catalog's file, and boot a
-//! manager over the catalog's text. `klpsim` serves the console by it (`src/serve.rt`), and `klpwatch` holds
-//! a trace against the consistency model, and what a kernel answered and showed against the rules, by it
-//! (`src/watch.rt`).
+//! What the programs do, apart from the process: they read their words and the catalog's file, and boot a manager over
+//! the catalog's text. `klpsim` serves the console by this manager (`src/serve.rt`). `klpwatch` checks a trace against
+//! the consistency model, and compares what a kernel answered and showed with the rules (`src/watch.rt`).
 #![tactic(auto)]
 
 mod arguments;

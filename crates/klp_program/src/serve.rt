@@ -1,4 +1,4 @@
-//! A manager is booted over a catalog's text, and the console is served by it.
+//! Booting a manager over a catalog's text, and serving the console by it.
 ghost use Rattle.std.specs.Prelude.{◌≡◌, ◌≤◌, length};
 ghost use Rattle.klp_catalog_text.specs.Within.{AreTargetsWithin};
 ghost use Rattle.klp_program.specs.Runs.{Exits, Runs, RunsOver, RunsPlan, ServesBy};
@@ -18,8 +18,8 @@ use std::io::{Read, Write};
 use std::marker::Brand;
 use std::sync::ledger::{Blank, Ledger};
 
-/// Drops a manager. Each function that owns one ends with this call: a manager's drop is dear to prove, so it is proved
-/// here alone.
+/// Drops a manager. Each function that owns one ends with this call: a manager's drop is costly to prove, so it is
+/// proved only here.
 pub fn close(_manager: Manager) {}
 
 // Serves the console by a manager, and drops it then.
@@ -41,8 +41,8 @@ fn over_manager<R: Source, W: Sink>(
 
 // Boots a manager over a plan, and serves the console by it.
 //
-// Each script of the text gets a callback of the simplest kind that means it. The boxes are made here, and none leaves
-// with the result: what is proved of a box is lost if the function that makes it hands it out.
+// Each script of the text gets a callback of the simplest kind that means it. The boxes are made here, and none is
+// returned: what is proved of a box is lost if the function that makes it hands it out.
 fn over_plan<R: Source, W: Sink>(
     alloc: Global,
     plan: Plan,
@@ -100,9 +100,9 @@ fn over_std<R: Read, W: Write, L: Ledger, M: Ledger>(
     over_text(alloc, catalog, &mut reader, &mut writer)
 }
 
-/// Serves the input over a catalog's text until it ends, and returns the exit status: 0, or 1 if there is a fault, of
-/// which a line on `err` tells. Writes nothing to `out` before the catalog is known to have no fault. What the streams
-/// have afterwards, no clause says (docs/DECISIONS.md, "What gathers answers, and its sink"); tests show it.
+/// Serves the input over a catalog's text until it ends, and returns the exit status: 0, or 1 after a fault, which a
+/// line on `err` names. Writes nothing to `out` before the catalog is known to have no fault. No clause says what the
+/// streams contain afterwards (docs/DECISIONS.md, "What gathers answers, and its sink"); tests show it.
 pub fn console<R: Read, W: Write, E: Write>(
     alloc: Global,
     catalog: &[u8],

@@ -1,4 +1,4 @@
-//! A manager is booted over a catalog's text, and held beside the kernel of a trace.
+//! Booting a manager over a catalog's text, and comparing the kernel of a trace with it.
 ghost use Rattle.std.specs.Prelude.{◌≡◌, ◌≤◌, [], ◌∷◌, length, map, string_bytes, Some, None, OnOk, MatchResult};
 ghost use Rattle.std.specs.Io.KnownBytes.{Appends};
 ghost use Rattle.klp_catalog_text.specs.Within.{AreTargetsWithin};
@@ -72,7 +72,7 @@ fn reported(differs: Differs) -> Verdict
     }
 }
 
-/// Returns the verdict on items of which this came when they were compared.
+/// Returns the verdict on items whose comparison had this result.
 fn verdict_of(ended: Result<(), Differs>, items: &[Observed]) -> Verdict
     ensures { MatchResult ended (λ _. result ≡ Honest (counted items.now)) (λ differs. result ≡ reported differs) }
 {
@@ -91,8 +91,8 @@ fn watch_items(mut manager: Manager, items: &[Observed]) -> Verdict
     verdict_of(ended, items)
 }
 
-// Reads a trace by the names of the manager's catalog, and compares it with what the manager does. The manager is
-// dropped then, also if the trace can't be read.
+// Reads a trace by the names of the manager's catalog, and compares it with what the manager does. Drops the manager
+// then, even if the trace can't be read.
 fn watch_over_manager(alloc: Global, manager: Manager, trace: &[u8]) -> Result<Verdict, Fault>
     ensures { WatchesBy manager trace.now result }
 {
@@ -105,8 +105,8 @@ fn watch_over_manager(alloc: Global, manager: Manager, trace: &[u8]) -> Result<V
     }
 }
 
-// Boots a manager over a plan, and judges the trace by it. The boxes of the callbacks are made here, as where the
-// console is served (`over_plan` in serve.rt), but all are of one kind.
+// Boots a manager over a plan, and judges the trace by it. As `over_plan` of serve.rt does, it makes the boxes of the
+// callbacks here, but all of one kind.
 fn watch_over_plan(alloc: Global, plan: Plan, trace: &[u8]) -> Result<Verdict, Fault>
     requires { AreTargetsWithin (length plan.objects) plan.patches }
     ensures { WatchesPlan plan trace.now result }
@@ -121,7 +121,7 @@ fn watch_over_plan(alloc: Global, plan: Plan, trace: &[u8]) -> Result<Verdict, F
 
 /// Boots a manager over the catalog's text, and judges a trace by it: whether each item keeps the premises of the
 /// consistency model, and whether the kernel answered and showed what the rules say. The verdict is that of the whole
-/// trace, however long it is: no event is refused for want of room in the journal. `Err` if the catalog or the trace
+/// trace, however long it is: no event is refused for lack of room in the journal. `Err` if the catalog or the trace
 /// has a fault, or if memory runs out.
 pub fn watch_over_text(alloc: Global, catalog: &[u8], trace: &[u8]) -> Result<Verdict, Fault>
     ensures { Watches catalog.now trace.now result }
@@ -160,7 +160,7 @@ fn name_of_difference(difference: Difference) -> &'static str
     }
 }
 
-/// Writes the verdict as one line. It has the number of what was compared only if something was.
+/// Writes the verdict as one line, with the number of answers and sights that were compared, if any were.
 fn print<W: Write>(verdict: Verdict, out: &mut W) -> io::Result<()>
     ensures { OnOk result (Appends (W.contents out.old) (W.contents out.new) (verdict_text verdict)) }
 {

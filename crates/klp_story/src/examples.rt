@@ -1,5 +1,5 @@
-//! Worked examples of what a page says, by computation. A function here does nothing: its contract is the example, so a
-//! definition that comes to something else isn't proved.
+//! Worked examples of what a page says, by computation. A function here does nothing: its contract is the example, so
+//! the proof fails if a definition gives something else.
 ghost use Rattle.std.specs.Prelude.{◌≡◌, ◌++◌, ◌∷◌, [], codes, true, false, Some, None};
 ghost use Rattle.klp_types.specs.declared.task.Mode.TheVariants.{User, Kernel};
 ghost use Rattle.klp_timeline.specs.declared.moment.Fact.TheVariants.{Undoes, Completes};

@@ -126,7 +126,7 @@ fn add_undone(sheet: &mut Sheet, from: u32, to: u32)
     sheet.markup(".");
 }
 
-/// Adds what a line did. Where the kernel logs a message for it, the sentence has the words of that message.
+/// Adds what a line did. If the kernel logs a message for it, the sentence has the words of that message.
 pub(crate) fn add_fact(sheet: &mut Sheet, catalog: &Catalog, modules: &Modules, fact: &Fact)
     requires { catalog.now.names ≡ modules.now.names }
     ensures { Adds sheet.old sheet.new (fact_text catalog.now fact.now) }

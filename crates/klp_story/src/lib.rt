@@ -1,5 +1,5 @@
 //! What a page says of a run, in words: its sentences ([`add_story`], `specs/Sentences`), and before them how it ends
-//! ([`add_end`], `specs/End`). Each is promised, of each kind of fact and of stay.
+//! ([`add_end`], `specs/End`). Each is promised, for each kind of fact and of stay.
 //!
 //! What a sentence claims of a run is in `klp_timeline`, whose laws say that it is true, and that no stay is left out.
 #![tactic(auto)]

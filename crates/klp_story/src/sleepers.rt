@@ -72,7 +72,7 @@ fn add_anchor(sheet: &mut Sheet, line: u64, task: TaskId)
     sheet.markup("></i>");
 }
 
-/// Adds such an element for each of these tasks.
+/// Adds such an anchor for each of these tasks.
 fn add_anchors(sheet: &mut Sheet, line: u64, tasks: &[TaskId])
     ensures { Adds sheet.old sheet.new (anchors_text line tasks.now) }
 {

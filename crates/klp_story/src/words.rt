@@ -19,7 +19,7 @@ pub(crate) fn add_number(sheet: &mut Sheet, before: &'static str, number: u64, b
     sheet.markup(behind);
 }
 
-/// Adds the text `before`, a number, and the word for one of something or for another number of it.
+/// Adds the text `before`, a number, and the singular or the plural of what it counts.
 pub(crate) fn add_counted(
     sheet: &mut Sheet,
     before: &'static str,

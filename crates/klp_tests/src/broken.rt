@@ -1,4 +1,4 @@
-//! Reads and writes that fail: that a stream of std which does is told as one that does is in no clause.
+//! Reads and writes that fail: no clause says that a failing stream of std is reported as failing.
 use klp_program::{CATALOG, console};
 use std::alloc::{AllocError, Global};
 use std::io;

@@ -1,5 +1,5 @@
-//! A catalog of another number of callbacks than its text has scripts. The contract leaves open which fault is told
-//! where memory could be short too, and no program comes to it.
+//! A catalog with more or fewer callbacks than its text has scripts. The contract leaves open which fault is reported
+//! if memory could be short too, and no program gets there.
 use crate::managed::{Given, outcome};
 use klp_catalog::AssembleFault;
 use klp_program::Fault;
@@ -41,7 +41,7 @@ fn another_number_of_callbacks_is_refused(rt: HostRuntime) {
         (THREE, 3, None),
         (THREE, 2, wrong),
         (THREE, 4, wrong),
-        // another number is told first
+        // a wrong number is reported first
         (TWICE, 1, Some(Fault::Assemble(AssembleFault::SameSite))),
         (TWICE, 0, wrong),
         (TWICE, 2, wrong),

@@ -1,5 +1,5 @@
-//! Catalogs that are cut after each of their bytes: the line that is told and for which cause, or that they boot.
-//! What is wanted comes from the line that is cut and from where it is cut, and not from reading the text.
+//! Catalogs that are cut after each of their bytes: the line that is reported and for which cause, or that they boot.
+//! What is wanted follows from the line that is cut and where it is cut, not from reading the text.
 use klp_program::{CATALOG, console};
 use std::alloc::{AllocError, Global};
 
@@ -83,7 +83,7 @@ const WORDS: [(&str, usize); 11] = [
     ("postun", 2),
 ];
 
-/// How many words a line of this first word has at least. `None` where no line has it.
+/// How many words a line of this first word has at least. `None` if no line has it.
 fn words_of(first: &str) -> Option<usize> {
     let mut words = None;
     for (word, count) in WORDS {
@@ -172,7 +172,7 @@ fn word_at(line: &str, start: usize) -> &str {
     }
 }
 
-/// What is wanted of a line of which this front is left, where all lines before it are good.
+/// What is wanted of a line of which this front is left, if all lines before it are good.
 fn wanted_of(line: &str, front: &str) -> Wanted {
     if front.is_empty() {
         return Wanted::Boots;
@@ -194,7 +194,7 @@ fn wanted_of(line: &str, front: &str) -> Wanted {
     }
 }
 
-/// Where the line begins in which a text of this front ends, and how many lines are before it.
+/// Where the last line of this front begins, and how many lines are before it.
 fn line_at(front: &str) -> (usize, usize) {
     let mut start = 0usize;
     let mut number = 0usize;
@@ -217,8 +217,8 @@ fn line_from(text: &str, start: usize) -> &str {
     }
 }
 
-/// What is written to standard error where this many lines are before the one that is cut. The first two lines
-/// tell the handler and the kernel, without which there is nothing to boot.
+/// What is written to standard error if this many lines are before the one that is cut. The first two lines name the
+/// handler and the kernel, without which there is nothing to boot.
 fn written(
     alloc: Global,
     wanted: Wanted,
@@ -237,8 +237,8 @@ fn written(
     }
 }
 
-/// What is written to standard error for this catalog, where the status is the one that goes with it, and nothing
-/// is answered.
+/// What is written to standard error for this catalog, if the status is the one that goes with it, and nothing is
+/// answered.
 fn reported(alloc: Global, catalog: &[u8]) -> Result<Option<Vec<u8>>, AllocError> {
     let mut out = Vec::new(alloc);
     let mut err = Vec::new(alloc);
@@ -248,7 +248,7 @@ fn reported(alloc: Global, catalog: &[u8]) -> Result<Option<Vec<u8>>, AllocError
     Ok(if is_right { Some(err) } else { None })
 }
 
-/// Whether a text that is cut behind this front is told so.
+/// Whether a text that is cut after this front is reported so.
 fn is_reported(alloc: Global, text: &str, cut: usize) -> Result<bool, AllocError> {
     let front = text.get(..cut).unwrap_or("");
     let (start, number) = line_at(front);
@@ -261,7 +261,7 @@ fn is_reported(alloc: Global, text: &str, cut: usize) -> Result<bool, AllocError
     })
 }
 
-/// The cuts that aren't told so: how many, and the last of them.
+/// The cuts that aren't reported so: how many, and the last of them.
 fn differing(alloc: Global, text: &str) -> Result<(usize, usize), AllocError> {
     let mut differing = (0usize, 0);
     for cut in 0..=text.len() {
@@ -280,7 +280,7 @@ fn a_catalog_that_is_cut_tells_the_line_that_is(rt: HostRuntime) {
     }
 }
 
-/// Fronts of the built-in catalog, by what they end with, and what is told of them.
+/// Fronts of the built-in catalog, by what they end with, and what is written for them.
 const ROWS: [(&str, &[u8]); 6] = [
     ("", b"klpsim: line 0: Missing\n"),
     ("handler ffffffff81000000\n", b"klpsim: line 0: Missing\n"),
@@ -290,7 +290,7 @@ const ROWS: [(&str, &[u8]); 6] = [
     ("func .klp.sym.vmlinux.f,0 f_p ffff", b""),
 ];
 
-/// Whether this is told of the front of the built-in catalog that ends so.
+/// Whether this is written for the front of the built-in catalog that ends so.
 fn is_row(alloc: Global, end: &str, wanted: &[u8]) -> Result<bool, AllocError> {
     let text = str::from_utf8(CATALOG).unwrap_or("");
     let start = text.find(end).unwrap_or(0);

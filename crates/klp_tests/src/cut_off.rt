@@ -6,7 +6,7 @@ use klp_console::{ServeFault, Served};
 use klp_program::Fault;
 use std::alloc::{AllocError, Global};
 
-/// How many bytes a call gives or takes, where it isn't all at once.
+/// How many bytes a call gives or takes, if it isn't all at once.
 const PIECE: usize = 7;
 
 /// Callbacks of each kind, which undo each other, and one that refuses.
@@ -29,7 +29,7 @@ func .klp.sym.vmlinux.g,0 g_q ffffffffc0002000
 pre -16
 ";
 
-/// How many callbacks that are.
+/// How many callbacks these are.
 const CALLBACKS: usize = 5;
 
 /// All that lines show of a manager, before and after all its events are taken back.
@@ -57,7 +57,7 @@ shadow get 4 4
 shadow get 5 5
 ";
 
-/// Events of tasks, all of which are done ahead of their answers but for the patch's.
+/// Events of tasks. All are done ahead of their answers, except the patch's.
 const TASKS: &str = "\
 task new 1
 task enter 1
@@ -139,14 +139,14 @@ load p
 task new 2
 ";
 
-/// What a script comes to where nothing fails.
+/// What a script comes to if nothing fails.
 #[derive(Drop)]
 struct Known {
     lines: &'static [u8],
     answers: Vec<u8>,
     /// Where the answer to each line ends.
     ends: Vec<usize>,
-    /// What a manager shows that was fed no line, the first, and so on.
+    /// What a manager shows after no line, after the first, and so on.
     states: Vec<Vec<u8>>,
 }
 
@@ -169,14 +169,14 @@ fn served(alloc: Global, inputs: &[Input<'_>]) -> Result<Shown, Fault> {
     outcome(alloc, given, inputs)
 }
 
-/// The answers to the first input, and to those behind it.
+/// The answers to the first input, and to those after it.
 fn answers(shown: &Shown) -> (&[u8], &[u8]) {
     let end = shown.looks.first().map_or(0, |look| look.said);
     let first = shown.said.get(..end).unwrap_or(&[]);
     (first, shown.said.get(end..).unwrap_or(&[]))
 }
 
-/// What a manager shows behind these lines.
+/// What a manager shows after these lines.
 fn state_after(alloc: Global, lines: &[u8]) -> Result<Vec<u8>, Fault> {
     let shown = served(alloc, &[whole(lines), whole(LOOKS)])?;
     Ok(Vec::from_slice(alloc, answers(&shown).1)?)
@@ -190,7 +190,7 @@ fn put_lines<'a>(inputs: &mut Vec<Input<'a>>, text: &'a str) -> Result<(), Alloc
     Ok(())
 }
 
-/// What a manager shows behind the first lines, and behind one more each time.
+/// What a manager shows after the first lines, and after one more each time.
 fn put_states(alloc: Global, states: &mut Vec<Vec<u8>>, lines: &[u8]) -> Result<(), Fault> {
     states.push(state_after(alloc, b"")?)?;
     for (place, byte) in lines.iter().enumerate() {
@@ -243,7 +243,7 @@ fn line_feeds(text: &[u8]) -> usize {
     text.iter().filter(|byte| **byte == b'\n').count()
 }
 
-/// Whether the k-th read that fails is told, with all lines before it answered, which stand.
+/// Whether a failure of the k-th read is reported, and all lines before it are answered and stand.
 fn is_read_cut_off(alloc: Global, known: &Known, gives: usize, k: usize) -> Result<bool, Fault> {
     let input = Input {
         gives,
@@ -259,8 +259,8 @@ fn is_read_cut_off(alloc: Global, known: &Known, gives: usize, k: usize) -> Resu
     )
 }
 
-/// Whether the k-th write that fails is told, and the lines stand to which answers were written, with the one
-/// whose answer is cut off. `None` where there are fewer writes.
+/// Whether a failure of the k-th write is reported, and the lines stand whose answers were written, with the one whose
+/// answer is cut off. `None` if there are fewer writes.
 fn is_write_cut_off(
     alloc: Global,
     known: &Known,
@@ -299,8 +299,7 @@ fn are_writes_cut_off(alloc: Global, known: &Known, cut: [usize; 2]) -> Result<b
     Ok(right)
 }
 
-/// Whether each read and each write that fails leaves what was answered. The read behind the last byte fails
-/// too.
+/// Whether each read and each write that fails leaves what was answered. The read after the last byte fails too.
 fn are_all_cut_off(alloc: Global, script: &'static str) -> Result<bool, Fault> {
     let known = known_of(alloc, script)?;
     let mut right = known.states.len() == known.ends.len().saturating_add(1);

@@ -1,5 +1,5 @@
-//! Faults of an image that no catalog's text comes to, since the text is refused before. A contract says which fault
-//! there is, and lets want of memory stand in its place.
+//! Faults of an image that no catalog's text leads to, since the text is refused before. A contract says which fault
+//! there is, but lets a lack of memory replace it.
 use klp_text::{Image, ImageFault};
 use klp_types::{ObjectText, SymbolText};
 use std::alloc::{AllocError, Global};
@@ -9,8 +9,8 @@ const HANDLER: u64 = 0xffff_ffff_8100_0000;
 /// The address of each symbol.
 const ADDRESS: u64 = 0xffff_ffff_8100_1000;
 
-/// How many objects there are, of how many symbols each, of how many bytes; and the fault of an image of them. A limit
-/// is looked at before all else.
+/// How many objects there are, of how many symbols each, of how many bytes; and the fault of an image of them. Limits
+/// are checked before all else.
 const ROWS: [([usize; 3], ImageFault); 8] = [
     ([0, 0, 0], ImageFault::NoKernel),
     ([2, 0, 0], ImageFault::DuplicateObject),

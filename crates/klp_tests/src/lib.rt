@@ -1,7 +1,7 @@
 //! Tests of what no contract says and no example shows: what the program's words ask for, the numbers of faults and
-//! refusals and the names that faults print, faults of images and catalogs that no text comes to, reads and writes that
+//! refusals and the names that faults print, faults of images and catalogs that no text leads to, reads and writes that
 //! fail, with what stands then, what no line of the console shows, what docs/LIBRARY.md shows, and catalogs that are
-//! cut behind each of their bytes, by rules of their own. What a manager does is proved, and what a script shows is an
+//! cut after each of their bytes, by rules of their own. What a manager does is proved, and what a script shows is an
 //! example.
 #![tactic(auto)]
 

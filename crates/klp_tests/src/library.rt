@@ -15,7 +15,7 @@ fn booted(alloc: Global, text: &[u8]) -> Result<Manager, Fault> {
     Ok(Manager::boot(alloc, image, modules, catalog)?)
 }
 
-/// Enables a patch, and polls once. Answers whether its transition is complete.
+/// Enables a patch, and polls once. Returns whether its transition is complete.
 fn enable(manager: &mut Manager, patch: PatchId) -> bool {
     manager.run(&[Event::Enable(patch), Event::Poll]) == (2, 0)
         && manager.transition(patch) == Some(false)
@@ -28,7 +28,8 @@ fn first_byte(manager: &Manager) -> Option<u8> {
     body.first().copied()
 }
 
-/// Enables a patch, and undoes all of it. Answers the first byte of the kernel's text before, meanwhile and afterwards.
+/// Enables a patch, and undoes all of it. Returns the first byte of the kernel's text before, in between and
+/// afterwards.
 fn enable_and_undo(manager: &mut Manager, patch: PatchId) -> [Option<u8>; 3] {
     let (mark, before) = (manager.mark(), first_byte(manager));
     let is_complete = enable(manager, patch);

@@ -71,7 +71,7 @@ fn filled(alloc: Global) -> Result<Shown, Fail> {
     Ok(outcome(alloc, given, &inputs)?)
 }
 
-/// How many records are free after each input, where the last event is refused: nothing has changed by it.
+/// How many records are free after each input. The last event is refused, so it changes nothing.
 const FREE: [u32; 6] = [4856, 4855, 4097, 4096, 4095, 4095];
 
 fn is_counted(shown: &Shown) -> bool {

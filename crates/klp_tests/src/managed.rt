@@ -1,5 +1,6 @@
-//! What a manager over a catalog's text answers while it serves the console, input after input. It is the only owner of
-//! one here, since a function that owns a manager is dear to prove: each way out that it has then is proved anew.
+//! What a manager over a catalog's text answers while it serves the console, input after input. Only this file and
+//! library.rt own managers here, since a function that owns one is costly to prove: each of its exits is then proved
+//! anew.
 ghost use Rattle.std.specs.Prelude.{length};
 ghost use Rattle.klp_catalog_text.specs.Within.{AreTargetsWithin};
 
@@ -71,7 +72,7 @@ fn states_of(manager: &Manager) -> [Option<u64>; 4] {
     ]
 }
 
-/// What a manager answers to these inputs, where nothing is shown yet. There is room for each look.
+/// What a manager answers to these inputs. Nothing is shown yet, and there is room for each look.
 fn after(
     booted: Result<Manager, Fault>,
     inputs: &[Input<'_>],
@@ -98,7 +99,7 @@ fn nothing_shown(alloc: Global, looks: usize) -> Result<Shown, AllocError> {
     })
 }
 
-/// What a manager answers to these inputs. Where memory for a box is refused, a callback is missing.
+/// What a manager answers to these inputs. If memory for a box is refused, a callback is missing.
 pub fn outcome(alloc: Global, given: Given<'_>, inputs: &[Input<'_>]) -> Result<Shown, Fault> {
     let plan = Catalog::read(alloc, given.text.as_bytes())?;
     let shown = nothing_shown(alloc, inputs.len())?;

@@ -1,4 +1,5 @@
-//! Which symbol a name and a position pick, and the three ways in which they pick none: the console tells them alike.
+//! Which symbol a name and a position pick, and the three ways in which they pick none: the console reports all three
+//! alike.
 use klp_catalog::Catalog;
 use klp_modules::{Modules, SymbolFault};
 use klp_program::{Fault, opened};

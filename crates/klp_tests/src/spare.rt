@@ -13,8 +13,8 @@ const SITES: u16 = 256;
 /// The patch that replaces all others, and has one function.
 const NEWEST: u8 = 15;
 
-/// How many sites a patch has functions for, one behind another. The first patch begins at the first site, the next one
-/// behind it, and so on, around the kernel.
+/// How many sites a patch has functions for, one after another. The first patch begins at the first site, the next one
+/// after it, and so on, around the kernel.
 const FUNCTIONS: u16 = 64;
 
 /// Whether the patch has an entry on the site: the newest one has one everywhere.
@@ -22,7 +22,7 @@ fn is_on(patch: u8, site: Site) -> bool {
     patch == NEWEST || u16::from(patch % 4) == site.0 / FUNCTIONS
 }
 
-/// Pushes the entry of a patch, unless there is no room for it, which is answered.
+/// Pushes the entry of a patch if there is room for it, and returns whether there was.
 fn push(stacks: &mut Stacks, site: Site, patch: u8) -> bool
     requires there { site < length stacks.old }
     requires fresh { has_entry patch (entries_at stacks.old site) ≡ false }
@@ -46,7 +46,7 @@ fn push(stacks: &mut Stacks, site: Site, patch: u8) -> bool
     true
 }
 
-/// Pushes the entries of a site, the oldest first, and answers whether there was room for them.
+/// Pushes the entries of a site, the oldest first, and returns whether there was room for them.
 fn push_all(stacks: &mut Stacks, site: Site) -> bool
     requires there { site < length stacks.old }
     requires empty { entries_at stacks.old site ≡ [] }
@@ -62,7 +62,7 @@ fn push_all(stacks: &mut Stacks, site: Site) -> bool
     has_room
 }
 
-/// Pushes the entries of all sites, and answers whether there was room for them.
+/// Pushes the entries of all sites, and returns whether there was room for them.
 fn fill(stacks: &mut Stacks) -> bool
     requires { stacks.old ≡ replicate 256 [] }
     ensures { length stacks.new ≡ 256 }

@@ -1,4 +1,4 @@
-//! The program's words: of them no contract says more than which status refuses them.
+//! The program's words: which of them are refused, and what the others ask for, by examples.
 use klp_program::{Wanted, parse_arguments};
 use std::alloc::{AllocError, Global};
 
@@ -43,7 +43,7 @@ fn wanted_words(alloc: Global, words: &Wanted) -> Result<String, AllocError> {
     }
 }
 
-/// Whether the arguments `given` mean `wanted`. Where they are refused, and only then, standard error has a line.
+/// Whether the arguments `given` mean `wanted`. If they are refused, and only then, standard error has a line.
 fn is_answer(alloc: Global, given: &[String], wanted: &str) -> Result<bool, AllocError> {
     let mut err = Vec::new(alloc);
     Ok(match parse_arguments(alloc, given, &mut err) {

@@ -71,7 +71,7 @@ fn leave_of(patch: PatchId, moved: &Option<Transition>, installed: &[PatchId]) -
     }
 }
 
-/// Appends the sentence that a line did this, if there is such a fact.
+/// Appends the sentence that a line did `fact`, if there is a fact.
 fn add_fact(sentences: &mut Vec<Sentence>, fact: Option<Fact>, line: u64) -> Result<(), AllocError>
     ensures { OnOk result (sentences.new.items
         ≡ sentences.old.items ++ map (did line) (option_to_list fact)) }

@@ -32,7 +32,7 @@ pub fn what_moves_has_moved_since()
     ensures { (opening : AnyView) → (run : List AnyMoment) → IsGoingSince opening run }
 {}
 
-/// Of a long list some sentences are left out and counted, but none that still lasts at the end of the run.
+/// From a long list some sentences are left out and counted, but none that still lasts at the end of the run.
 pub fn what_lasts_is_shown()
     ensures lasting { (all : List AnySentence) → (one : AnySentence) → Contains all one → is_lasting one ≡ true
         → Contains (shown all) one }

@@ -2,7 +2,7 @@
 //! slept inside of replaced code.
 //!
 //! A run is a list of moments, one for each line ([`Moment`]): what the line did, and what the manager shows after it.
-//! The page says a list of sentences on the run, in the order of the lines where they begin ([`sentences`],
+//! The page has a list of sentences on the run, in the order of the lines where they begin ([`sentences`],
 //! `specs/Sentences`). No stay of a task is missing, none is made up, and each fact is true (`laws`, `specs/Telling`).
 //! From a long list the oldest sentences are left out, but none that still lasts at the end (`shown`, `specs/Shown`).
 #![tactic(auto)]

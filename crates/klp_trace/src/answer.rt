@@ -1,4 +1,4 @@
-//! What a kernel answered, as a line tells it.
+//! What a kernel answered, as a line says it.
 ghost use Rattle.std.specs.Prelude.{◌≡◌, ◌^◌, IfOk, option_map};
 ghost use Rattle.klp_model.specs.declared.event.Reply.TheVariants.{Pending, Completed, Value, Freed, Woken};
 ghost use Rattle.klp_words.specs.Words.{decimal_of, shadow_value_of};
@@ -15,7 +15,7 @@ use klp_model::{Refusal, Reply};
 use klp_words::{LineWords, Separators, number64, shadow_value, signed};
 use std::alloc::{AllocError, Global};
 
-/// All refusals. They are few, so the one that a text tells is found by trying each.
+/// All refusals. They are few, so the refusal in a text is found by trying each.
 static REFUSALS: [Refusal; 18] = [
     Refusal::NoPatch,
     Refusal::Busy,
@@ -87,8 +87,8 @@ fn woken_of(words: &mut LineWords<'_>, manager: &Manager) -> Option<Reply>
     Some(Reply::Woken(frames_of(words, manager)?))
 }
 
-/// Reads the reply that begins with this word. Words that are too many are passed over here: the whole text is compared
-/// with the console's once the reply is known.
+/// Reads the reply that begins with this word. Ignores surplus words: once the reply is known, the whole text is
+/// compared with the console's.
 fn reply_with(first: &[u8], words: &mut LineWords<'_>, manager: &Manager) -> Option<Reply>
     ensures { result ≡ reply_with manager.now first.now words.old }
 {

@@ -45,8 +45,8 @@ fn entry_at(
     Ok(with_time(item, time))
 }
 
-/// Reads a line: an item, and its time if it has one. `None` if the line is no item, or if its time is none. `Err` if
-/// memory runs out.
+/// Reads a line: an item, and its time if it has one. `None` if the line is no item, or if its time isn't a time. `Err`
+/// if memory runs out.
 fn entry_of(alloc: Global, line: &[u8], manager: &Manager) -> Result<Option<Entry>, AllocError>
     ensures { IfOk result (λ entry. entry ≡ entry_of manager.now line.now) }
 {
@@ -59,8 +59,8 @@ fn entry_of(alloc: Global, line: &[u8], manager: &Manager) -> Result<Option<Entr
     }
 }
 
-/// Reads a line behind others, of which `last` is the last time. `Err` with what is wrong if the line is no item, if
-/// its time is before `last`, or if memory runs out.
+/// Reads a line after others. `last` is their last time. `Err` with what is wrong if the line is no item, if its time
+/// is before `last`, or if memory runs out.
 pub(crate) fn entry_behind(
     alloc: Global,
     last: Microseconds,

@@ -1,5 +1,5 @@
-//! Worked examples of the definitions, by computation. A function here does nothing: its contract is the
-//! example, so a definition that comes to something else isn't proved.
+//! Worked examples of the definitions, by computation. A function here does nothing: its contract is the example, so
+//! the proof fails if a definition gives something else.
 ghost use Rattle.std.specs.Prelude.{◌≡◌, pos, negsuc, true, false, codes, Some, None, Ok, Err};
 ghost use Rattle.klp_model.specs.declared.event.Event.TheVariants.{Poll};
 ghost use Rattle.klp_model.specs.declared.event.Refusal.TheVariants.{Busy};

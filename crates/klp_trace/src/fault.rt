@@ -5,12 +5,12 @@ use std::alloc::{AllocError, AllocFailed};
 use std::{error, fmt};
 use thiserror::Error;
 
-/// What is wrong with a line of a trace. In a line that has both faults, `BadItem` is told.
+/// What is wrong with a line of a trace. If a line has both faults, `BadItem` is reported.
 #[derive(Clone, Copy, Debug, PartialEq, Eq)]
 pub enum TraceFaultKind {
-    /// The line is no item, or has a name, a symbol or a task that can't be; or what stands where its time is, is none.
+    /// The line is no item, has an impossible name, symbol or task, or has something else in place of its time.
     BadItem,
-    /// The time of the line is before that of a line above, as where two logs were put together.
+    /// The time of the line is before that of a line above, as if two logs were put together.
     OutOfOrder,
     /// Memory ran out. This may come in place of a fault of this line or a later one.
     NoMemory,

@@ -36,7 +36,7 @@ fn return_of(words: &mut LineWords<'_>) -> Option<Observed>
 }
 
 /// Reads an item without an answer. `event` is the event that the text asks for as a line of the console, if it asks
-/// for one. Names are looked up in the manager's catalog, and its state is not.
+/// for one. Looks up names in the manager's catalog, and doesn't use the manager's state.
 fn item_alone(text: &[u8], event: Option<Event>, manager: &Manager) -> Option<Observed>
     requires { event ≡ event_of manager.now text.now }
     ensures { result ≡ item_alone manager.now text.now }
@@ -77,8 +77,8 @@ fn event_answered(
     Ok(answer.map(|answer| Observed::Answered(event, answer)))
 }
 
-/// Reads an event with its answer. `None` if the text asks for no event, or if the answer is none. `Err` if memory runs
-/// out.
+/// Reads an event with its answer. `None` if the text asks for no event, or if the answer isn't one. `Err` if memory
+/// runs out.
 fn item_answered(
     alloc: Global,
     text: &[u8],
@@ -93,7 +93,7 @@ fn item_answered(
     }
 }
 
-/// Reads the item that a text is. `None` if it is none. `Err` if memory runs out.
+/// Reads a text as an item. `None` if it isn't one. `Err` if memory runs out.
 pub(crate) fn item_of(
     alloc: Global,
     text: &[u8],

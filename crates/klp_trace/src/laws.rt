@@ -7,7 +7,7 @@ ghost use Rattle.klp_console.specs.Refusals.{refusal_text};
 ghost use Rattle.klp_console.specs.Replies.{answer_text};
 ghost use Rattle.klp_trace.specs.Answers.{answer_of};
 
-/// What is read as an answer is, byte by byte, what the console writes of that answer.
+/// A text that is read as an answer is, byte by byte, what the console writes of that answer.
 pub fn an_answer_is_what_the_console_writes()
     ensures { (manager : Journaled) (text : List ℕ) (answer : Result Reply Refusal)
         → answer_of manager text ≡ Some answer → answer_text manager.managed.catalog answer ≡ text ++ codes "\n" }

@@ -6,9 +6,8 @@
 //! (`specs/Answers`). A line may have its time in front, and no time is before that of a line above
 //! (`specs/Traces`). The first line that is no item, or is out of order, is reported.
 //!
-//! [`answer_text`] is what the console writes of an answer, and [`LineParts`] what stands where in a line, for
-//! those who tell people of it. `examples` has lines of each kind, and which are refused; `laws` what is proved
-//! of answers.
+//! [`answer_text`] is what the console writes of an answer. [`LineParts`] are the parts of a line, for messages to
+//! people. `examples` has lines of each kind, and refused ones; `laws` says what is proved of answers.
 #![tactic(auto)]
 
 mod answer;

@@ -63,7 +63,8 @@ pub(crate) fn version_of(word: &[u8], manager: &Manager) -> Option<Version>
     }
 }
 
-/// Reads the functions that a task is inside of, innermost last. `None` if a word is none, or if they are more than 32.
+/// Reads the functions that a task is inside of, innermost last. `None` if a word is no function, or if there are more
+/// than 32.
 pub(crate) fn frames_of(words: &mut LineWords<'_>, manager: &Manager) -> Option<Frames>
     ensures { result ≡ frames_of manager.now words.old }
 {

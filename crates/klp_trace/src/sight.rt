@@ -1,4 +1,4 @@
-//! What a kernel showed, as a line tells it.
+//! What a kernel showed, as a line says it.
 ghost use Rattle.std.specs.Prelude.{◌≡◌};
 ghost use Rattle.klp_trace.specs.Items.{state_seen, gone_seen, files_seen, saw_of, version_seen, ran_of, text_of};
 
@@ -60,7 +60,7 @@ pub(crate) fn saw_of(words: &mut LineWords<'_>, manager: &Manager) -> Option<Sig
 }
 
 /// Returns that a task called the site of this version and ran the version there. `None` if the version is a new
-/// function that its patch doesn't have, or that has no site, as its object has no such symbol.
+/// function that its patch doesn't have, or that has no site, since its object has no such symbol.
 fn version_seen(task: TaskId, version: Version, manager: &Manager) -> Option<Sight>
     ensures { result ≡ version_seen manager.now task version }
 {

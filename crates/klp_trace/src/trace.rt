@@ -26,13 +26,13 @@ type Named = (ObjId, PatchId, Site, TaskId);
 pub struct Trace {
     /// The item of each line, in order.
     pub items: Vec<Observed>,
-    /// For each of them when that was, if its line says so.
+    /// For each item its time, if its line has one.
     pub times: Vec<Option<Microseconds>>,
 }
 
-/// Adds an item that was read, and its time, and returns the last time then: the item's own, or `last` if it has none.
-/// `Err` if nothing was read, with the same fault, or if memory runs out. The function is generic, since the borrow
-/// checker doesn't cover it for [`Observed`].
+/// Adds an item that was read, and its time. Returns the last time so far: the item's own, or `last` if it has none.
+/// `Err` with the fault if nothing was read, or if memory runs out. The function is generic, since the borrow checker
+/// doesn't cover it for [`Observed`].
 fn take<T: Drop>(
     items: &mut Vec<T>,
     times: &mut Vec<Option<Microseconds>>,
@@ -56,8 +56,8 @@ fn take<T: Drop>(
 }
 
 impl Trace {
-    /// Reads a trace, which has one item on each line. `Err` with the first line that is at fault. Names are looked up
-    /// in the manager's catalog, and its state is not. Memory is taken for the items as they come.
+    /// Reads a trace, which has one item on each line. `Err` with the first line that is at fault. Looks up names in
+    /// the manager's catalog, and doesn't use the manager's state. Allocates for the items as they come.
     pub fn read(alloc: Global, text: &[u8], manager: &Manager) -> Result<Trace, TraceFault>
         ensures read { IfOk result (λ trace. IsTraceOf manager.now text.now trace.items.items trace.times.items) }
         ensures fault { IfErr result (λ fault. IsTraceFault manager.now (lines text.now) fault.line fault.kind) }

@@ -1,4 +1,4 @@
-//! A manager is booted over a catalog's text, and a kernel's trace is shown beside it.
+//! Booting a manager over a catalog's text, and showing a kernel's trace beside it.
 ghost use Rattle.std.specs.Prelude.{◌≡◌, length, IfOk, IfErr};
 ghost use Rattle.std.specs.Str.Lines.{lines};
 ghost use Rattle.klp_catalog_text.specs.Within.{AreTargetsWithin};

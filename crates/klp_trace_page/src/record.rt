@@ -34,7 +34,7 @@ fn make_room(manager: &mut Manager)
     }
 }
 
-/// Puts the kernel's answer beside that of the rules, and marks the row if it is another.
+/// Puts the kernel's answer beside that of the rules, and marks the row if they differ.
 fn compare(row: &mut Row, seen: Vec<u8>)
     ensures row { row.new ≡ record row.old {
       is_quiet = row.old.is_quiet && not row.new.differs;
@@ -97,8 +97,8 @@ fn answered_row(
     Ok((row, moment))
 }
 
-/// Returns the row and the moment of an item by which nothing changes. `rules` is what the rules say there, and `seen`
-/// what the kernel showed. `Err` if memory runs out.
+/// Returns the row and the moment of an item that changes nothing. `rules` is what the rules say there, and `seen` what
+/// the kernel showed. `Err` if memory runs out.
 fn still_row(
     alloc: Global,
     manager: &Manager,

@@ -144,7 +144,7 @@ fn wait_of(lag: &Option<Lag>) -> Option<Mode>
     }
 }
 
-/// Returns for each task number the mode of its task, if that lags without blocking the transition.
+/// Returns for each task number the mode of its task, if the task lags without blocking the transition.
 fn waits(lags: &[Option<Lag>; MAX_TASKS]) -> [Option<Mode>; MAX_TASKS]
     ensures { result ≡ map wait_by lags.now }
 {

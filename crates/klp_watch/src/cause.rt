@@ -1,13 +1,13 @@
 use thiserror::Error;
 
-/// Why an item can't be done: which premise of the consistency model it breaks, or that whoever watches has no
-/// room left for it. The numbers are this project's own, and stay.
+/// Why an item can't be done: it breaks this premise of the consistency model, or the watcher has no room left for it.
+/// The numbers are this project's own, and won't change.
 #[derive(Clone, Copy, Debug, PartialEq, Eq, Error)]
 pub enum Cause {
     /// A task was there at the start, so what it is inside of isn't known.
     #[error("NotOpening")]
     NotOpening = 1,
-    /// A task fell asleep, and told other frames than those that it is inside of.
+    /// A task fell asleep with other frames than those that it is inside of.
     #[error("Frames")]
     Frames = 2,
     /// A task left the kernel or ended while it was inside of a function.
@@ -19,14 +19,13 @@ pub enum Cause {
     /// A transition was forced.
     #[error("Forced")]
     Forced = 5,
-    /// A call of a task that isn't in the kernel, or at a site that isn't one of a loaded object.
+    /// A call by a task that isn't in the kernel, or at a site of no loaded object.
     #[error("NoCall")]
     NoCall = 6,
-    /// A return of a task that is inside of nothing, or isn't in the kernel.
+    /// A return by a task that is inside of nothing, or isn't in the kernel.
     #[error("NoReturn")]
     NoReturn = 7,
-    /// A call of a task that is inside of as many functions as are kept, which are
-    /// [`klp_types::MAX_FRAMES`].
+    /// A call by a task that is already inside of [`klp_types::MAX_FRAMES`] functions, the most that are kept.
     #[error("Deep")]
     Deep = 8,
 }
@@ -35,7 +34,7 @@ pub enum Cause {
 #[derive(Clone, Copy, Debug, PartialEq, Eq, Error)]
 #[error("item {item}: {cause}")]
 pub struct NotHonest {
-    /// Counted from 1; 0 where nothing could begin.
+    /// Counted from 1; 0 if nothing could begin.
     pub item: usize,
     pub cause: Cause,
 }

@@ -1,4 +1,4 @@
-//! A kernel beside the rules: its events are done, and what it answered and showed is compared with what the rules say.
+//! Comparing a kernel with the rules: its events are done, and its answers and sights compared with what the rules say.
 ghost use Rattle.std.specs.Prelude.{◌≡◌, List, IfOk, IfErr};
 ghost use Rattle.klp_model.specs.declared.seen.Seen.{Seen as AnyItem};
 ghost use Rattle.klp_model.specs.Observed.{Stacks, HasNoTask, IsHonestRun};
@@ -17,12 +17,12 @@ use crate::observed::Observed;
 use crate::watching::{functions_are_in_objects, has_task, watch_item};
 use klp_core::Manager;
 
-/// Does as [`watch`](crate::watch) with the items that happen, over a manager without tasks, and compares what the
-/// kernel answered and showed between them with what the rules answer and the state shows there. It tells the first
-/// item at which the two differ, or that breaks a premise. Where an event does both, the premise is told.
+/// Does the items that happen as [`watch`](crate::watch) does, over a manager without tasks. Compares what the kernel
+/// answered and showed between them with what the rules answer and the state shows there. Returns the first item at
+/// which the two differ, or that breaks a premise. If an event does both, returns the premise.
 ///
-/// The item told leaves nothing: an event is taken back by its own records, only its callbacks have run. All items
-/// before it are done, and are so. It takes no memory, and an item costs what its event or its look-up costs.
+/// The returned item leaves nothing: an event is taken back by its own records, but its callbacks have run. All items
+/// before it are done, and agree with the rules. Allocates nothing. An item costs as much as its event or its look-up.
 pub fn compare(manager: &mut Manager, items: &[Observed]) -> Result<(), Differs>
     ensures compared { IfOk result (λ _. AreCompared manager.old manager.new items.now) }
     // what is compared is consistent at every moment
@@ -48,7 +48,7 @@ pub fn compare(manager: &mut Manager, items: &[Observed]) -> Result<(), Differs>
     compare_all(manager, items)
 }
 
-/// The items in order, where no task is there at first.
+/// Compares the items in order. No task is there at first.
 fn compare_all(manager: &mut Manager, items: &[Observed]) -> Result<(), Differs>
     ensures compared { IfOk result
         (λ _. HasNoTask manager.old.managed.state → AreCompared manager.old manager.new items.now) }
@@ -73,7 +73,7 @@ fn compare_all(manager: &mut Manager, items: &[Observed]) -> Result<(), Differs>
     Ok(())
 }
 
-/// One item, where the tasks are inside of what is kept.
+/// Compares one item. `inside` keeps what the tasks are inside of.
 pub(crate) fn compare_item(
     manager: &mut Manager,
     inside: &mut Inside,

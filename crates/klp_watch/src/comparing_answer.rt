@@ -15,8 +15,8 @@ use klp_core::Manager;
 use klp_model::{Event, Refusal, Reply};
 use klp_types::{Frames, ShadowValue};
 
-/// An event is taken, or refused, which is no fault where the kernel refused it for the same. One that breaks a
-/// premise, or was answered otherwise, is taken back by its own records.
+/// Takes an event, or refuses it, which is no fault if the kernel refused it for the same reason. Takes an event back
+/// by its own records if it breaks a premise, or was answered otherwise.
 pub(crate) fn take_answered(
     manager: &mut Manager,
     inside: &mut Inside,

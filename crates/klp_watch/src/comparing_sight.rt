@@ -1,4 +1,4 @@
-//! What a kernel showed, held against the state of a manager.
+//! Comparing what a kernel showed with the state of a manager.
 ghost use Rattle.std.specs.Prelude.{◌≡◌, ◌↔◌, IsTrue, true, Some, option_map};
 ghost use Rattle.klp_types.specs.declared.task.Task.{Task as AnyTask};
 ghost use Rattle.klp_types.specs.declared.version.Target.{Target as AnyTarget};
@@ -13,7 +13,7 @@ use crate::observed::{PatchFiles, Sight};
 use klp_core::Manager;
 use klp_types::{PatchId, PatchState, Site, TaskId, Version};
 
-/// Whether the state shows what was seen. It costs a look-up, and that of a patch a look at the installed ones.
+/// Whether the state shows what was seen. Costs a look-up, and for a patch a look at the installed patches.
 pub(crate) fn is_shown(manager: &Manager, sight: &Sight) -> bool
     ensures { IsTrue result ↔ Shows (setting_of manager.now.managed) manager.now.managed.state sight.now }
 {
@@ -25,7 +25,7 @@ pub(crate) fn is_shown(manager: &Manager, sight: &Sight) -> bool
     }
 }
 
-/// The difference that there is where the state doesn't show it.
+/// Returns how the kernel differs if the state doesn't show this.
 pub(crate) fn other_than(sight: &Sight) -> Difference
     ensures { result ≡ other_than sight.now }
 {

@@ -1,27 +1,28 @@
 use crate::cause::Cause;
 use thiserror::Error;
 
-/// How a kernel differs from the rules at an item. Each kind of item differs in its own way, and the first of these is
-/// told where there are several. The numbers of [`Cause`] go on here: an answer that differs has 9, and what was seen
-/// 10 to 13, in this order. They are this project's own, and stay.
+/// How a kernel differs from the rules at an item. Each kind of item differs in its own way; if several apply, the
+/// first is reported. The numbers go on from those of [`Cause`]: an answer that differs has 9, and what was seen 10 to
+/// 13, in this order. They are this project's own, and won't change.
 #[derive(Clone, Copy, Debug, PartialEq, Eq, Error)]
 pub enum Difference {
-    /// The item breaks a premise of the consistency model, so what the rules say of it isn't asked.
+    /// The item breaks a premise of the consistency model, so the rules aren't asked about it.
     #[error("{0}")]
     Premise(Cause),
-    /// The kernel answered an event otherwise than the rules: with another reply or refusal, or with one for the other.
+    /// The kernel answered an event otherwise than the rules: with another reply, another refusal, or one in place of
+    /// the other.
     #[error("Answer")]
     Answer,
-    /// A task has another state, or is there against the rules, or isn't.
+    /// A task has another state, or exists or is missing against the rules.
     #[error("State")]
     State,
-    /// A file of a patch reads otherwise, or is there against the rules, or isn't.
+    /// A file of a patch reads otherwise, or exists or is missing against the rules.
     #[error("Files")]
     Files,
-    /// A task ran another version than the one that the rules pick, or one where it can't call anything.
+    /// A task ran another version than the rules pick, or ran one where it can't call anything.
     #[error("Version")]
     Version,
-    /// A site is hooked against the rules, or isn't, or has no text, since its object isn't loaded.
+    /// A site is hooked or plain against the rules, or has no text, since its object isn't loaded.
     #[error("Text")]
     Text,
 }
@@ -30,7 +31,7 @@ pub enum Difference {
 #[derive(Clone, Copy, Debug, PartialEq, Eq, Error)]
 #[error("item {item}: {cause}")]
 pub struct Differs {
-    /// Counted from 1; 0 where nothing could begin.
+    /// Counted from 1; 0 if nothing could begin.
     pub item: usize,
     pub cause: Difference,
 }

@@ -1,4 +1,4 @@
-//! Events among what tasks do: each is taken, and taken back where it breaks a premise.
+//! Events among what tasks do: each is taken, and is taken back if it breaks a premise.
 ghost use Rattle.std.specs.Prelude.{◌≡◌, IfOk, IfErr, IfSome, IfNone};
 ghost use Rattle.klp_model.specs.declared.seen.Seen.TheVariants.{Event as Happens};
 ghost use Rattle.klp_model.specs.Observed.{Stacks, begun, IsHonestEvent};
@@ -13,7 +13,7 @@ use klp_core::Manager;
 use klp_model::Event;
 use klp_types::Frames;
 
-/// Which premise an accepted event breaks, if it breaks one, by what the tasks are inside of.
+/// Which premise an accepted event breaks, if any, judged by what the tasks are inside of.
 pub(crate) fn against(manager: &Manager, inside: &Inside, event: &Event) -> Option<Cause>
     ensures found { IfSome result (λ cause. (stacks : Stacks) → AreInside inside.now.rows stacks
         → IsAgainst (setting_of manager.now.managed) stacks event.now cause) }
@@ -31,7 +31,7 @@ pub(crate) fn against(manager: &Manager, inside: &Inside, event: &Event) -> Opti
     }
 }
 
-/// A new task is inside of nothing, whatever one with its number was inside of before.
+/// A new task is inside of nothing, whatever an earlier task with its number was inside of.
 pub(crate) fn begin(inside: &mut Inside, event: &Event)
     ensures { (stacks : Stacks) → AreInside inside.old.rows stacks
         → AreInside inside.new.rows (begun event.now stacks) }
@@ -42,8 +42,8 @@ pub(crate) fn begin(inside: &mut Inside, event: &Event)
     }
 }
 
-/// An event is taken, or refused, which is no fault. One that breaks a premise is taken back by its own
-/// records, so no later item sees it. What these lead back to is known of a manager that stands.
+/// Takes an event, or refuses it, which is no fault. Takes an event that breaks a premise back by its own records, so
+/// no later item sees it. What these records lead back to is known of a well-formed manager.
 pub(crate) fn happen(manager: &mut Manager, inside: &mut Inside, event: &Event) -> Result<(), Cause>
     requires { IsWellFormed manager.old }
     ensures done { IfOk result (λ _. (stacks : Stacks) → AreInside inside.old.rows stacks

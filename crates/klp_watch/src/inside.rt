@@ -9,8 +9,8 @@ ghost use Rattle.klp_watch.specs.Inside.{frames_at, are_in};
 use klp_core::Manager;
 use klp_types::{Frames, MAX_TASKS, ObjId, TaskId, Version};
 
-/// What each task is inside of: the versions that it called and hasn't returned from, by the number of the
-/// task. It is of a fixed size, so to watch takes no memory.
+/// What each task is inside of: the versions that it called and hasn't returned from, by the number of the task. Its
+/// size is fixed, so watching allocates nothing.
 #[derive(Drop)]
 pub(crate) struct Inside {
     rows: [Frames; MAX_TASKS],
@@ -26,7 +26,7 @@ impl Inside {
         }
     }
 
-    /// The versions of a task, innermost last. A number that no task can have is inside of nothing.
+    /// The versions of a task, innermost last. Empty for a number that no task can have.
     pub(crate) fn frames(&self, task: TaskId) -> Frames
         ensures { result ≡ frames_at self.now.rows task }
     {
@@ -36,7 +36,7 @@ impl Inside {
         }
     }
 
-    /// A task is inside of these from now on. For a number that no task can have nothing is kept.
+    /// Notes that a task is inside of these from now on. Keeps nothing for a number that no task can have.
     pub(crate) fn put(&mut self, task: TaskId, frames: Frames)
         ensures { self.new.rows ≡ slice_set self.old.rows task frames }
     {

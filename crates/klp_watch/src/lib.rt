@@ -1,12 +1,12 @@
-//! Watching a kernel: a trace of what tasks do, held against the consistency model.
+//! Watching a kernel: a trace of what tasks do, checked against the consistency model.
 //!
-//! A trace is a list of events, calls and returns ([`klp_model::Seen`]). [`watch`] does it over a manager and
-//! keeps what each task is inside of. What it did without a fault is an honest observed run
-//! (`specs/Watching`), so at every moment each task ran one version of each function, and none was in code
-//! that had left (`klp_model::consistency`). The first item that breaks a premise is told with its [`Cause`],
-//! and leaves nothing behind. [`watch_whole`] does the same over a trace of any length.
-//! [`compare`] holds against the rules what the kernel answered and showed besides (`specs/Compared`), and
-//! [`compare_whole`] does so over a trace of any length (`specs/ComparedWhole`).
+//! A trace is a list of events, calls and returns ([`klp_model::Seen`]). [`watch`] does the list over a manager and
+//! keeps what each task is inside of. A list done without a fault is an honest observed run (`specs/Watching`), so at
+//! every moment each task ran one version of each function, and no task was in code that had left
+//! (`klp_model::consistency`). [`watch`] returns the first item that breaks a premise, with its [`Cause`]; that item
+//! leaves nothing behind. [`watch_whole`] does the same over a trace of any length. [`compare`] also compares what the
+//! kernel answered and showed with the rules (`specs/Compared`), and [`compare_whole`] does so over a trace of any
+//! length (`specs/ComparedWhole`).
 #![tactic(auto)]
 
 mod cause;

@@ -1,15 +1,15 @@
 use klp_model::{Event, Refusal, Reply, Seen};
 use klp_types::{PatchId, PatchState, Site, TaskId, Version};
 
-/// What was observed of a kernel, one item after another: what happened to it, and what it showed meanwhile. That a
-/// kernel is asked for what it shows is this project's own, as is the form of what it answers.
+/// What was observed of a kernel, one item after another: what happened to it, and what it showed in between. This
+/// project itself chose to ask a kernel for what it shows, and chose the form of the answers.
 #[derive(Clone, Copy)]
 pub enum Observed {
     /// An event, a call or a return, as [`watch`](crate::watch) takes it. What the kernel answered isn't known.
     Seen(Seen),
     /// An event, and what the kernel answered: its reply, or why it refused the event.
     Answered(Event, Result<Reply, Refusal>),
-    /// What the kernel showed at this place. Nothing changes by it.
+    /// What the kernel showed at this place. It changes nothing.
     Saw(Sight),
 }
 

@@ -14,7 +14,7 @@ use crate::inside::Inside;
 use klp_core::Manager;
 use klp_types::{Mode, Site, TaskId};
 
-/// Whether a task runs in the kernel, where alone it calls and returns.
+/// Whether a task runs in the kernel; only there it calls and returns.
 fn is_in_kernel(manager: &Manager, task: TaskId) -> bool
     ensures mode { result ≡ is_in Kernel (task_at manager.now.managed.state.tasks task) }
     ensures rows { length manager.now.managed.state.tasks ≡ MAX_TASKS }

@@ -1,4 +1,4 @@
-//! Watching a trace of any length: the journal is sealed on the way, so no event is refused for want of room in it.
+//! Watching a trace of any length: the journal is sealed on the way, so no event is refused for lack of room in it.
 ghost use Rattle.std.specs.Prelude.{◌≡◌, true, IfOk, IfErr};
 ghost use Rattle.klp_journal.specs.Journal.{has_room};
 ghost use Rattle.klp_model.specs.Observed.{HasNoTask};
@@ -14,9 +14,9 @@ use klp_core::Manager;
 use klp_model::Seen;
 use klp_types::{MAX_GROUPS, MAX_RECORDS};
 
-/// Does as [`watch`](crate::watch) over as many items as there are. Where the journal has no room for one more event,
-/// it is sealed first, so what is accepted or refused, and what is told, is what the rules say of the whole list. Which
-/// of the events can be taken back afterwards isn't said.
+/// Does as [`watch`](crate::watch) over any number of items. Seals the journal whenever it has no room for one more
+/// event, so what is accepted or refused, and the result, are what the rules say of the whole list. Doesn't promise
+/// which events can be taken back afterwards.
 pub fn watch_whole(manager: &mut Manager, items: &[Seen]) -> Result<(), NotHonest>
     ensures watched { IfOk result (λ _. LeadHonestly manager.old.managed manager.new.managed items.now) }
     // what is watched is consistent at every moment
@@ -41,7 +41,7 @@ pub fn watch_whole(manager: &mut Manager, items: &[Seen]) -> Result<(), NotHones
     watch_each(manager, items)
 }
 
-/// The items in order, where no task is there at first.
+/// Watches the items in order. No task is there at first.
 fn watch_each(manager: &mut Manager, items: &[Seen]) -> Result<(), NotHonest>
     ensures watched { IfOk result (λ _. HasNoTask manager.old.managed.state
         → LeadHonestly manager.old.managed manager.new.managed items.now) }
@@ -67,7 +67,7 @@ fn watch_each(manager: &mut Manager, items: &[Seen]) -> Result<(), NotHonest>
     Ok(())
 }
 
-/// Seals the journal where one more event might find no room in it.
+/// Seals the journal if it might have no room for one more event.
 pub(crate) fn make_room(manager: &mut Manager)
     requires { IsWellFormed manager.old }
     ensures same { manager.new.managed ≡ manager.old.managed }

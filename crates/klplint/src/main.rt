@@ -1,5 +1,5 @@
-//! The program: it boots a manager over a catalog, serves a script, and tells on standard output of each patch whether
-//! it would leave a trace once it is withdrawn, and what becomes of patches that are loaded over others. Standard error
+//! The program: it boots a manager over a catalog, serves a script, and writes to standard output whether each patch
+//! would leave a trace once it is withdrawn, and what becomes of patches that are loaded over others. Standard error
 //! has what is wrong with the files, and where.
 #![tactic(auto)]
 
@@ -12,8 +12,7 @@ use std::process::ExitCode;
 
 const NAME: &str = "klplint";
 
-/// The statuses of a catalog of which nothing is found, of one with findings, of a fault, and of words that are
-/// refused.
+/// The statuses of a catalog without findings, of one with findings, of a fault, and of words that are refused.
 const CLEAN: u8 = 0;
 
 const FINDINGS: u8 = 3;
@@ -26,7 +25,7 @@ fn begins_with_dash(word: &str) -> bool {
     word.as_bytes().first() == Some(&b'-')
 }
 
-/// What the program is called for: how it tells, and the files, a catalog and perhaps a script.
+/// What the program is asked for: the form of its output, and the files, a catalog and perhaps a script.
 #[derive(Clone, Copy)]
 struct Asked<'a> {
     form: Form,
@@ -34,7 +33,7 @@ struct Asked<'a> {
     script: Option<&'a str>,
 }
 
-/// The form that the words ask for, and the words behind it.
+/// Returns the form that the words ask for, and the words after it.
 fn form_of(given: &[String]) -> (Form, &[String]) {
     match given {
         [first, rest @ ..] if first.as_str() == "--json" => (Form::Json, rest),
@@ -42,7 +41,7 @@ fn form_of(given: &[String]) -> (Form, &[String]) {
     }
 }
 
-/// What the words ask for. Other words are refused on `err`, with their exit status.
+/// Returns what the words ask for. Refuses other words on `err`, and returns their exit status.
 fn read_words<'a, E: Write>(given: &'a [String], err: &mut E) -> Result<Asked<'a>, u8> {
     let (form, files) = form_of(given);
     let (catalog, script) = match files {
@@ -64,7 +63,7 @@ fn read_words<'a, E: Write>(given: &'a [String], err: &mut E) -> Result<Asked<'a
     })
 }
 
-// The bytes of a file. Where it can't be read a line on `err` says so, and the answer is the exit status.
+// Returns the bytes of a file. If it can't be read, says so in a line on `err`, and returns the exit status.
 fn file_in<E: Write>(rt: &HostRuntime, name: &str, err: &mut E) -> Result<Vec<u8>, u8> {
     match bytes_in(rt, name) {
         Ok(bytes) => Ok(bytes),
@@ -76,7 +75,7 @@ fn file_in<E: Write>(rt: &HostRuntime, name: &str, err: &mut E) -> Result<Vec<u8
     }
 }
 
-// The bytes of the script; none where there is no script.
+// Returns the bytes of the script; none if there is no script.
 fn script_in<E: Write>(rt: &HostRuntime, script: Option<&str>, err: &mut E) -> Result<Vec<u8>, u8> {
     match script {
         Some(name) => file_in(rt, name, err),
@@ -84,7 +83,7 @@ fn script_in<E: Write>(rt: &HostRuntime, script: Option<&str>, err: &mut E) -> R
     }
 }
 
-// Tells what is found, and answers the exit status.
+// Writes what is found, and returns the exit status.
 fn lint<W: Write, E: Write>(
     alloc: Global,
     catalog: CatalogText<'_>,

@@ -38,8 +38,8 @@ fn page_of(alloc: Global, found: &Explained<'_>, names: &str) -> Result<Vec<u8>,
     }
 }
 
-/// Writes the catalog, the trace and the names of the tasks, and a page of the run. Without memory for the page the
-/// others are written.
+/// Writes the catalog, the trace and the names of the tasks, and a page of the run. Without memory for the page, the
+/// others are still written.
 pub(crate) fn write_files(rt: &HostRuntime, folder: &str, found: &Explained<'_>) -> io::Result<()> {
     let names = found.names(rt.alloc())?;
     write_file(rt, folder, "run.catalog", found.catalog.as_bytes())?;

@@ -20,8 +20,8 @@ use std::thread::Threads;
 
 const NAME: &str = "klpsim";
 
-// Standard input is served over a catalog, the built-in one where no file is named. The answer is the exit status,
-// which is 1 too where the catalog isn't read.
+// Serves standard input over a catalog, the built-in one if no file is named. Returns the exit status, which is also 1
+// if the catalog can't be read.
 fn serve(rt: &HostRuntime, path: Option<String>) -> u8
     ensures { (result ≡ 1) ⊎ ((text : List ℕ) × (path ≡ None → text ≡ CATALOG.now) × IsServed text result) }
 {
@@ -32,9 +32,9 @@ fn serve(rt: &HostRuntime, path: Option<String>) -> u8
     }
 }
 
-// Two tasks run the steps of a file over a catalog, and standard output gets what came of it. The answer is the exit
-// status, which is 1 too where a file isn't read. It takes a handle of its own, since the runtime has threads in `main`
-// alone.
+// Lets two tasks run the steps of a file over a catalog, and writes what came of it to standard output. Returns the
+// exit status, which is also 1 if a file can't be read. It takes a handle of its own, since the runtime has threads
+// only in `main`.
 fn race<R: Threads + Wait + Sync + Files + Print + AllocGlobal, E: Write>(
     rt: &R,
     catalog: &str,
@@ -51,7 +51,7 @@ fn race<R: Threads + Wait + Sync + Files + Print + AllocGlobal, E: Write>(
     }
 }
 
-// What the words ask for, or the exit status. Words that aren't text are refused.
+// Returns what the words ask for, or the exit status. Words that aren't text are refused.
 fn wanted(rt: &HostRuntime) -> Result<Wanted, u8>
     ensures { IfErr result (λ status. (status ≡ 1) ⊎ (status ≡ 2)) }
 {

@@ -1,6 +1,6 @@
 //! The program: it boots the manager over a catalog, and judges a trace by it. Standard output has the verdict: the
-//! trace is honest and the kernel does as the rules say, or the first line at which it isn't so. Standard error has
-//! what is wrong there.
+//! trace is honest and the kernel does as the rules say, or the first line at which this fails. Standard error has what
+//! is wrong there.
 #![tactic(auto)]
 
 use klp_diagnostics::{FileText, Inputs, Kind, file_in};
