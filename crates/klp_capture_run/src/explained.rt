@@ -66,8 +66,8 @@ impl<'a> Explained<'a> {
         }
     }
 
-    /// Whether no run that was tried shows what was recorded. A log that shows no sample at all is neither explained nor
-    /// refuted.
+    /// Whether no run that was tried shows what was recorded. A log that shows no sample at all is neither explained
+    /// nor refuted.
     pub fn is_refuted(&self) -> bool
         ensures { (result ≡ false) ↔
             ((is_honest self.now.verdict ≡ true) × (self.now.failed ≡ None) × (self.now.unshown ≡ None)) }

@@ -54,8 +54,8 @@ fn holds(manager: &mut Manager, item: &Observed) -> bool
     }
 }
 
-/// Whether a manager takes the events of these lines, whatever it answers, and shows between them what they say. Calls are compared by the
-/// versions that ran. The events that it took stay.
+/// Whether a manager takes the events of these lines, whatever it answers, and shows between them what they say. Calls
+/// are compared by the versions that ran. The events that it took stay.
 pub(crate) fn fits(alloc: Global, manager: &mut Manager, text: &str) -> bool
     requires { IsWellFormed manager.old }
 {
