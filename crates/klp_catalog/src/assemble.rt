@@ -196,8 +196,7 @@ fn assemble_target(
     })
 }
 
-/// Makes a patch, with its functions resolved and numbers for its callbacks. Its name is only a snapshot, since the
-/// catalog's table has the names.
+/// Makes a patch, with its functions resolved and numbers for its callbacks.
 fn assemble_patch(
     alloc: Global,
     modules: &Modules,
@@ -223,7 +222,7 @@ fn assemble_patch(
     }
     let names_sites = all_have_sites(&functions);
     Ok(CatalogPatch {
-        name: Snapshot::of(&name),
+        name,
         replace,
         targets,
         functions,
