@@ -16,7 +16,7 @@ ghost use Rattle.klp_catalog_text.specs.Text.{with_line, finished};
 
 use crate::edit::ScriptText;
 use crate::fault::TextFaultKind;
-use crate::items::{Name, PlanFunction, SystemState};
+use crate::items::{Name, NameWord, PlanFunction, SystemState};
 use crate::line::CatalogLine;
 use crate::lines::words_of;
 use crate::plan::{Plan, PlanCallback, PlanPatch, PlanTarget};
@@ -274,13 +274,13 @@ impl Draft {
 
     /// Adds an object to the last patch, as its open target. `Err` if there is no patch or no such object, if the
     /// patch has the object already, or if it has too many.
-    fn place_target(&mut self, alloc: Global, name: &Name) -> Result<(), TextFaultKind>
+    fn place_target(&mut self, alloc: Global, name: &str) -> Result<(), TextFaultKind>
         ensures { Becomes result self.new (placed self.old (CatalogLine.Target name.now)) }
     {
         if self.patches.is_empty() {
             return Err(TextFaultKind::OutOfPlace);
         }
-        let Some(number) = object_number(&self.objects, name.0.as_str()) else {
+        let Some(number) = object_number(&self.objects, name) else {
             return Err(TextFaultKind::UnknownObject);
         };
         let object = ObjId(number as u8);
@@ -371,18 +371,26 @@ impl Draft {
 
     /// Adds what a line says, or returns a fault if the line may not be here. Each kind of line checks its own
     /// place.
-    pub(crate) fn place(&mut self, alloc: Global, line: CatalogLine) -> Result<(), TextFaultKind>
-        ensures { Becomes result self.new (placed self.old line) }
+    pub(crate) fn place(
+        &mut self,
+        alloc: Global,
+        line: CatalogLine<'_>,
+    ) -> Result<(), TextFaultKind>
+        ensures { Becomes result self.new (placed self.old line.entry) }
     {
         match line {
             CatalogLine::Handler(address) => self.place_handler(address),
             CatalogLine::Object(name) => self.place_object(alloc, name),
             CatalogLine::Symbol(symbol) => self.place_symbol(symbol),
             CatalogLine::Patch(name, replace) => self.place_patch(alloc, name, replace),
-            CatalogLine::Target(name) => self.place_target(alloc, &name),
+            CatalogLine::Target(NameWord(name)) => self.place_target(alloc, name),
             CatalogLine::Function(function) => self.place_function(function),
             CatalogLine::Callback(which, script) => self.place_callback(which, script),
-            CatalogLine::State(state) => self.place_state(state),
+            // Taken apart, since the check can't move a whole `SystemState` out of a line that lends.
+            CatalogLine::State(SystemState { id, version }) => self.place_state(SystemState {
+                id,
+                version,
+            }),
         }
     }
 

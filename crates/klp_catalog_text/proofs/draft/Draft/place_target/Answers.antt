@@ -13,7 +13,7 @@ invariant_of-self-2 c =
     let some = positive _ c.if-is_empty.ensures in
     let same = ap length c.open_targets-targets.ensures in
     let plain = ap (λ patches. length (targets_of (last_of patches))) c.deref-2.ensures.value in
-    let there = found_within c.self.inside.objects.items _ c.in-Some.number (sym (c.in-Some.ensures ∙ ap (λ objects. number_of c.as_str.result.now (names_of objects)) c.deref.ensures.value)) in
+    let there = found_within c.self.inside.objects.items _ c.in-Some.number (sym (c.in-Some.ensures ∙ ap (λ objects. number_of c.args.name.now (names_of objects)) c.deref.ensures.value)) in
     let targets = ap (λ patches. targets_of (last_of patches)) c.deref-2.ensures.value in
     let fresh = ap (list_any (λ (t : PlanTarget). t.object == c.in-Some.number)) (sym (c.open_targets-targets.ensures ∙ targets)) ∙ sym c.if-has_target.ensures in
     kept-target c.self.invariant c.in-Some.number c.push_target.new.patches.items there (omega arith) fresh (omega (arith, same, plain)) c.in_ok-push_target.ensures.ok
