@@ -101,6 +101,7 @@ fn push_functions(
     ensures { OnOk result (functions.new.items ≡ functions.old.items ++ map
         (resolved_function modules.now.names object) given.items) }
 {
+    functions.reserve(given.len())?;
     for function in given {
         functions.push(resolve(modules, object, function))?;
     }
@@ -112,7 +113,7 @@ fn push_functions(
 fn kinds_of(alloc: Global, callbacks: &[PlanCallback]) -> Result<Vec<Which>, AllocError>
     ensures { IfOk result (λ kinds. kinds.items ≡ map (λ (c : CallbackValue). c.which) callbacks.now) }
 {
-    let mut kinds = Vec::new(alloc);
+    let mut kinds = Vec::with_capacity(alloc, callbacks.len())?;
     for callback in callbacks {
         kinds.push(callback.which)?;
     }
@@ -215,7 +216,7 @@ fn assemble_patch(
         targets: given,
         states,
     } = patch;
-    let mut targets = Vec::new(alloc);
+    let mut targets = Vec::with_capacity(alloc, given.len())?;
     let mut functions = Vec::new(alloc);
     for target in given {
         targets.push(assemble_target(alloc, modules, target, numbers, &mut functions)?)?;
@@ -252,7 +253,7 @@ pub(crate) fn assemble_patches(
         end: callbacks,
     };
     let mut same_site = false;
-    let mut patches = Vec::new(alloc);
+    let mut patches = Vec::with_capacity(alloc, given.len())?;
     for patch in given {
         let assembled = assemble_patch(alloc, modules, patch, &mut numbers)?;
         // A function whose symbol isn't resolved has no site, so it has none in common with another function
