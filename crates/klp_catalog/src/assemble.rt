@@ -15,10 +15,11 @@ ghost use Rattle.klp_catalog.specs.declared.assemble.AssembleFault.TheVariants.{
 use crate::function::CatalogFunction;
 use crate::numbers::Numbers;
 use crate::patch::CatalogPatch;
-use crate::target::CatalogTarget;
+use crate::target::{CatalogTarget, Kind, Kinds};
 use klp_catalog_text::{PlanCallback, PlanFunction, PlanPatch, PlanTarget};
 use klp_modules::Modules;
-use klp_types::{ObjId, Site, Which};
+use klp_types::{ObjId, Site};
+use smallvec::SmallVec;
 use std::alloc::{AllocError, AllocFailed, Global};
 use std::snapshot::Snapshot;
 use thiserror::Error;
@@ -110,12 +111,12 @@ fn push_functions(
 
 /// Returns the kinds of the callbacks, in order. With the number of the first one they determine the number of
 /// each.
-fn kinds_of(alloc: Global, callbacks: &[PlanCallback]) -> Result<Vec<Which>, AllocError>
+fn kinds_of(alloc: Global, callbacks: &[PlanCallback]) -> Result<Kinds, AllocError>
     ensures { IfOk result (λ kinds. kinds.items ≡ map (λ (c : CallbackValue). c.which) callbacks.now) }
 {
-    let mut kinds = Vec::with_capacity(alloc, callbacks.len())?;
+    let mut kinds = SmallVec::new(alloc);
     for callback in callbacks {
-        kinds.push(callback.which)?;
+        kinds.push(Kind(callback.which))?;
     }
     Ok(kinds)
 }
