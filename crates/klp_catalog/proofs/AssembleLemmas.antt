@@ -1,6 +1,6 @@
 -- What doesn't depend on the scripts of a patch's callbacks, and what is kept of a patch.
-use Rattle.std.proofs.Common.{◌≡◌, ℕ, zero, suc, ◌+◌, ◌≤◌, false, ◌||◌, ◌==◌, List, [], ◌∷◌, ◌++◌, length, length-append, map, take, true, Bool, append_assoc, refl, sym, ap, subst, ◌∙◌, arith}
-use Rattle.std.specs.List.{AllByRecursion, list_any}
+use Rattle.std.proofs.Common.{◌≡◌, ℕ, zero, suc, ◌+◌, ◌≤◌, false, ◌||◌, List, [], ◌∷◌, ◌++◌, length, length-append, map, take, true, Bool, append_assoc, refl, sym, ap, subst, ◌∙◌, arith}
+use Rattle.std.specs.List.{AllByRecursion}
 use Rattle.std.proofs.lemmas.List.{length-map}
 use Rattle.std.proofs.lemmas.List.Sums.{sum_by-cons}
 use Rattle.klp_types.specs.declared.callback.Which.{Which}
@@ -12,7 +12,6 @@ use Rattle.klp_catalog_text.specs.Plan.{PlanTarget, PlanPatch}
 use Rattle.klp_catalog_text.specs.PlanParts.{function_count}
 use Rattle.klp_catalog_text.specs.Limits.{IsSmall, HasOneEach, AreFew, has_same, callback_number, target_number, state_number}
 use Rattle.klp_catalog_text.specs.Scripts.{scripts_of_callbacks, scripts_of_target, scripts_of_targets, scripts_of}
-use Rattle.klp_catalog_text.specs.Draft.{patch_names_of}
 use Rattle.klp_catalog.specs.Catalog.{functions_of_target, functions_of_patch, has_same_site, some_same_site}
 use Rattle.klp_catalog.specs.Assembled.{without_script, target_without_scripts, without_scripts, lent_scripts, lent_counts, IsShort, IsAssembleFault}
 use Rattle.klp_catalog.specs.declared.assemble.AssembleFault.{AssembleFault}
@@ -40,16 +39,6 @@ count_alone (target ∷ targets) =
     )
 
 -- what the patches decide without scripts is the same where these are the same
-through : {B : Type 0} (f : PlanPatch → B) → ((p : PlanPatch) → f (without_scripts p) ≡ f p) → (patches : List PlanPatch) → map f (map without_scripts patches) ≡ map f patches
-through f same [] = refl
-through f same (patch ∷ patches) = λ i. same patch i ∷ through f same patches i
-
-alike : {B : Type 0} (f : PlanPatch → B) → ((p : PlanPatch) → f (without_scripts p) ≡ f p) → (ps qs : List PlanPatch) → map without_scripts ps ≡ map without_scripts qs → map f ps ≡ map f qs
-alike f same ps qs e = sym (through f same ps) ∙ ap (map f) e ∙ through f same qs
-
-same_names : (ps qs : List PlanPatch) → map without_scripts ps ≡ map without_scripts qs → patch_names_of ps ≡ patch_names_of qs
-same_names ps qs e = alike (λ (p : PlanPatch). p.name) (λ p. refl) ps qs e
-
 site_alone : (names : List ObjectNames) (patches : List PlanPatch) → some_same_site names (map without_scripts patches) ≡ some_same_site names patches
 site_alone names [] = refl
 site_alone names (patch ∷ patches) = λ i. has_same_site (functions_alone names patch.targets i) || site_alone names patches i
@@ -258,17 +247,16 @@ counted_each names callbacks patches same =
     )
 
 -- what is kept of a plan's patches, with callbacks that came in
-pub stored_for : (names : List ObjectNames) (symbols : List ℕ) (patch_names : List (List ℕ)) (stored : List StoredPatch) (callbacks : List LentCallback) (patches : List PlanPatch)
-    → symbols ≡ take 256 (map symbol_count names) → patch_names ≡ patch_names_of patches → stored ≡ stored_patches names 0 patches
+pub stored_for : (names : List ObjectNames) (symbols : List ℕ) (stored : List StoredPatch) (callbacks : List LentCallback) (patches : List PlanPatch)
+    → symbols ≡ take 256 (map symbol_count names) → stored ≡ stored_patches names 0 patches
     → length (scripts_of patches) ≡ length callbacks → AreFew patches → some_same_site names patches ≡ false
-    → IsStored names symbols patch_names stored (lent_scripts callbacks) (lent_counts callbacks)
-stored_for names symbols patch_names stored callbacks patches sizes by_name kept number few apart =
+    → IsStored names symbols stored (lent_scripts callbacks) (lent_counts callbacks)
+stored_for names symbols stored callbacks patches sizes kept number few apart =
     let scripts = lent_scripts callbacks in
     let again : map without_scripts (patches_in scripts stored) ≡ map without_scripts patches =
     ap (λ s. map without_scripts (patches_in scripts s)) kept ∙ patches_again names scripts 0 patches in
     record {
       sizes = sizes;
-      by_name = by_name ∙ sym (same_names (patches_in scripts stored) patches again);
       kept = kept ∙ sym (same_stored names 0 (patches_in scripts stored) patches again);
       few = few_same (patches_in scripts stored) patches again few;
       apart = same_sites names (patches_in scripts stored) patches again ∙ apart;

@@ -12,6 +12,7 @@ use Rattle.klp_types.specs.Setting.{all_functions, patch_objects, patch_states, 
 use Rattle.klp_modules.specs.Names.{ObjectNames, first_site, symbol_names, sites_where, picked}
 use Rattle.klp_modules.specs.declared.fault.SymbolFault.TheVariants.{NoPosition}
 use Rattle.klp_catalog_text.specs.Plan.{PlanFunction, PlanTarget, PlanPatch}
+use Rattle.klp_catalog_text.specs.Draft.{patch_names_of}
 use Rattle.klp_catalog_text.specs.PlanParts.{function_count}
 use Rattle.klp_catalog.specs.Catalog.{Catalog, site_of, resolved_function, functions_of_target, functions_of_patch, targets_of_patch, setting_function, patch_object, setting_patch, has_same_site, some_same_site}
 use Rattle.klp_catalog.specs.States as states
@@ -117,6 +118,11 @@ pub objects_in_patch : (names : List ObjectNames) (found : Option PlanPatch) →
 objects_in_patch names None = refl
 objects_in_patch names (Some patch) = refl
 
+-- the names of patches are kept
+pub stored_names : (scripts : List Script) (stored : List StoredPatch) → map (λ (p : StoredPatch). p.name) stored ≡ patch_names_of (patches_in scripts stored)
+stored_names scripts [] = refl
+stored_names scripts (patch ∷ stored) = ap (patch.name ∷◌) (stored_names scripts stored)
+
 -- what contracts see of what is kept
 abbrev pub catalog_of : List ObjectNames → List StoredPatch → List Script → List ℕ → Catalog
 catalog_of names stored scripts counts = record { names = names; patches = patches_in scripts stored; runs = counts }
@@ -156,8 +162,8 @@ kept_functions names n [] p = refl
 kept_functions names n (patch ∷ patches) zero = refl
 kept_functions names n (patch ∷ patches) (suc p) = kept_functions names (n + patch_size patch) patches p
 
-module _ {names : List ObjectNames} {symbols : List ℕ} {patch_names : List (List ℕ)} (stored : List StoredPatch) (scripts : List Script) {counts : List ℕ}
-    (kept : IsStored names symbols patch_names stored scripts counts) where
+module _ {names : List ObjectNames} {symbols : List ℕ} (stored : List StoredPatch) (scripts : List Script) {counts : List ℕ}
+    (kept : IsStored names symbols stored scripts counts) where
   pub functions_are : (p : ℕ) → stored_functions (slice_get stored p) ≡ functions_of_patch names (targets_of_patch (slice_get (patches_in scripts stored) p))
   functions_are p = ap (λ s. stored_functions (slice_get s p)) kept.kept ∙ kept_functions names 0 (patches_in scripts stored) p
 
@@ -179,8 +185,8 @@ few_states_at scripts [] p small = omega arith
 few_states_at scripts (patch ∷ stored) zero small = small.0.few_states
 few_states_at scripts (patch ∷ stored) (suc p) small = few_states_at scripts stored p small.1
 
-module _ {names : List ObjectNames} {symbols : List ℕ} {patch_names : List (List ℕ)} (stored : List StoredPatch) (scripts : List Script) {counts : List ℕ} (p : ℕ)
-    (kept : IsStored names symbols patch_names stored scripts counts) where
+module _ {names : List ObjectNames} {symbols : List ℕ} (stored : List StoredPatch) (scripts : List Script) {counts : List ℕ} (p : ℕ)
+    (kept : IsStored names symbols stored scripts counts) where
   pub few_targets : length (targets_at (slice_get stored p)) ≤ 8
   few_targets = few_targets_at scripts stored p kept.few.each_within
 

@@ -43,8 +43,8 @@ in_order names scripts (target ∷ targets) =
     map-append (λ (f : CatalogFunction). f.object) (map (resolved_function names target.object) target.functions) (functions_of_patch names (map (target_in scripts) targets))
     ∙ (λ i. each_object names target.object target.functions i ++ in_order names scripts targets i)
 
-module _ {names : List ObjectNames} {symbols : List ℕ} {patch_names : List (List ℕ)} (stored : List StoredPatch) (scripts : List Script) {counts : List ℕ} (catalog : Catalog)
-    (view : catalog_of names stored scripts counts ≡ catalog) (kept : IsStored names symbols patch_names stored scripts counts) (p : ℕ) where
+module _ {names : List ObjectNames} {symbols : List ℕ} (stored : List StoredPatch) (scripts : List Script) {counts : List ℕ} (catalog : Catalog)
+    (view : catalog_of names stored scripts counts ≡ catalog) (kept : IsStored names symbols stored scripts counts) (p : ℕ) where
   pub absent : length stored ≤ p → IsAbsent catalog p
   absent past =
       let none = slice_get_past stored p past in

@@ -123,9 +123,9 @@ few_allocs (edit ∷ edits) = by (is_alloc edit) (few_allocs edits)
     by false few = omega arith
 
 -- in a catalog that is kept so, by the number that is kept of a callback
-module _ {names : List ObjectNames} {symbols : List ℕ} {patch_names : List (List ℕ)} (stored : List StoredPatch) (callbacks : List LentCallback) (catalog : Catalog)
+module _ {names : List ObjectNames} {symbols : List ℕ} (stored : List StoredPatch) (callbacks : List LentCallback) (catalog : Catalog)
     (view : ◌≡◌ {A = Catalog} (record { names = names; patches = patches_in (lent_scripts callbacks) stored; runs = lent_counts callbacks }) catalog)
-    (kept : IsStored names symbols patch_names stored (lent_scripts callbacks) (lent_counts callbacks)) (p o : ℕ) (which : Which) where
+    (kept : IsStored names symbols stored (lent_scripts callbacks) (lent_counts callbacks)) (p o : ℕ) (which : Which) where
   only : IsOnly (is_callback p o which) 0 (callback_ids (patches_in (lent_scripts callbacks) stored)) (number_of stored p o which)
   only =
       subst (λ s. IsOnly (is_callback p o which) 0 (callback_ids (patches_in (lent_scripts callbacks) stored)) (number_of s p o which)) (sym kept.kept)
@@ -196,12 +196,11 @@ module _ {names : List ObjectNames} {symbols : List ℕ} {patch_names : List (Li
             ∙ ap (λ c. after_runs c (record { patch = p; place = o; which = which; script = item.script } ∷ [])) view
             ∙ sym (ap (λ script. after_runs catalog (call_of p o which script)) the_script)
 
-        pub kept_so : IsStored names symbols patch_names stored (lent_scripts (set callbacks n new)) (lent_counts (set callbacks n new))
+        pub kept_so : IsStored names symbols stored (lent_scripts (set callbacks n new)) (lent_counts (set callbacks n new))
         kept_so =
-            subst (λ scripts. IsStored names symbols patch_names stored scripts (lent_counts (set callbacks n new))) (sym scripts_stay)
+            subst (λ scripts. IsStored names symbols stored scripts (lent_counts (set callbacks n new))) (sym scripts_stay)
             (record {
               sizes = kept.sizes;
-              by_name = kept.by_name;
               kept = kept.kept;
               few = kept.few;
               apart = kept.apart;

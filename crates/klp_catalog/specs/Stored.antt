@@ -8,7 +8,6 @@ use Rattle.klp_types.specs.Compatible.{SystemState, version_among}
 use Rattle.klp_modules.specs.Names.{ObjectNames}
 use Rattle.klp_catalog_text.specs.Plan.{PlanFunction, PlanTarget, PlanPatch}
 use Rattle.klp_catalog_text.specs.Scripts.{scripts_of_targets}
-use Rattle.klp_catalog_text.specs.Draft.{patch_names_of}
 use Rattle.klp_catalog.specs.Catalog.{CatalogFunction, functions_of_patch, some_same_site}
 use Rattle.klp_catalog.specs.Limits.{AreWithin}
 use Rattle.klp_catalog.specs.Runs.{HasCounts}
@@ -128,10 +127,9 @@ symbol_count object = length object.symbols
 
 -- what is stored agrees with the names of the objects, which only contracts know, and with these scripts and counts
 -- of callbacks
-pub record IsStored (names : List ObjectNames) (symbols : List ℕ) (patch_names : List (List ℕ)) (stored : List StoredPatch) (scripts : List Script) (counts : List ℕ) : Type 0 where
+pub record IsStored (names : List ObjectNames) (symbols : List ℕ) (stored : List StoredPatch) (scripts : List Script) (counts : List ℕ) : Type 0 where
   -- only as many objects as an `ObjId` can name
   pub sizes : symbols ≡ take 256 (map symbol_count names)
-  pub by_name : patch_names ≡ patch_names_of (patches_in scripts stored)
   pub kept : stored ≡ stored_patches names 0 (patches_in scripts stored)
   pub few : AreWithin (patches_in scripts stored)
   pub apart : some_same_site names (patches_in scripts stored) ≡ false

@@ -15,10 +15,11 @@ ghost use Rattle.klp_catalog.specs.declared.assemble.AssembleFault.TheVariants.{
 use crate::function::CatalogFunction;
 use crate::numbers::Numbers;
 use crate::patch::CatalogPatch;
-use crate::target::CatalogTarget;
+use crate::target::{CatalogTarget, Kind, Kinds};
 use klp_catalog_text::{PlanCallback, PlanFunction, PlanPatch, PlanTarget};
 use klp_modules::Modules;
-use klp_types::{ObjId, Site, Which};
+use klp_types::{ObjId, Site};
+use smallvec::SmallVec;
 use std::alloc::{AllocError, AllocFailed, Global};
 use std::snapshot::Snapshot;
 use thiserror::Error;
@@ -101,6 +102,7 @@ fn push_functions(
     ensures { OnOk result (functions.new.items ≡ functions.old.items ++ map
         (resolved_function modules.now.names object) given.items) }
 {
+    functions.reserve(given.len())?;
     for function in given {
         functions.push(resolve(modules, object, function))?;
     }
@@ -109,12 +111,12 @@ fn push_functions(
 
 /// Returns the kinds of the callbacks, in order. With the number of the first one they determine the number of
 /// each.
-fn kinds_of(alloc: Global, callbacks: &[PlanCallback]) -> Result<Vec<Which>, AllocError>
+fn kinds_of(alloc: Global, callbacks: &[PlanCallback]) -> Result<Kinds, AllocError>
     ensures { IfOk result (λ kinds. kinds.items ≡ map (λ (c : CallbackValue). c.which) callbacks.now) }
 {
-    let mut kinds = Vec::new(alloc);
+    let mut kinds = SmallVec::new(alloc);
     for callback in callbacks {
-        kinds.push(callback.which)?;
+        kinds.push(Kind(callback.which))?;
     }
     Ok(kinds)
 }
@@ -196,8 +198,7 @@ fn assemble_target(
     })
 }
 
-/// Makes a patch, with its functions resolved and numbers for its callbacks. Its name is only a snapshot, since the
-/// catalog's table has the names.
+/// Makes a patch, with its functions resolved and numbers for its callbacks.
 fn assemble_patch(
     alloc: Global,
     modules: &Modules,
@@ -216,14 +217,14 @@ fn assemble_patch(
         targets: given,
         states,
     } = patch;
-    let mut targets = Vec::new(alloc);
+    let mut targets = Vec::with_capacity(alloc, given.len())?;
     let mut functions = Vec::new(alloc);
     for target in given {
         targets.push(assemble_target(alloc, modules, target, numbers, &mut functions)?)?;
     }
     let names_sites = all_have_sites(&functions);
     Ok(CatalogPatch {
-        name: Snapshot::of(&name),
+        name,
         replace,
         targets,
         functions,
@@ -253,7 +254,7 @@ pub(crate) fn assemble_patches(
         end: callbacks,
     };
     let mut same_site = false;
-    let mut patches = Vec::new(alloc);
+    let mut patches = Vec::with_capacity(alloc, given.len())?;
     for patch in given {
         let assembled = assemble_patch(alloc, modules, patch, &mut numbers)?;
         // A function whose symbol isn't resolved has no site, so it has none in common with another function

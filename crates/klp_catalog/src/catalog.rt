@@ -36,7 +36,6 @@ use klp_modules::Modules;
 use klp_types::{
     MAX_EDITS, MAX_FUNCTIONS, MAX_PATCHES, MAX_STATES, MAX_TARGETS, ObjId, PatchId, Site, Which,
 };
-use klp_words::Names;
 use klp_world::World;
 use std::alloc::Global;
 use std::marker::Model;
@@ -54,7 +53,6 @@ pub struct Catalog {
     over: Snapshot<Modules>,
     /// By object, how many symbols it has. Boot compares these counts with the image.
     symbols: Vec<u16>,
-    names: Names,
     patches: Vec<CatalogPatch>,
     /// The callbacks of all patches, in the order of the text. This is the caller's list, as it was handed in.
     callbacks: Vec<Boxed>,
@@ -73,7 +71,7 @@ impl Model for Catalog {
       runs = lent_counts c.callbacks.items;
     } };
 
-    ghost invariant = { λ c. IsStored c.over.value.names c.symbols.items c.names c.patches.items
+    ghost invariant = { λ c. IsStored c.over.value.names c.symbols.items c.patches.items
         (lent_scripts c.callbacks.items) (lent_counts c.callbacks.items) };
 }
 
@@ -123,12 +121,10 @@ impl Catalog {
     {
         let symbols = symbol_counts(alloc, modules)?;
         let over = Snapshot::of(modules);
-        let (given, names) = plan.into_patches();
-        let patches = assemble_patches(alloc, modules, given, callbacks.len())?;
+        let patches = assemble_patches(alloc, modules, plan.into_patches(), callbacks.len())?;
         Ok(Catalog {
             over,
             symbols,
-            names,
             patches,
             callbacks,
         })
@@ -199,12 +195,12 @@ impl Catalog {
         count_at(&self.symbols, number)
     }
 
-    /// Returns the number of the patch with this name. `None` if there is no such patch. It takes one look-up by
-    /// hash.
+    /// Returns the number of the patch with this name. `None` if there is no such patch. It compares the name with
+    /// those of the patches, at most [`MAX_PATCHES`](klp_types::MAX_PATCHES).
     pub fn patch(&self, name: &str) -> Option<PatchId>
         ensures { result ≡ position (bytes_eq name.now) (patch_names_of self.now.patches) }
     {
-        let number = self.names.number(name)?;
+        let number = patch::with_name(&self.patches, name)?;
         Some(PatchId(number as u8))
     }
 
@@ -212,7 +208,8 @@ impl Catalog {
     pub fn patch_name(&self, patch: PatchId) -> Option<&str>
         ensures { option_map (λ name. name.now) result ≡ slice_get (patch_names_of self.now.patches) patch }
     {
-        self.names.name(usize::from(patch.0))
+        let found = self.patches.get(usize::from(patch.0))?;
+        Some(found.name.as_str())
     }
 
     /// Returns whether a patch is cumulative, so that it replaces all older ones (cumulative-patches). `None` if

@@ -1,10 +1,10 @@
-ghost use Rattle.std.specs.Prelude.{◌≡◌, ◌≤◌, ◌==◌, length, map, position, is_some};
+ghost use Rattle.std.specs.Prelude.{◌≡◌, ◌≤◌, ◌==◌, length, map, position, is_some, bytes_eq};
 ghost use Rattle.std.specs.List.{list_all};
 ghost use Rattle.klp_types.specs.Compatible as compatible;
 ghost use Rattle.klp_types.specs.Compatible.{SystemState as StateValue};
 ghost use Rattle.klp_catalog.specs.Catalog.{CatalogFunction as FunctionValue};
 ghost use Rattle.klp_catalog.specs.Stored as stored;
-ghost use Rattle.klp_catalog.specs.Stored.{StoredTarget, states_at};
+ghost use Rattle.klp_catalog.specs.Stored.{StoredTarget, StoredPatch, states_at};
 ghost use Rattle.klp_catalog.specs.States.{installed_before};
 
 use crate::function::CatalogFunction;
@@ -13,13 +13,11 @@ use arrayvec::ArrayVec;
 use klp_catalog_text::SystemState;
 use klp_types::{MAX_STATES, ObjId, PatchId, Which};
 use std::marker::Model;
-use std::snapshot::Snapshot;
 
 /// A patch of a catalog (the kernel's `struct klp_patch`). Its callbacks are numbers in the catalog's list.
 #[derive(Drop)]
 pub struct CatalogPatch {
-    /// The name, for contracts only; the catalog has the names of its patches in a table.
-    pub(crate) name: Snapshot<String>,
+    pub(crate) name: String,
     pub(crate) replace: bool,
     /// The objects that the patch changes, in the order of the text.
     pub(crate) targets: Vec<CatalogTarget>,
@@ -39,7 +37,7 @@ impl Model for CatalogPatch {
     ghost Value = { StoredPatch };
 
     ghost view = { λ p. record {
-      name = string_bytes p.name.value;
+      name = string_bytes p.name;
       replace = p.replace;
       targets = p.targets.items;
       functions = p.functions.items;
@@ -104,6 +102,14 @@ impl CatalogPatch {
     }
 }
 
+/// Returns the number of the patch with this name. `None` if there is none. There are few patches, so the name is
+/// compared with each (docs/DECISIONS.md, "Names by comparison").
+pub(crate) fn with_name(patches: &[CatalogPatch], name: &str) -> Option<usize>
+    ensures { result ≡ position (bytes_eq name.now) (map (λ (p : StoredPatch). p.name) patches.now) }
+{
+    patches.iter().position(|patch| name == patch.name.as_str())
+}
+
 /// Returns the number of the callback of this kind that the patch has for the object at this index. The number
 /// counts all callbacks of the catalog. `None` if the patch has no such callback.
 pub(crate) fn number_of(
@@ -116,7 +122,7 @@ pub(crate) fn number_of(
 {
     let patch = patches.get(usize::from(patch.0))?;
     let target = patch.targets.get(place)?;
-    let place = target.kinds.iter().position(|own| is_kind(*own, which))?;
+    let place = target.kinds.iter().position(|own| is_kind(own.0, which))?;
     Some(target.first + place)
 }
 

@@ -6,12 +6,11 @@ use Rattle.klp_catalog_text.specs.Plan.{PlanFunction, PlanTarget, PlanPatch}
 use Rattle.klp_types.specs.Setting.{Callback as PlanCallback}
 use Rattle.klp_catalog_text.specs.PlanParts.{last_of, on_last, targets_of, states_of, callbacks_of, has_which, names_state, function_count, with_symbol, with_target, with_function, with_function_in, with_callback, with_callback_in, with_state}
 use Rattle.klp_catalog_text.specs.Kept.{IsKept}
-use Rattle.klp_catalog_text.proofs.ListLemmas.{map-push}
-use Rattle.klp_catalog_text.specs.Draft.{names_of, patch_names_of}
+use Rattle.klp_catalog_text.specs.Draft.{names_of, number_of}
 use Rattle.klp_catalog_text.specs.Limits.{HasFewEdits, HasOneEach, IsSmall, has_same, target_number, state_number}
 use Rattle.klp_catalog_text.proofs.LimitLemmas.{all-push, one_each-push, distinct-push}
 use Rattle.klp_types.specs.Compatible.{SystemState}
-use Rattle.std.specs.Prelude.{◌||◌, position, bytes_eq}
+use Rattle.std.specs.Prelude.{◌||◌, bytes_eq}
 use Rattle.std.specs.List.{All, AllByRecursion, list_any}
 use Rattle.std.specs.Bool.{◌==◌}
 use Rattle.std.proofs.lemmas.List.{length-map}
@@ -42,33 +41,6 @@ pub symbols_of-push : (objects : List Object) (name : List ℕ) → length (symb
 symbols_of-push [] name = refl
 symbols_of-push (object ∷ objects) name =
     omega (arith, length-append object.symbols (symbols_of (objects ++ record { name = name; symbols = [] } ∷ [])), length-append object.symbols (symbols_of objects), symbols_of-push objects name)
-
--- names stay
-pub names_of-on_last : (symbol : Symbol) (objects : List Object) → names_of (on_last (with_symbol symbol) objects) ≡ names_of objects
-names_of-on_last symbol [] = refl
-names_of-on_last symbol (object ∷ []) = refl
-names_of-on_last symbol (object ∷ other ∷ objects) = ap (λ ns. object.name ∷ ns) (names_of-on_last symbol (other ∷ objects))
-
-pub patch_names-with_target : (object : Option ℕ) (patches : List PlanPatch) → patch_names_of (on_last (with_target object) patches) ≡ patch_names_of patches
-patch_names-with_target object [] = refl
-patch_names-with_target None (patch ∷ []) = refl
-patch_names-with_target (Some object) (patch ∷ []) = refl
-patch_names-with_target object (patch ∷ other ∷ patches) = ap (λ ns. patch.name ∷ ns) (patch_names-with_target object (other ∷ patches))
-
-pub patch_names-with_function : (function : PlanFunction) (patches : List PlanPatch) → patch_names_of (on_last (with_function_in function) patches) ≡ patch_names_of patches
-patch_names-with_function function [] = refl
-patch_names-with_function function (patch ∷ []) = refl
-patch_names-with_function function (patch ∷ other ∷ patches) = ap (λ ns. patch.name ∷ ns) (patch_names-with_function function (other ∷ patches))
-
-pub patch_names-with_callback : (callback : PlanCallback) (patches : List PlanPatch) → patch_names_of (on_last (with_callback_in callback) patches) ≡ patch_names_of patches
-patch_names-with_callback callback [] = refl
-patch_names-with_callback callback (patch ∷ []) = refl
-patch_names-with_callback callback (patch ∷ other ∷ patches) = ap (λ ns. patch.name ∷ ns) (patch_names-with_callback callback (other ∷ patches))
-
-pub patch_names-with_state : (state : SystemState) (patches : List PlanPatch) → patch_names_of (on_last (with_state state) patches) ≡ patch_names_of patches
-patch_names-with_state state [] = refl
-patch_names-with_state state (patch ∷ []) = refl
-patch_names-with_state state (patch ∷ other ∷ patches) = ap (λ ns. patch.name ∷ ns) (patch_names-with_state state (other ∷ patches))
 
 pub length-on_last : {A : Type 0} (change : A → A) (xs : List A) → length (on_last change xs) ≡ length xs
 length-on_last change [] = refl
@@ -264,19 +236,16 @@ more_objects patches objects more h within =
     (λ patch ts. All-weaker (IsTargetWithin objects) (IsTargetWithin more) (λ target there. omega arith) patch.targets ts) patches within
 
 -- an object that is found by its name is there
-pub found_within : (objects : List Object) (names : List (List ℕ)) (name : List ℕ) (number : ℕ) → names ≡ names_of objects
-    → position (bytes_eq name) names ≡ Some number → number < length objects
-found_within objects names name number is found =
-    let at = position-Some (bytes_eq name) names number [] found in
-    omega (arith, at.0, ap length is, length-map objects (λ (o : Object). o.name))
+pub found_within : (objects : List Object) (name : List ℕ) (number : ℕ) → number_of name (names_of objects) ≡ Some number → number < length objects
+found_within objects name number found =
+    let at = position-Some (bytes_eq name) (names_of objects) number [] found in
+    omega (arith, at.0, length-map objects (λ (o : Object). o.name))
 
 -- what a draft keeps, behind each kind of line
-module _ {objects : List Object} {object_names : List (List ℕ)} {symbols : ℕ} {patches : List PlanPatch} {patch_names : List (List ℕ)} {functions : ℕ}
-    (kept : IsKept objects object_names symbols patches patch_names functions) where
-  pub kept-symbol : (symbol : Symbol) (next : List Object) → 0 < length objects → next ≡ on_last (with_symbol symbol) objects → IsKept next object_names (symbols + 1) patches patch_names functions
+module _ {objects : List Object} {symbols : ℕ} {patches : List PlanPatch} {functions : ℕ}
+    (kept : IsKept objects symbols patches functions) where
+  pub kept-symbol : (symbol : Symbol) (next : List Object) → 0 < length objects → next ≡ on_last (with_symbol symbol) objects → IsKept next (symbols + 1) patches functions
   kept-symbol symbol next some e = record {
-    objects_by_name = kept.objects_by_name ∙ sym (ap names_of e ∙ names_of-on_last symbol objects);
-    patches_by_name = kept.patches_by_name;
     symbol_count = omega (arith, kept.symbol_count, ap (λ o. length (symbols_of o)) e, length-symbols_of-on_last symbol objects some);
     count_of_functions = kept.count_of_functions;
     few_objects = omega (arith, kept.few_objects, ap length e, length-on_last (with_symbol symbol) objects);
@@ -284,11 +253,9 @@ module _ {objects : List Object} {object_names : List (List ℕ)} {symbols : ℕ
     targets_within = subst (λ n. AreTargetsWithin n patches) (sym (ap length e ∙ length-on_last (with_symbol symbol) objects)) kept.targets_within;
   }
 
-  pub kept-object : (name : List ℕ) (next : List Object) (names : List (List ℕ)) → length objects < 17 → next ≡ objects ++ record { name = name; symbols = [] } ∷ []
-      → names ≡ object_names ++ name ∷ [] → IsKept next names symbols patches patch_names functions
-  kept-object name next names few e n = record {
-    objects_by_name = n ∙ ap (λ ns. ns ++ name ∷ []) kept.objects_by_name ∙ sym (ap names_of e ∙ map-push (λ (o : Object). o.name) objects (record { name = name; symbols = [] }));
-    patches_by_name = kept.patches_by_name;
+  pub kept-object : (name : List ℕ) (next : List Object) → length objects < 17 → next ≡ objects ++ record { name = name; symbols = [] } ∷ []
+      → IsKept next symbols patches functions
+  kept-object name next few e = record {
     symbol_count = kept.symbol_count ∙ sym (ap (λ o. length (symbols_of o)) e ∙ symbols_of-push objects name);
     count_of_functions = kept.count_of_functions;
     few_objects = omega (arith, ap length e, length-append objects (record { name = name; symbols = [] } ∷ []));
@@ -296,12 +263,9 @@ module _ {objects : List Object} {object_names : List (List ℕ)} {symbols : ℕ
     targets_within = more_objects patches (length objects) (length next) (omega (arith, ap length e, length-append objects (record { name = name; symbols = [] } ∷ []))) kept.targets_within;
   }
 
-  pub kept-patch : (name : List ℕ) (replace : Bool) (next : List PlanPatch) (names : List (List ℕ)) → length patches < 16 → next ≡ patches ++ record { name = name; replace = replace; targets = []; states = [] } ∷ []
-      → names ≡ patch_names ++ name ∷ [] → IsKept objects object_names symbols next names 0
-  kept-patch name replace next names room e n = record {
-    objects_by_name = kept.objects_by_name;
-    patches_by_name = n ∙ ap (λ ns. ns ++ name ∷ []) kept.patches_by_name
-        ∙ sym (ap patch_names_of e ∙ map-push (λ (p : PlanPatch). p.name) patches (record { name = name; replace = replace; targets = []; states = [] }));
+  pub kept-patch : (name : List ℕ) (replace : Bool) (next : List PlanPatch) → length patches < 16 → next ≡ patches ++ record { name = name; replace = replace; targets = []; states = [] } ∷ []
+      → IsKept objects symbols next 0
+  kept-patch name replace next room e = record {
     symbol_count = kept.symbol_count;
     count_of_functions = sym (ap (λ p. function_count (targets_of (last_of p))) e ∙ ap (λ p. function_count (targets_of p)) (last_of-push patches (record { name = name; replace = replace; targets = []; states = [] })));
     few_objects = kept.few_objects;
@@ -312,10 +276,8 @@ module _ {objects : List Object} {object_names : List (List ℕ)} {symbols : ℕ
     targets_within = subst (AreTargetsWithin (length objects)) (sym e) (All-push (TargetsWithin (length objects)) patches _ kept.targets_within (All-nil (IsTargetWithin (length objects))));
   }
 
-  pub kept-target : (object : ℕ) (next : List PlanPatch) → object < length objects → 0 < length patches → list_any (λ (t : PlanTarget). t.object == object) (targets_of (last_of patches)) ≡ false → length (targets_of (last_of patches)) < 8 → next ≡ on_last (with_target (Some object)) patches → IsKept objects object_names symbols next patch_names functions
+  pub kept-target : (object : ℕ) (next : List PlanPatch) → object < length objects → 0 < length patches → list_any (λ (t : PlanTarget). t.object == object) (targets_of (last_of patches)) ≡ false → length (targets_of (last_of patches)) < 8 → next ≡ on_last (with_target (Some object)) patches → IsKept objects symbols next functions
   kept-target object next there some fresh room e = record {
-    objects_by_name = kept.objects_by_name;
-    patches_by_name = kept.patches_by_name ∙ sym (ap patch_names_of e ∙ patch_names-with_target (Some object) patches);
     symbol_count = kept.symbol_count;
     count_of_functions = kept.count_of_functions ∙ sym (ap (λ p. function_count (targets_of (last_of p))) e ∙ function_count-with_target object patches some);
     few_objects = kept.few_objects;
@@ -331,10 +293,8 @@ module _ {objects : List Object} {object_names : List (List ℕ)} {symbols : ℕ
   }
 
   pub kept-function : (function : PlanFunction) (next : List PlanPatch) → 0 < length (targets_of (last_of patches)) → functions < 64 → next ≡ on_last (with_function_in function) patches
-      → IsKept objects object_names symbols next patch_names (functions + 1)
+      → IsKept objects symbols next (functions + 1)
   kept-function function next some room e = record {
-    objects_by_name = kept.objects_by_name;
-    patches_by_name = kept.patches_by_name ∙ sym (ap patch_names_of e ∙ patch_names-with_function function patches);
     symbol_count = kept.symbol_count;
     count_of_functions = ap (λ n. n + 1) kept.count_of_functions ∙ sym (ap (λ p. function_count (targets_of (last_of p))) e ∙ function_count-with_function function patches some);
     few_objects = kept.few_objects;
@@ -351,10 +311,8 @@ module _ {objects : List Object} {object_names : List (List ℕ)} {symbols : ℕ
   }
 
   pub kept-callback : (callback : PlanCallback) (next : List PlanPatch) → HasFewEdits callback → has_which callback.which (callbacks_of (last_of (targets_of (last_of patches)))) ≡ false
-      → next ≡ on_last (with_callback_in callback) patches → IsKept objects object_names symbols next patch_names functions
+      → next ≡ on_last (with_callback_in callback) patches → IsKept objects symbols next functions
   kept-callback callback next few new e = record {
-    objects_by_name = kept.objects_by_name;
-    patches_by_name = kept.patches_by_name ∙ sym (ap patch_names_of e ∙ patch_names-with_callback callback patches);
     symbol_count = kept.symbol_count;
     count_of_functions = kept.count_of_functions ∙ sym (ap (λ p. function_count (targets_of (last_of p))) e ∙ function_count-with_callback callback patches);
     few_objects = kept.few_objects;
@@ -370,10 +328,8 @@ module _ {objects : List Object} {object_names : List (List ℕ)} {symbols : ℕ
   }
 
   pub kept-state : (state : SystemState) (next : List PlanPatch) → names_state state.id (states_of (last_of patches)) ≡ false → length (states_of (last_of patches)) < 16
-      → next ≡ on_last (with_state state) patches → IsKept objects object_names symbols next patch_names functions
+      → next ≡ on_last (with_state state) patches → IsKept objects symbols next functions
   kept-state state next new room e = record {
-    objects_by_name = kept.objects_by_name;
-    patches_by_name = kept.patches_by_name ∙ sym (ap patch_names_of e ∙ patch_names-with_state state patches);
     symbol_count = kept.symbol_count;
     count_of_functions = kept.count_of_functions ∙ sym (ap (λ p. function_count (targets_of (last_of p))) e ∙ function_count-with_state state patches);
     few_objects = kept.few_objects;

@@ -11,12 +11,12 @@ ghost use Rattle.klp_catalog_text.specs.PlanParts.{names_state, on_last, has_som
 ghost use Rattle.klp_catalog_text.specs.PlanParts.{with_function_in, with_callback_in, with_state};
 ghost use Rattle.klp_catalog_text.specs.Plan.{PlanTarget as TargetValue};
 ghost use Rattle.klp_catalog_text.specs.Within.{AreTargetsWithin};
-ghost use Rattle.klp_catalog_text.specs.Draft.{empty_draft, open_object, placed};
+ghost use Rattle.klp_catalog_text.specs.Draft.{empty_draft, open_object, placed, names_of, patch_names_of, number_of};
 ghost use Rattle.klp_catalog_text.specs.Text.{with_line, finished};
 
 use crate::edit::ScriptText;
 use crate::fault::TextFaultKind;
-use crate::items::{Name, PlanFunction, SystemState};
+use crate::items::{Name, NameWord, PlanFunction, SystemState};
 use crate::line::CatalogLine;
 use crate::lines::words_of;
 use crate::plan::{Plan, PlanCallback, PlanPatch, PlanTarget};
@@ -24,7 +24,6 @@ use klp_types::{
     MAX_BODY, MAX_FUNCTIONS, MAX_OBJECTS, MAX_PATCHES, MAX_SITES, MAX_STATES, MAX_TARGETS, ObjId,
     ObjectText, SymbolText, Which,
 };
-use klp_words::Names;
 use std::alloc::{AllocError, Global};
 use std::marker::Model;
 
@@ -36,11 +35,9 @@ use std::marker::Model;
 pub(crate) struct Draft {
     handler: Option<u64>,
     objects: Vec<ObjectText>,
-    object_names: Names,
     /// How many symbols the objects have together, since one limit holds for all of them.
     symbols: usize,
     patches: Vec<PlanPatch>,
-    patch_names: Names,
     /// How many functions the last patch has, over all of its targets, since one limit holds for all of them.
     functions: usize,
 }
@@ -54,8 +51,7 @@ impl Model for Draft {
 
     ghost view = { λ d. record { handler = d.handler; objects = d.objects.items; patches = d.patches.items } };
 
-    ghost invariant = { λ d. IsKept d.objects.items d.object_names d.symbols d.patches.items d.patch_names
-        d.functions };
+    ghost invariant = { λ d. IsKept d.objects.items d.symbols d.patches.items d.functions };
 }
 
 /// Adds a symbol to the last object, the one that the last `object` line added.
@@ -108,6 +104,23 @@ fn push_state(patches: &mut Vec<PlanPatch>, state: SystemState) -> Result<(), Al
 {
     let last = patches.len() - 1;
     patches[last].push_state(state)
+}
+
+/// Returns the index of the object with this name. `None` if there is none. There are few objects, so the name is
+/// compared with each (docs/DECISIONS.md, "Names by comparison").
+fn object_number(objects: &[ObjectText], name: &str) -> Option<usize>
+    ensures { result ≡ number_of name.now (names_of objects.now) }
+{
+    objects
+        .iter()
+        .position(|object| name == object.name.as_str())
+}
+
+/// Returns the index of the patch with this name. `None` if there is none.
+fn patch_number(patches: &[PlanPatch], name: &str) -> Option<usize>
+    ensures { result ≡ number_of name.now (patch_names_of patches.now) }
+{
+    patches.iter().position(|patch| name == patch.name.as_str())
 }
 
 /// Whether one of the targets is this object.
@@ -169,10 +182,8 @@ impl Draft {
         Draft {
             handler: None,
             objects: Vec::new(alloc),
-            object_names: Names::new(alloc),
             symbols: 0,
             patches: Vec::new(alloc),
-            patch_names: Names::new(alloc),
             functions: 0,
         }
     }
@@ -211,20 +222,16 @@ impl Draft {
         }
         // An image made from a plan mustn't have duplicates. This is reported before the limit (docs/DECISIONS.md,
         // "Names given twice").
-        if self.object_names.number(name.as_str()).is_some() {
+        if object_number(&self.objects, name.as_str()).is_some() {
             return Err(TextFaultKind::Twice);
         }
         if self.objects.len() >= MAX_OBJECTS {
             return Err(TextFaultKind::TooMany);
         }
-        self.objects.reserve(1)?;
-        self.object_names.add(alloc, name.as_str())?;
-        self.objects
-            .push(ObjectText {
-                name,
-                symbols: Vec::new(alloc),
-            })
-            .unwrap();
+        self.objects.push(ObjectText {
+            name,
+            symbols: Vec::new(alloc),
+        })?;
         Ok(())
     }
 
@@ -249,35 +256,31 @@ impl Draft {
         ensures { Becomes result self.new (placed self.old (CatalogLine.Patch name replace)) }
     {
         let Name(name) = name;
-        if self.patch_names.number(name.as_str()).is_some() {
+        if patch_number(&self.patches, name.as_str()).is_some() {
             return Err(TextFaultKind::Twice);
         }
         if self.patches.len() >= MAX_PATCHES {
             return Err(TextFaultKind::TooMany);
         }
-        self.patches.reserve(1)?;
-        self.patch_names.add(alloc, name.as_str())?;
-        self.patches
-            .push(PlanPatch {
-                name,
-                replace,
-                targets: Vec::new(alloc),
-                states: Vec::new(alloc),
-            })
-            .unwrap();
+        self.patches.push(PlanPatch {
+            name,
+            replace,
+            targets: Vec::new(alloc),
+            states: Vec::new(alloc),
+        })?;
         self.functions = 0;
         Ok(())
     }
 
     /// Adds an object to the last patch, as its open target. `Err` if there is no patch or no such object, if the
     /// patch has the object already, or if it has too many.
-    fn place_target(&mut self, alloc: Global, name: &Name) -> Result<(), TextFaultKind>
+    fn place_target(&mut self, alloc: Global, name: &str) -> Result<(), TextFaultKind>
         ensures { Becomes result self.new (placed self.old (CatalogLine.Target name.now)) }
     {
         if self.patches.is_empty() {
             return Err(TextFaultKind::OutOfPlace);
         }
-        let Some(number) = self.object_names.number(name.0.as_str()) else {
+        let Some(number) = object_number(&self.objects, name) else {
             return Err(TextFaultKind::UnknownObject);
         };
         let object = ObjId(number as u8);
@@ -368,18 +371,26 @@ impl Draft {
 
     /// Adds what a line says, or returns a fault if the line may not be here. Each kind of line checks its own
     /// place.
-    pub(crate) fn place(&mut self, alloc: Global, line: CatalogLine) -> Result<(), TextFaultKind>
-        ensures { Becomes result self.new (placed self.old line) }
+    pub(crate) fn place(
+        &mut self,
+        alloc: Global,
+        line: CatalogLine<'_>,
+    ) -> Result<(), TextFaultKind>
+        ensures { Becomes result self.new (placed self.old line.entry) }
     {
         match line {
             CatalogLine::Handler(address) => self.place_handler(address),
             CatalogLine::Object(name) => self.place_object(alloc, name),
             CatalogLine::Symbol(symbol) => self.place_symbol(symbol),
             CatalogLine::Patch(name, replace) => self.place_patch(alloc, name, replace),
-            CatalogLine::Target(name) => self.place_target(alloc, &name),
+            CatalogLine::Target(NameWord(name)) => self.place_target(alloc, name),
             CatalogLine::Function(function) => self.place_function(function),
             CatalogLine::Callback(which, script) => self.place_callback(which, script),
-            CatalogLine::State(state) => self.place_state(state),
+            // Taken apart, since the check can't move a whole `SystemState` out of a line that lends.
+            CatalogLine::State(SystemState { id, version }) => self.place_state(SystemState {
+                id,
+                version,
+            }),
         }
     }
 
@@ -401,20 +412,10 @@ impl Draft {
         ensures plan { result ≡ record { handler = handler; objects = self.objects; patches = self.patches } }
         ensures targets { AreTargetsWithin (length result.objects) result.patches }
     {
-        let Draft {
-            handler: _,
-            objects,
-            object_names: _,
-            symbols: _,
-            patches,
-            patch_names,
-            functions: _,
-        } = self;
         Plan {
             handler,
-            objects,
-            patches,
-            patch_names,
+            objects: self.objects,
+            patches: self.patches,
         }
     }
 }

@@ -10,6 +10,7 @@ use crate::lines::is_word;
 use arrayvec::ArrayVec;
 use klp_types::{Edit, MAX_EDITS, Script, ShadowKey};
 use klp_words::{LineWords, number64, position_of, shadow_value, signed};
+use smallvec::SmallVec;
 use std::alloc::Global;
 use std::marker::Model;
 
@@ -158,12 +159,19 @@ fn edit(word: &[u8]) -> Result<Edit, TextFaultKind>
     }
 }
 
+/// How many edits most scripts with edits have. So many take no memory, and more would make each line larger that is
+/// read, since a line is moved with the room for them.
+const USUAL_EDITS: usize = 1;
+
+/// The edits of a line, which may be more than a script may have.
+type TextEdits = SmallVec<Edit, USUAL_EDITS>;
+
 /// Reads each word as an edit. The result may have too many edits for a script: this is reported only after the
 /// line's place is checked.
-fn edits(alloc: Global, words: &mut LineWords<'_>) -> Result<Vec<Edit>, TextFaultKind>
+fn edits(alloc: Global, words: &mut LineWords<'_>) -> Result<TextEdits, TextFaultKind>
     ensures { Gives (λ e. e.items) result (edits_of words.old) }
 {
-    let mut edits = Vec::new(alloc);
+    let mut edits = SmallVec::new(alloc);
     while let Some(word) = words.next() {
         edits.push(edit(word)?)?;
     }
@@ -174,7 +182,7 @@ fn edits(alloc: Global, words: &mut LineWords<'_>) -> Result<Vec<Edit>, TextFaul
 /// their number is (docs/DECISIONS.md, "Scripts with too many edits").
 #[derive(Drop)]
 pub struct ScriptText {
-    edits: Vec<Edit>,
+    edits: TextEdits,
     status: i32,
 }
 
@@ -215,7 +223,7 @@ fn failure(
         return Err(TextFaultKind::WrongCount);
     }
     Ok(ScriptText {
-        edits: Vec::new(alloc),
+        edits: SmallVec::new(alloc),
         status,
     })
 }

@@ -15,6 +15,18 @@ impl Model for Name {
     ghost view = { λ n. string_bytes n.0 };
 }
 
+/// A name as a line has it, not copied.
+#[derive(Drop)]
+pub struct NameWord<'a>(pub &'a str);
+
+impl<'a> Model for NameWord<'a> {
+    ghost use Rattle.std.specs.Prelude.{ℕ, List};
+
+    ghost Value = { List ℕ };
+
+    ghost view = { λ n. n.0.now };
+}
+
 /// A new function of a patch, as its line has it. Its site isn't known until the names are resolved.
 #[derive(Drop)]
 pub struct PlanFunction {

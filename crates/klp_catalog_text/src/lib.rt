@@ -27,7 +27,7 @@ mod words;
 
 pub use edit::ScriptText;
 pub use fault::{TextFault, TextFaultKind};
-pub use items::{Name, PlanFunction, SystemState};
+pub use items::{Name, NameWord, PlanFunction, SystemState};
 pub use line::CatalogLine;
 pub use lines::{Lines, words_of};
 pub use plan::{Plan, PlanCallback, PlanPatch, PlanTarget};

@@ -8,7 +8,7 @@ ghost use Rattle.klp_catalog_text.specs.Lines.{state_line, line_of_words, line_o
 
 use crate::edit::ScriptText;
 use crate::fault::TextFaultKind;
-use crate::items::{Name, PlanFunction, SystemState};
+use crate::items::{Name, NameWord, PlanFunction, SystemState};
 use crate::lines::{is_word, three_words};
 use crate::{edit, words};
 use klp_types::{MAX_LINE, SymbolText, Which};
@@ -28,9 +28,9 @@ pub(crate) enum Keyword {
     State,
 }
 
-/// What a line says, wherever it is in the text.
+/// What a line says, wherever it is in the text. What a plan keeps of it is copied, and the rest lent.
 #[derive(Drop)]
-pub enum CatalogLine {
+pub enum CatalogLine<'a> {
     /// The address of the handler.
     Handler(u64),
     /// The name of an object.
@@ -40,7 +40,7 @@ pub enum CatalogLine {
     /// The name of a patch, and whether it replaces all older ones.
     Patch(Name, bool),
     /// The name of an object that the last patch changes.
-    Target(Name),
+    Target(NameWord<'a>),
     /// A new function of the last target.
     Function(PlanFunction),
     /// A callback of the last target. Its script may have too many edits.
@@ -81,7 +81,7 @@ fn keyword_of(word: &[u8]) -> Option<Keyword>
 }
 
 /// Reads the words of a `handler` line after its first word: an address.
-fn handler_line(words: &mut LineWords<'_>) -> Result<CatalogLine, TextFaultKind>
+fn handler_line<'a>(words: &mut LineWords<'a>) -> Result<CatalogLine<'a>, TextFaultKind>
     ensures { Gives (λ l. l) result (handler_line words.old) }
 {
     let (Some(address), None) = (words.next(), words.next()) else {
@@ -94,26 +94,33 @@ fn handler_line(words: &mut LineWords<'_>) -> Result<CatalogLine, TextFaultKind>
 }
 
 /// Reads the one word of a line that has only a name after its first word.
-fn only_name(alloc: Global, words: &mut LineWords<'_>) -> Result<Name, TextFaultKind>
-    ensures { Gives (λ n. n) result (only_name words.old) }
+fn only_name<'a>(words: &mut LineWords<'a>) -> Result<NameWord<'a>, TextFaultKind>
+    ensures { result ≡ only_name words.old }
 {
     let (Some(name), None) = (words.next(), words.next()) else {
         return Err(TextFaultKind::WrongCount);
     };
-    words::name(alloc, name)
+    words::name_word(name)
 }
 
 /// Reads the words of an `object` line after its first word: a name.
 #[tactic(auto, using(crate::proofs::CountLemmas::object_by))]
-fn object_line(alloc: Global, words: &mut LineWords<'_>) -> Result<CatalogLine, TextFaultKind>
+fn object_line<'a>(
+    alloc: Global,
+    words: &mut LineWords<'a>,
+) -> Result<CatalogLine<'a>, TextFaultKind>
     ensures { Gives (λ l. l) result (object_line words.old) }
 {
-    Ok(CatalogLine::Object(only_name(alloc, words)?))
+    let NameWord(name) = only_name(words)?;
+    Ok(CatalogLine::Object(Name(String::from_str(alloc, name)?)))
 }
 
 /// Reads the words of a `symbol` line after its first word: a name, an address and a body.
 #[tactic(auto, using(crate::proofs::CountLemmas::symbol_count))]
-fn symbol_line(alloc: Global, words: &mut LineWords<'_>) -> Result<CatalogLine, TextFaultKind>
+fn symbol_line<'a>(
+    alloc: Global,
+    words: &mut LineWords<'a>,
+) -> Result<CatalogLine<'a>, TextFaultKind>
     ensures { Gives (λ l. l) result (symbol_line words.old) }
 {
     let Some((name, address, body)) = three_words(words) else {
@@ -132,11 +139,11 @@ fn symbol_line(alloc: Global, words: &mut LineWords<'_>) -> Result<CatalogLine, 
 }
 
 /// Reads the rest of a `patch` line whose third word is `replace`: nothing may follow.
-fn replace_line(
+fn replace_line<'a>(
     alloc: Global,
     name: &[u8],
-    words: &mut LineWords<'_>,
-) -> Result<CatalogLine, TextFaultKind>
+    words: &mut LineWords<'a>,
+) -> Result<CatalogLine<'a>, TextFaultKind>
     ensures { Gives (λ l. l) result (replace_line name.now words.old) }
 {
     if words.next().is_some() {
@@ -146,7 +153,10 @@ fn replace_line(
 }
 
 /// Reads the words of a `patch` line after its first word: a name, and perhaps `replace`.
-fn patch_line(alloc: Global, words: &mut LineWords<'_>) -> Result<CatalogLine, TextFaultKind>
+fn patch_line<'a>(
+    alloc: Global,
+    words: &mut LineWords<'a>,
+) -> Result<CatalogLine<'a>, TextFaultKind>
     ensures { Gives (λ l. l) result (patch_line words.old) }
 {
     let Some(name) = words.next() else {
@@ -161,20 +171,20 @@ fn patch_line(alloc: Global, words: &mut LineWords<'_>) -> Result<CatalogLine, T
 
 /// Reads the words of a `target` line after its first word: the name of an object.
 #[tactic(auto, using(crate::proofs::CountLemmas::target_by))]
-fn target_line(alloc: Global, words: &mut LineWords<'_>) -> Result<CatalogLine, TextFaultKind>
-    ensures { Gives (λ l. l) result (target_line words.old) }
+fn target_line<'a>(words: &mut LineWords<'a>) -> Result<CatalogLine<'a>, TextFaultKind>
+    ensures { result ≡ target_line words.old }
 {
-    Ok(CatalogLine::Target(only_name(alloc, words)?))
+    Ok(CatalogLine::Target(only_name(words)?))
 }
 
 /// Reads the words of a `func` line after its first word: a symbol, a name and an address. `target` is the name of the
 /// open target's object, if a target is open.
 #[tactic(auto, using(crate::proofs::CountLemmas::func_count))]
-fn func_line(
+fn func_line<'a>(
     alloc: Global,
     target: Option<&str>,
-    words: &mut LineWords<'_>,
-) -> Result<CatalogLine, TextFaultKind>
+    words: &mut LineWords<'a>,
+) -> Result<CatalogLine<'a>, TextFaultKind>
     ensures { Gives (λ l. l) result (func_line (option_copied target.entry) words.old) }
 {
     let Some((symbol, name, address)) = three_words(words) else {
@@ -194,18 +204,18 @@ fn func_line(
 }
 
 /// Reads the words of a `pre`, `post`, `preun` or `postun` line after its first word: a script.
-fn callback_line(
+fn callback_line<'a>(
     alloc: Global,
     which: Which,
-    words: &mut LineWords<'_>,
-) -> Result<CatalogLine, TextFaultKind>
+    words: &mut LineWords<'a>,
+) -> Result<CatalogLine<'a>, TextFaultKind>
     ensures { Gives (λ l. l) result (callback_line which words.old) }
 {
     Ok(CatalogLine::Callback(which, edit::script(alloc, words)?))
 }
 
 /// Reads the words of a `state` line after its first word: an id and a version.
-fn state_line(words: &mut LineWords<'_>) -> Result<CatalogLine, TextFaultKind>
+fn state_line<'a>(words: &mut LineWords<'a>) -> Result<CatalogLine<'a>, TextFaultKind>
     ensures { Gives (λ l. l) result (state_line words.old) }
 {
     let (Some(id), Some(version), None) = (words.next(), words.next(), words.next()) else {
@@ -219,7 +229,7 @@ fn state_line(words: &mut LineWords<'_>) -> Result<CatalogLine, TextFaultKind>
     Ok(CatalogLine::State(SystemState { id, version }))
 }
 
-impl CatalogLine {
+impl<'a> CatalogLine<'a> {
     /// Reads one line. `text` is the whole line, `first` its first word, and `words` the words after it.
     ///
     /// `target` is the name of the open target's object, if a target is open. The time is linear in the length of
@@ -231,8 +241,8 @@ impl CatalogLine {
         target: Option<&str>,
         text: &[u8],
         first: &[u8],
-        words: &mut LineWords<'_>,
-    ) -> Result<CatalogLine, TextFaultKind>
+        words: &mut LineWords<'a>,
+    ) -> Result<CatalogLine<'a>, TextFaultKind>
         ensures { Gives (λ l. l) result (line_of (option_copied target.entry) text.now first.now words.old) }
     {
         if !is_ascii(text) {
@@ -249,7 +259,7 @@ impl CatalogLine {
             Keyword::Object => object_line(alloc, words),
             Keyword::Symbol => symbol_line(alloc, words),
             Keyword::Patch => patch_line(alloc, words),
-            Keyword::Target => target_line(alloc, words),
+            Keyword::Target => target_line(words),
             Keyword::Func => func_line(alloc, target, words),
             Keyword::Callback(which) => callback_line(alloc, which, words),
             Keyword::State => state_line(words),

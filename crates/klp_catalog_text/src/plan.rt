@@ -1,13 +1,11 @@
 ghost use Rattle.std.specs.Prelude.{◌≡◌, ◌<◌, [], length, slice_get, option_map, OnOk, OnErr};
 ghost use Rattle.klp_catalog_text.specs.PlanParts.{with_function, with_target, with_function_in, with_callback};
 ghost use Rattle.klp_catalog_text.specs.PlanParts.{with_callback_in, with_state};
-ghost use Rattle.klp_catalog_text.specs.Draft.{patch_names_of};
 ghost use Rattle.klp_catalog_text.specs.Limits.{AreFew};
 ghost use Rattle.klp_catalog_text.specs.Scripts.{scripts_of};
 
 use crate::items::{PlanFunction, SystemState};
 use klp_types::{ObjId, ObjectText, Script, Which};
-use klp_words::Names;
 use std::alloc::{AllocError, Global};
 use std::marker::Model;
 use std::mem;
@@ -142,8 +140,6 @@ pub struct Plan {
     pub(crate) handler: u64,
     pub(crate) objects: Vec<ObjectText>,
     pub(crate) patches: Vec<PlanPatch>,
-    /// The names of the patches, in a table by which they are found.
-    pub(crate) patch_names: Names,
 }
 
 impl Model for Plan {
@@ -153,9 +149,9 @@ impl Model for Plan {
 
     ghost view = { λ p. record { handler = p.handler; objects = p.objects.items; patches = p.patches.items } };
 
-    ghost use Rattle.klp_catalog_text.specs.Kept.{IsPlanKept};
+    ghost use Rattle.klp_catalog_text.specs.Limits.{AreFew};
 
-    ghost invariant = { λ p. IsPlanKept p.patches.items p.patch_names };
+    ghost invariant = { λ p. AreFew p.patches.items };
 }
 
 impl Plan {
@@ -194,19 +190,11 @@ impl Plan {
         mem::replace(&mut self.objects, Vec::new(alloc))
     }
 
-    /// Takes the plan apart, and returns the patches and the table of their names. The catalog keeps both
-    /// unchanged.
-    pub fn into_patches(self) -> (Vec<PlanPatch>, Names)
-        ensures patches { result.0.items ≡ self.patches }
-        ensures names { result.1 ≡ patch_names_of self.patches }
+    /// Returns the patches, and drops the rest of the plan.
+    pub fn into_patches(self) -> Vec<PlanPatch>
+        ensures patches { result.items ≡ self.patches }
         ensures few { AreFew self.patches }
     {
-        let Plan {
-            handler: _,
-            objects: _,
-            patches,
-            patch_names,
-        } = self;
-        (patches, patch_names)
+        self.patches
     }
 }

@@ -7,20 +7,28 @@ ghost use Rattle.klp_catalog_text.specs.Gives.{Gives};
 ghost use Rattle.klp_catalog_text.specs.Words.{name_of, symbol_name_of, body_of, symbol_of};
 
 use crate::fault::TextFaultKind;
-use crate::items::Name;
+use crate::items::{Name, NameWord};
 use hex::FromHexError;
 use klp_words::{Spelling, is_name, is_symbol_name, spelling_of, text};
 use std::alloc::Global;
 
 /// Reads the name of an object, a patch or a new function. It may not have a `.`, because a `.` ends the object's
 /// name in the spelling of a symbol.
-pub(crate) fn name(alloc: Global, word: &[u8]) -> Result<Name, TextFaultKind>
-    ensures { Gives (λ n. n) result (name_of word.now) }
+pub(crate) fn name_word(word: &[u8]) -> Result<NameWord<'_>, TextFaultKind>
+    ensures { result ≡ name_of word.now }
 {
     if !is_name(word) {
         return Err(TextFaultKind::BadName);
     }
-    Ok(Name(String::from_str(alloc, text(word))?))
+    Ok(NameWord(text(word)))
+}
+
+/// Copies the name of an object, a patch or a new function.
+pub(crate) fn name(alloc: Global, word: &[u8]) -> Result<Name, TextFaultKind>
+    ensures { Gives (λ n. n) result (name_of word.now) }
+{
+    let NameWord(name) = name_word(word)?;
+    Ok(Name(String::from_str(alloc, name)?))
 }
 
 /// Reads the name of a symbol. It may have a `.` and a `$`, as names from compilers do (`f.constprop.0`). It may

@@ -1,7 +1,6 @@
 pub mod SplitLemmas
 pub mod WordLemmas
 pub mod NumberLemmas
-pub mod NameLemmas
 pub mod ValueLemmas
 pub mod ValueExamples
 pub mod LaneLemmas

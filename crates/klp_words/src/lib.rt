@@ -4,13 +4,12 @@
 //! a text at the first byte of a kind. [`number64`] and its like read numbers, [`shadow_value`] reads the value of
 //! a shadow variable, [`spelling_of`] a symbol as a `func` line spells it (`specs/Words`), and [`microseconds`] the
 //! time of a log (`specs/Seconds`). [`is_ascii`] tests whether a line is ASCII. None of these takes memory. They only
-//! say that a word is wrong; the caller decides which fault that is. [`Names`] is a table that finds the number of a
-//! name, and the name of a number. `examples` shows which words of each kind are read as what, and which are refused.
+//! say that a word is wrong; the caller decides which fault that is. `examples` shows which words of each kind are read
+//! as what, and which are refused.
 #![tactic(auto)]
 
 pub mod examples;
 mod lanes;
-mod names;
 mod number;
 mod seconds;
 mod spelling;
@@ -18,7 +17,6 @@ mod split;
 mod value;
 
 pub use lanes::is_ascii;
-pub use names::Names;
 pub use number::{hexadecimal, number32, number64, signed};
 pub use seconds::microseconds;
 pub use spelling::{Spelling, is_name, is_symbol_name, spelling_of, text};
