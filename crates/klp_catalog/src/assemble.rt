@@ -15,7 +15,7 @@ ghost use Rattle.klp_catalog.specs.declared.assemble.AssembleFault.TheVariants.{
 use crate::function::CatalogFunction;
 use crate::numbers::Numbers;
 use crate::patch::CatalogPatch;
-use crate::target::{CatalogTarget, Kind, Kinds};
+use crate::target::{CatalogTarget, Kinds};
 use klp_catalog_text::{PlanCallback, PlanFunction, PlanPatch, PlanTarget};
 use klp_modules::Modules;
 use klp_types::{ObjId, Site};
@@ -116,7 +116,7 @@ fn kinds_of(alloc: Global, callbacks: &[PlanCallback]) -> Result<Kinds, AllocErr
 {
     let mut kinds = SmallVec::new(alloc);
     for callback in callbacks {
-        kinds.push(Kind(callback.which))?;
+        kinds.push(callback.which)?;
     }
     Ok(kinds)
 }

@@ -122,7 +122,7 @@ pub(crate) fn number_of(
 {
     let patch = patches.get(usize::from(patch.0))?;
     let target = patch.targets.get(place)?;
-    let place = target.kinds.iter().position(|own| is_kind(own.0, which))?;
+    let place = target.kinds.iter().position(|own| is_kind(*own, which))?;
     Some(target.first + place)
 }
 

@@ -2,37 +2,13 @@ ghost use Rattle.std.specs.Prelude.{◌≡◌, length};
 ghost use Rattle.klp_types.specs.Callbacks as callbacks;
 
 use klp_catalog_text::PlanFunction;
-use klp_types::{ObjId, Which};
+use klp_types::{CALLBACK_KINDS, ObjId, Which};
 use smallvec::SmallVec;
 use std::marker::Model;
 use std::snapshot::Snapshot;
 
-/// A kind of callback. It has a default, which fills the unused elements of an array of kinds; none of these is ever
-/// read.
-#[derive(Clone, Copy)]
-pub(crate) struct Kind(pub(crate) Which);
-
-impl Model for Kind {
-    ghost use Rattle.klp_types.specs.declared.callback.Which.{Which};
-
-    ghost Value = { Which };
-
-    ghost view = { λ k. k.0 };
-
-    ghost inverse = { λ w. record { 0 = w } };
-}
-
-impl Default for Kind {
-    fn default() -> Kind {
-        Kind(Which::Pre)
-    }
-}
-
-/// How many kinds of callbacks there are.
-const KINDS: usize = 4;
-
 /// The kinds of an object's callbacks. A plan has at most one callback of each kind, so they take no memory.
-pub(crate) type Kinds = SmallVec<Kind, KINDS>;
+pub(crate) type Kinds = SmallVec<Which, CALLBACK_KINDS>;
 
 /// An object that a patch changes. The catalog has the callbacks; the target has the numbers and kinds of its own.
 #[derive(Drop)]

@@ -5,7 +5,7 @@ ghost use Rattle.klp_catalog_text.specs.Limits.{AreFew};
 ghost use Rattle.klp_catalog_text.specs.Scripts.{scripts_of};
 
 use crate::items::{PlanFunction, SystemState};
-use klp_types::{ObjId, ObjectText, Script, Which};
+use klp_types::{CALLBACK_KINDS, ObjId, ObjectText, Script, Which};
 use std::alloc::{AllocError, Global};
 use std::marker::Model;
 use std::mem;
@@ -59,6 +59,10 @@ impl PlanTarget {
         ensures ok { OnOk result (self.new ≡ with_callback callback self.old) }
         ensures err { OnErr result (self.new ≡ self.old) }
     {
+        if self.callbacks.is_empty() {
+            // room for one of each kind at once, since scripts are large to move
+            self.callbacks.reserve(CALLBACK_KINDS)?;
+        }
         self.callbacks.push(callback)?;
         Ok(())
     }

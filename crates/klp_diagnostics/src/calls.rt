@@ -1,7 +1,7 @@
 //! What tasks are inside of, by the calls of a trace.
 
-use klp_faulty_words::item::Item;
 use klp_catalog_text::Lines;
+use klp_faulty_words::item::Item;
 use std::alloc::{AllocError, Global};
 
 /// What stands before the object in a symbol's spelling.

@@ -1,10 +1,10 @@
 //! Describing what the rules have at a line of a trace where the kernel differs from them, and why.
 ghost use Rattle.klp_core.specs.Journaled.{IsWellFormed};
 
-use klp_faulty_words::escaped::Escaped;
 use crate::replay::make_room;
 use crate::rules::{Holders, InPlaceOf, moving_name};
 use klp_core::Manager;
+use klp_faulty_words::escaped::Escaped;
 use klp_model::{Event, Refusal, Reply};
 use klp_trace::{Trace, answer_text};
 use klp_watch::Observed;

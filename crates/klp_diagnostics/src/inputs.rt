@@ -2,22 +2,22 @@
 ghost use Rattle.std.specs.Prelude.{◌≡◌, IfErr};
 
 use crate::calls::Calls;
-use klp_faulty_words::catalog_fault::{begins_as_catalog, begins_as_utf16};
 use crate::dishonest::act_of;
+use crate::lack::lack_of;
+use crate::replay::{Replay, replay_of, rules_of};
+use klp_catalog::{AssembleFault, Catalog};
+use klp_catalog_text::{Plan, TextFault};
+use klp_console::ServeFault;
+use klp_faulty_words::catalog_fault::{begins_as_catalog, begins_as_utf16};
 use klp_faulty_words::escaped::{Escaped, Quoted};
 use klp_faulty_words::item::Item;
-use crate::lack::lack_of;
 use klp_faulty_words::lines::line_at;
 use klp_faulty_words::names::Names;
-use crate::replay::{Replay, replay_of, rules_of};
 use klp_faulty_words::same_site::first_pair;
 use klp_faulty_words::stray::{Kind, STRAYS, Stray};
 use klp_faulty_words::unpicked::first_unloadable;
 use klp_faulty_words::wrong::Wrong;
 use klp_faulty_words::{catalog_fault, image, item};
-use klp_catalog::{AssembleFault, Catalog};
-use klp_catalog_text::{Plan, TextFault};
-use klp_console::ServeFault;
 use klp_program::{Fault, Verdict, bytes_in};
 use klp_trace::{LineParts, TraceFault, TraceFaultKind};
 use klp_types::MAX_CONSOLE_LINE;
@@ -74,7 +74,7 @@ pub fn file_in<R: Files + AllocGlobal, E: Write>(
 /// Returns what is wrong with a line of a trace that is no item. `plan` is the catalog's.
 fn wrong_item<'a>(mut plan: Plan, line: &'a [u8], catalog: &'a [u8]) -> Wrong<'a> {
     let objects = plan.take_objects();
-    let (patches, _names) = plan.into_patches();
+    let patches = plan.into_patches();
     let names = Names {
         objects: &objects,
         patches: &patches,
@@ -165,7 +165,7 @@ impl<'a> Inputs<'a> {
     /// Hints at the first line of a script that may be misspelled, over the plan of the catalog.
     fn write_misspelled<E: Write>(&self, mut plan: Plan, err: &mut E) -> io::Result<()> {
         let objects = plan.take_objects();
-        let (patches, _names) = plan.into_patches();
+        let patches = plan.into_patches();
         let names = Names {
             objects: &objects,
             patches: &patches,
@@ -290,7 +290,7 @@ impl<'a> Inputs<'a> {
         let replay = replay_of(alloc, self.catalog.bytes, self.second.bytes, lines);
         match (replay, Catalog::read(alloc, self.catalog.bytes)) {
             (Some(replay), Ok(plan)) => {
-                let (patches, _names) = plan.into_patches();
+                let patches = plan.into_patches();
                 replay.write_versions(task, self.second.bytes, &patches, err)
             }
             _ => writeln!(err, " there is no memory to find them"),
@@ -337,7 +337,7 @@ impl<'a> Inputs<'a> {
     /// Writes a fault of the whole catalog by its plan, with the symbols or functions at fault.
     fn write_in_plan<E: Write>(&self, mut plan: Plan, fault: Fault, err: &mut E) -> io::Result<()> {
         let (objects, handler) = (plan.take_objects(), plan.handler());
-        let (patches, _names) = plan.into_patches();
+        let patches = plan.into_patches();
         let wrong = match fault {
             Fault::Image(fault) => image::wrong_of(&objects, handler, fault),
             _ => first_pair(&objects, &patches),

@@ -5,14 +5,14 @@ ghost use Rattle.klp_catalog_text.specs.Within.{AreTargetsWithin};
 ghost use Rattle.klp_core.specs.Journaled.{IsWellFormed};
 
 use crate::differing::rules_at;
-use klp_faulty_words::escaped::Escaped;
-use klp_faulty_words::item::Item;
-use klp_faulty_words::lines::{line_at, word_at};
 use klp_callback::Boxed;
 use klp_catalog::Catalog;
 use klp_catalog_text::{Lines, Plan, PlanFunction, PlanPatch};
 use klp_console::{event_of, site_of};
 use klp_core::Manager;
+use klp_faulty_words::escaped::Escaped;
+use klp_faulty_words::item::Item;
+use klp_faulty_words::lines::{line_at, word_at};
 use klp_model::Refusal;
 use klp_program::{Fault, boot, close, scripted};
 use klp_trace::LineParts;

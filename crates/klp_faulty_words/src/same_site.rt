@@ -69,10 +69,7 @@ fn pair_of<'a>(objects: &'a [ObjectText], patch: &'a PlanPatch) -> Option<Pair<'
 }
 
 /// Returns the first two functions for one site, of the first patch that has such. `None` if no patch has.
-pub fn first_pair<'a>(
-    objects: &'a [ObjectText],
-    patches: &'a [PlanPatch],
-) -> Option<Wrong<'a>> {
+pub fn first_pair<'a>(objects: &'a [ObjectText], patches: &'a [PlanPatch]) -> Option<Wrong<'a>> {
     for patch in patches {
         if let Some(pair) = pair_of(objects, patch) {
             return Some(Wrong::SameSite(pair));

@@ -223,7 +223,7 @@ pub fn lint_over_text<W: Write>(
     let mut plan = Catalog::read(alloc, text.bytes)?;
     let handler = plan.handler();
     let objects = plan.take_objects();
-    let (patches, _names) = plan.into_patches();
+    let patches = plan.into_patches();
     let linted = Linted {
         text,
         handler,

@@ -1,92 +1,89 @@
 -- Laws of the tables that look-ups go by.
-use Rattle.std.proofs.Common.{◌≡◌, ℕ, zero, suc, ◌+◌, ◌-◌, ◌<◌, ◌≤◌, List, [], ◌∷◌, ◌++◌, length, get_or, map, take, Bool, true, false, cond, Option, Some, None, refl, ap, sym, ◌∙◌, subst, arith, length-append, inl, inr, nat_eq}
+use Rattle.std.proofs.Common.{◌≡◌, ℕ, zero, suc, ◌+◌, ◌-◌, ◌<◌, ◌≤◌, List, [], ◌∷◌, ◌++◌, length, get_or, map, take, Bool, true, false, Option, Some, None, refl, ap, sym, ◌∙◌, subst, arith, length-append, inl, inr, ◌≢◌}
 use Rattle.std.specs.Prelude.{option_map, ◌==◌, slice_get, count_by, position, bytes_eq, slice_set}
-use Rattle.std.proofs.lemmas.List.{take_more, length-map, length-take}
-use Rattle.std.proofs.lemmas.Bool.{lt-ltb, le-ltb, cases_lt}
-use Rattle.std.proofs.lemmas.Option.{slice_get-map, slice_get_within, slice_get_past, get_or_from_slice_get}
-use Rattle.indexmap.specs.IndexMap.{IndexMap, get}
+use Rattle.std.proofs.lemmas.List.{take_more, length-map, length-set, length-take, get_or-set_same, get_or-set_other, append-nil}
+use Rattle.std.proofs.lemmas.Bool.{lt-ltb, le-ltb, cases_lt, eq-eqb, eqb-true, ne_eqb}
+use Rattle.std.proofs.lemmas.Option.{slice_get-get_or, slice_get-map, slice_get_within, slice_get_past, get_or_from_slice_get}
 use Rattle.std.specs.List.{All}
+use Rattle.smallvec.specs.SmallVec.{SmallVec}
 use Rattle.std.proofs.lemmas.List.Elements.{All-head, All-tail}
 use Rattle.klp_types.proofs.SiteLemmas.{slice_get-append_left, slice_get-append_right}
 use Rattle.klp_modules.specs.Names.{Named, named_at, symbol_from, symbol_at_site, sites_where, picked, resolved}
 use Rattle.klp_modules.specs.Kept.{text_at, names_from, symbol_count, numbered_first_site, HasTexts, IsApart}
-use Rattle.klp_modules.proofs.NameLaws.{first_site-count, named_is, resolved_found}
-use Rattle.klp_modules.specs.Tables.{sites_in, IsSiteTable, AreSiteTables, HasSites, placed, placed_symbols}
+use Rattle.klp_modules.proofs.NameLaws.{first_site-count, named_is, resolved_found, resolved_past}
+use Rattle.klp_modules.specs.Tables.{HasSites, placed, placed_symbols}
+use Rattle.klp_modules.specs.NamedSites.{sites_of, named_from}
+use Rattle.klp_modules.specs.declared.named_sites.NamedSite.{NamedSite}
 use Rattle.klp_modules.specs.declared.numbered.NumberedObject.{NumberedObject}
 use Rattle.klp_modules.specs.declared.numbered.NumberedSymbol.{NumberedSymbol}
-
--- ---- sites by name
-
-pub sites_where-push : (test : ℕ → Bool) (first : ℕ) (xs : List ℕ) (y : ℕ) →
-    sites_where test first (xs ++ y ∷ []) ≡ sites_where test first xs ++ cond (test y) ((first + length xs) ∷ []) []
-sites_where-push test first [] y = by (test y) refl
-  where
-    by : (b : Bool) → test y ≡ b → sites_where test first (y ∷ []) ≡ cond (test y) ((first + 0) ∷ []) []
-    by true e = let none : first + 0 ≡ first = omega arith in rw (e, none) refl
-    by false e = rw e refl
-sites_where-push test first (x ∷ xs) y =
-    let next : suc first + length xs ≡ first + suc (length xs) = omega arith in
-    let rest = rw next at (sites_where-push test (suc first) xs y) in
-    by (test x) refl rest
-  where
-    by : (b : Bool) → test x ≡ b →
-        sites_where test (suc first) (xs ++ y ∷ []) ≡ sites_where test (suc first) xs ++ cond (test y) ((first + suc (length xs)) ∷ []) [] →
-        sites_where test first (x ∷ xs ++ y ∷ []) ≡ sites_where test first (x ∷ xs) ++ cond (test y) ((first + suc (length xs)) ∷ []) []
-    by true e rest = rw e (ap (λ sites. first ∷ sites) rest)
-    by false e rest = rw e rest
 
 pub length-take_all : {A : Type 0} (n : ℕ) (xs : List A) → n ≤ length xs → length (take n xs) ≡ n
 length-take_all n xs h = omega (arith, length-take n xs)
 
+-- ---- symbols by name
+
+named_from-append : (number site : ℕ) (xs ys : List NumberedSymbol) →
+    named_from number site (xs ++ ys) ≡ named_from number site xs ++ named_from number (site + length xs) ys
+named_from-append number site [] ys = let none : site + 0 ≡ site = omega arith in rw none refl
+named_from-append number site (x ∷ xs) ys =
+    let next : suc site + length xs ≡ site + suc (length xs) = omega arith in
+    by (x.name == number) refl (rw next at (named_from-append number (suc site) xs ys))
+  where
+    by : (b : Bool) → (x.name == number) ≡ b →
+        named_from number (suc site) (xs ++ ys) ≡ named_from number (suc site) xs ++ named_from number (site + suc (length xs)) ys →
+        named_from number site (x ∷ xs ++ ys) ≡ named_from number site (x ∷ xs) ++ named_from number (site + suc (length xs)) ys
+    by true e rest = rw e (ap (λ sites. record { object = x.object; site = site } ∷ sites) rest)
+    by false e rest = rw e rest
+
 -- one symbol more
-pub site_more : (first place number : ℕ) (symbols before after : List ℕ) → place < length symbols →
-    before ≡ sites_where (λ other. other == number) first (take place symbols) →
-    after ≡ before ++ cond (get_or symbols place 0 == number) ((first + place) ∷ []) [] →
-    after ≡ sites_where (λ other. other == number) first (take (place + 1) symbols)
-site_more first place number symbols before after below so_far more =
+named_more : (place number : ℕ) (symbols : List NumberedSymbol) (symbol : NumberedSymbol) → place < length symbols → symbol ≡ get_or symbols place symbol →
+    named_from number 0 (take (place + 1) symbols)
+    ≡ named_from number 0 (take place symbols) ++ named_from number place (symbol ∷ [])
+named_more place number symbols symbol below is =
     let size : length (take place symbols) ≡ place = length-take_all place symbols (omega (arith, below)) in
-    rw (take_more symbols place 0 below, sites_where-push (λ other. other == number) first (take place symbols) (get_or symbols place 0), size, ← so_far) more
+    let last : take (place + 1) symbols ≡ take place symbols ++ symbol ∷ [] =
+    take_more symbols place symbol below ∙ ap (λ x. take place symbols ++ x ∷ []) (sym is) in
+    let from : 0 + length (take place symbols) ≡ place = omega (arith, size) in
+    ap (named_from number 0) last ∙ (named_from-append number 0 (take place symbols) (symbol ∷ [])
+    ∙ ap (λ n. named_from number 0 (take place symbols) ++ named_from number n (symbol ∷ [])) from)
 
--- ---- sites by object
+pub has_more : (place : ℕ) (symbols : List NumberedSymbol) (symbol : NumberedSymbol) (tables : List (SmallVec NamedSite)) (own new : SmallVec NamedSite) →
+    place < length symbols → symbol ≡ get_or symbols place symbol → symbol.name < length tables →
+    HasSites (take place symbols) tables → own ≡ get_or tables symbol.name own →
+    new.items ≡ own.items ++ record { object = symbol.object; site = place } ∷ [] →
+    HasSites (take (place + 1) symbols) (slice_set tables symbol.name new)
+has_more place symbols symbol tables own new below is there has own_is pushed = λ number sites at.
+    by number sites at (symbol.name == number) refl
+  where
+    by : (number : ℕ) (sites : SmallVec NamedSite) → slice_get (slice_set tables symbol.name new) number ≡ Some sites →
+        (b : Bool) → (symbol.name == number) ≡ b → sites.items ≡ named_from number 0 (take (place + 1) symbols)
+    by number sites at true e =
+        let same : symbol.name ≡ number = eqb-true symbol.name number e in
+        let found : sites ≡ new =
+        sym (get_or_from_slice_get (slice_set tables symbol.name new) number sites own at)
+        ∙ (ap (λ n. get_or (slice_set tables symbol.name new) n own) (sym same) ∙ get_or-set_same tables symbol.name new own there) in
+        let before : slice_get tables symbol.name ≡ Some own = slice_get-get_or tables symbol.name own there ∙ ap Some (sym own_is) in
+        let so_far : own.items ≡ named_from number 0 (take place symbols) = rw same at (has symbol.name own before) in
+        rw (named_more place number symbols symbol below is, e, found, pushed, so_far) refl
+    by number sites at false e =
+        let differ : number ≢ symbol.name = λ same. let no : ⊥ = apart e (eq-eqb symbol.name number (sym same)) in no in
+        let size : number < length tables = omega (arith, slice_get_within (slice_set tables symbol.name new) number sites at, length-set tables symbol.name new) in
+        let old : slice_get tables number ≡ Some sites =
+        slice_get-get_or tables number sites size
+        ∙ ap Some (sym (get_or-set_other tables symbol.name number new sites differ) ∙ get_or_from_slice_get (slice_set tables symbol.name new) number sites sites at) in
+        rw (named_more place number symbols symbol below is, e) (has number sites old ∙ sym (append-nil (named_from number 0 (take place symbols))))
+      where
+        apart : {b : Bool} → b ≡ false → b ≡ true → ⊥
+        apart fails holds = let it : ⊥ = cc in it
 
--- one table more
-pub tables_more : {S : Type 0} (objects : List NumberedObject) (place : ℕ) (object : NumberedObject)
-    (tables more : List (IndexMap ℕ (List ℕ) S)) (table : IndexMap ℕ (List ℕ) S) → length tables ≡ place →
-    AreSiteTables objects tables → slice_get objects place ≡ Some object →
-    IsSiteTable (numbered_first_site objects place) object.symbols.items table → more ≡ tables ++ table ∷ [] → AreSiteTables objects more
-tables_more objects place object tables more table size so_far here new pushed = λ o x t at_object at_table.
-    elim (cases_lt o place) [
-      | inl before ↦ so_far o x t at_object
-          (sym (slice_get-append_left tables (table ∷ []) o (omega (arith, size, before))) ∙ (sym (ap (λ ts. slice_get ts o) pushed) ∙ at_table))
-      | inr behind ↦
-          let inside : o < length more = slice_get_within more o t at_table in
-          let last : o ≡ place = omega (arith, inside, behind, size, ap length pushed, length-append tables (table ∷ [])) in
-          let own : Some x ≡ Some object = sym at_object ∙ (ap (slice_get objects) last ∙ here) in
-          let none : o - length tables ≡ 0 = omega (arith, last, size) in
-          let at_end : slice_get (tables ++ table ∷ []) o ≡ slice_get (table ∷ []) (o - length tables) =
-          slice_get-append_right tables (table ∷ []) o (omega (arith, last, size)) in
-          let end : Some t ≡ Some table = sym at_table ∙ (ap (λ ts. slice_get ts o) pushed ∙ (at_end ∙ ap (slice_get (table ∷ [])) none)) in
-          let x_is : x ≡ object = cc own in
-          let t_is : t ≡ table = cc end in
-          rw (last, x_is, t_is) new
-    ]
-
--- the site of the first symbol of the object after it
-pub first_more : (objects : List NumberedObject) (place : ℕ) (object : NumberedObject) → slice_get objects place ≡ Some object →
-    numbered_first_site objects (place + 1) ≡ numbered_first_site objects place + length object.symbols.items
-first_more [] place object here = let no : ⊥ = cc in absurd no
-first_more (x ∷ []) zero object here = let same : x ≡ object = cc in rw same (omega arith)
-first_more (x ∷ y ∷ xs) zero object here = let same : x ≡ object = cc in rw same (omega arith)
-first_more (x ∷ xs) (suc place) object here =
-    let next : suc place + 1 ≡ suc (place + 1) = omega arith in
-    rw next (omega (arith, first_more xs place object here))
-
-pub first_of_none : (objects : List NumberedObject) → 0 ≡ numbered_first_site objects 0
-first_of_none [] = refl
-first_of_none (object ∷ objects) = refl
-
-pub tables_none : {T : Type 0} {P : Type 0} {table : T} (o : ℕ) → slice_get [] o ≡ Some table → P
-tables_none {T} {P} {table} o at = let no : ⊥ = cc in absurd no
+sites_of-append : (object : ℕ) (xs ys : List NamedSite) → sites_of object (xs ++ ys) ≡ sites_of object xs ++ sites_of object ys
+sites_of-append object [] ys = refl
+sites_of-append object (x ∷ xs) ys = by (x.object == object) refl (sites_of-append object xs ys)
+  where
+    by : (b : Bool) → (x.object == object) ≡ b → sites_of object (xs ++ ys) ≡ sites_of object xs ++ sites_of object ys →
+        sites_of object (x ∷ xs ++ ys) ≡ sites_of object (x ∷ xs) ++ sites_of object ys
+    by true e rest = rw e (ap (λ sites. x.site ∷ sites) rest)
+    by false e rest = rw e rest
 
 -- ---- symbols by site
 
@@ -108,6 +105,17 @@ slice_get-placed o place symbols (name ∷ rest) (suc n) =
 pub length-placed : (o place : ℕ) (symbols rest : List ℕ) → length (placed o place symbols rest) ≡ length rest
 length-placed o place symbols [] = refl
 length-placed o place symbols (name ∷ rest) = omega (arith, length-placed o (place + 1) symbols rest)
+
+pub length-placed_symbols : (number : ℕ) (objects : List NumberedObject) → length (placed_symbols number objects) ≡ symbol_count objects
+length-placed_symbols number [] = refl
+length-placed_symbols number (object ∷ objects) =
+    let own = placed number 0 object.symbols.items object.symbols.items in
+    omega (
+      arith,
+      length-append own (placed_symbols (number + 1) objects),
+      length-placed number 0 object.symbols.items object.symbols.items,
+      length-placed_symbols (number + 1) objects,
+    )
 
 -- a symbol as a contract sees it
 abbrev pub named_of : List (List ℕ) → NumberedSymbol → Named
@@ -197,24 +205,125 @@ symbol_past texts objects symbols site is all apart past =
 
 -- ---- the symbol that a name and a position pick
 
-not_past : {A : Type 0} (xs : List A) (o : ℕ) → o < length xs → slice_get xs o ≡ None → ⊥
-not_past [] o below none = omega (arith, below)
-not_past (x ∷ xs) zero below none = let no : ⊥ = cc in no
-not_past (x ∷ xs) (suc o) below none = not_past xs o (omega (arith, below)) none
+not_within : {A : Type 0} (xs : List A) (o : ℕ) → slice_get xs o ≡ None → length xs ≤ o
+not_within [] o none = omega arith
+not_within (x ∷ xs) zero none = let no : ⊥ = cc in absurd no
+not_within (x ∷ xs) (suc o) none = omega (arith, not_within xs o none)
 
-pub resolved_tabled : {S : Type 0} (texts : List (List ℕ)) (objects : List NumberedObject) (tables : List (IndexMap ℕ (List ℕ) S))
-    (o place number : ℕ) (name : List ℕ) (table : IndexMap ℕ (List ℕ) S) (found : Option (List ℕ)) →
-    All (HasTexts texts) objects → IsApart texts → HasSites objects tables → position (bytes_eq name) texts ≡ Some number →
-    slice_get tables o ≡ Some table → get nat_eq table number ≡ found →
-    resolved (names_from texts objects) o name place ≡ picked (sites_in found) place
-resolved_tabled texts objects tables o place number name table found all apart has h at_table is = by (slice_get objects o) refl
+-- an object's own symbols of a name have the sites of that name
+placed_own : (number site object place : ℕ) (symbols rest : List ℕ) →
+    sites_of object (named_from number site (placed object place symbols rest)) ≡ sites_where (λ other. other == number) site rest
+placed_own number site object place symbols [] = refl
+placed_own number site object place symbols (name ∷ rest) =
+    by (name == number) refl (placed_own number (suc site) object (place + 1) symbols rest)
   where
+    by : (b : Bool) → (name == number) ≡ b →
+        sites_of object (named_from number (suc site) (placed object (place + 1) symbols rest)) ≡ sites_where (λ other. other == number) (suc site) rest →
+        sites_of object (named_from number site (placed object place symbols (name ∷ rest))) ≡ sites_where (λ other. other == number) site (name ∷ rest)
+    by true e rest_is = rw (e, eq-eqb object object refl) (ap (λ sites. site ∷ sites) rest_is)
+    by false e rest_is = rw e rest_is
+
+-- and no other object has them
+placed_other : (number site object other place : ℕ) (symbols rest : List ℕ) → (object == other) ≡ false →
+    sites_of other (named_from number site (placed object place symbols rest)) ≡ []
+placed_other number site object other place symbols [] differ = refl
+placed_other number site object other place symbols (name ∷ rest) differ =
+    by (name == number) refl (placed_other number (suc site) object other (place + 1) symbols rest differ)
+  where
+    by : (b : Bool) → (name == number) ≡ b →
+        sites_of other (named_from number (suc site) (placed object (place + 1) symbols rest)) ≡ [] →
+        sites_of other (named_from number site (placed object place symbols (name ∷ rest))) ≡ []
+    by true e none = rw (e, differ) none
+    by false e none = rw e none
+
+-- the symbols of a name in the first object, and in those behind it
+parts : (number site k other : ℕ) (object : NumberedObject) (objects : List NumberedObject) →
+    sites_of other (named_from number site (placed_symbols k (object ∷ objects)))
+    ≡ sites_of other (named_from number site (placed k 0 object.symbols.items object.symbols.items))
+    ++ sites_of other (named_from number (site + length object.symbols.items) (placed_symbols (k + 1) objects))
+parts number site k other object objects =
+    let own = placed k 0 object.symbols.items object.symbols.items in
+    let size : length (placed k 0 object.symbols.items object.symbols.items) ≡ length object.symbols.items = length-placed k 0 object.symbols.items object.symbols.items in
+    ap (sites_of other) (named_from-append number site own (placed_symbols (k + 1) objects))
+    ∙ (sites_of-append other (named_from number site own) (named_from number (site + length own) (placed_symbols (k + 1) objects))
+    ∙ ap (λ n. sites_of other (named_from number site own) ++ sites_of other (named_from number (site + n) (placed_symbols (k + 1) objects))) size)
+
+-- an object before all of these has none of their symbols
+before_all : (number site k other : ℕ) (objects : List NumberedObject) → other < k →
+    sites_of other (named_from number site (placed_symbols k objects)) ≡ []
+before_all number site k other [] below = refl
+before_all number site k other (object ∷ objects) below =
+    let differ : (k == other) ≡ false = ne_eqb k other (λ same. let no : ⊥ = omega (arith, below, same) in no) in
+    parts number site k other object objects
+    ∙ rw (
+      placed_other number site k other 0 object.symbols.items object.symbols.items differ,
+      before_all number (site + length object.symbols.items) (k + 1) other objects (omega (arith, below)),
+    ) refl
+
+behind_all : (number site k o : ℕ) (objects : List NumberedObject) → length objects ≤ o →
+    sites_of (k + o) (named_from number site (placed_symbols k objects)) ≡ []
+behind_all number site k o [] past = refl
+behind_all number site k zero (object ∷ objects) past = absurd (omega (arith, past))
+behind_all number site k (suc o) (object ∷ objects) past =
+    let differ : (k == k + suc o) ≡ false = ne_eqb k (k + suc o) (λ same. let no : ⊥ = omega (arith, same) in no) in
+    let next : k + suc o ≡ k + 1 + o = omega arith in
+    parts number site k (k + suc o) object objects
+    ∙ rw (
+      placed_other number site k (k + suc o) 0 object.symbols.items object.symbols.items differ,
+      next,
+      behind_all number (site + length object.symbols.items) (k + 1) o objects (omega (arith, past)),
+    ) refl
+
+own_sites : (number site k o : ℕ) (objects : List NumberedObject) (object : NumberedObject) → slice_get objects o ≡ Some object →
+    sites_of (k + o) (named_from number site (placed_symbols k objects))
+    ≡ sites_where (λ other. other == number) (site + numbered_first_site objects o) object.symbols.items
+own_sites number site k o [] object here = let no : ⊥ = cc in absurd no
+own_sites number site k zero (x ∷ objects) object here =
+    let same : x ≡ object = cc in
+    let own : k + 0 ≡ k = omega arith in
+    let first : site + 0 ≡ site = omega arith in
+    rw own (parts number site k k x objects
+    ∙ rw (
+      placed_own number site k 0 x.symbols.items x.symbols.items,
+      before_all number (site + length x.symbols.items) (k + 1) k objects (omega arith),
+      first,
+      ← same,
+    ) (append-nil (sites_where (λ other. other == number) site x.symbols.items)))
+own_sites number site k (suc o) (x ∷ objects) object here =
+    let differ : (k == k + suc o) ≡ false = ne_eqb k (k + suc o) (λ same. let no : ⊥ = omega (arith, same) in no) in
+    let next : k + suc o ≡ k + 1 + o = omega arith in
+    let first : site + (length x.symbols.items + numbered_first_site objects o) ≡ site + length x.symbols.items + numbered_first_site objects o = omega arith in
+    parts number site k (k + suc o) x objects
+    ∙ rw (
+      placed_other number site k (k + suc o) 0 x.symbols.items x.symbols.items differ,
+      next,
+      first,
+    ) (own_sites number (site + length x.symbols.items) (k + 1) o objects object here)
+
+pub resolved_tabled : (texts : List (List ℕ)) (objects : List NumberedObject) (symbols : List NumberedSymbol)
+    (o place number : ℕ) (name : List ℕ) (named : List NamedSite) →
+    All (HasTexts texts) objects → IsApart texts → symbols ≡ placed_symbols 0 objects → position (bytes_eq name) texts ≡ Some number →
+    named ≡ named_from number 0 symbols →
+    resolved (names_from texts objects) o name place ≡ picked (sites_of o named) place
+resolved_tabled texts objects symbols o place number name named all apart table h is = by (slice_get objects o) refl
+  where
+    sites_are : sites_of o named ≡ sites_of o (named_from number 0 (placed_symbols 0 objects))
+    sites_are = ap (sites_of o) (is ∙ ap (named_from number 0) table)
+
+    plain : 0 + o ≡ o
+    plain = omega arith
+
+    first : 0 + numbered_first_site objects o ≡ numbered_first_site objects o
+    first = omega arith
+
     by : (here : Option NumberedObject) → slice_get objects o ≡ here →
-        resolved (names_from texts objects) o name place ≡ picked (sites_in found) place
-    by None none = absurd (not_past objects o (omega (arith, slice_get_within tables o table at_table, has.each)) none)
+        resolved (names_from texts objects) o name place ≡ picked (sites_of o named) place
+    by None none =
+        let past : length objects ≤ o = not_within objects o none in
+        resolved_past texts objects o place name past ∙ sym (ap (λ sites. picked sites place) (sites_are ∙ rw plain at (behind_all number 0 0 o objects past)))
     by (Some object) here =
         resolved_found texts objects o place number name object all apart h here
-        ∙ ap (λ sites. picked sites place) (sym (has.sites o object table here at_table number) ∙ ap sites_in is)
+        ∙ sym (ap (λ sites. picked sites place) (sites_are ∙ rw (plain, first) at (own_sites number 0 0 o objects object here)))
 
 -- ---- a flag
 

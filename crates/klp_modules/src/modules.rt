@@ -8,6 +8,7 @@ ghost use Rattle.klp_modules.specs.Kept.{texts_of, text_at, AddsName, AddsObject
 ghost use Rattle.klp_modules.specs.Undo.{put_back};
 
 use crate::fault::SymbolFault;
+use crate::named_sites::pick;
 use crate::numbered::NumberedObject;
 use crate::tables::Tables;
 use indexmap::IndexSet;
@@ -55,7 +56,7 @@ impl Modules {
         let mut loaded = vec![in alloc; false; usize::from(image.objects())]?;
         loaded[0] = true;
         let (names, objects) = numbered_objects(alloc, image)?;
-        let tables = Tables::new(alloc, &objects)?;
+        let tables = Tables::new(alloc, names.len(), &objects)?;
         Ok(Modules {
             names,
             objects,
@@ -131,20 +132,17 @@ impl Modules {
     /// the only symbol of that name, and n the n-th in the object's order (livepatch, Metadata). `Err` says why no
     /// symbol is picked; if there is no such object, that is `Missing`.
     ///
-    /// It takes two look-ups, and no walk over the symbols.
+    /// It takes a look-up, and a walk over the symbols of that name alone.
     pub fn resolve(&self, object: ObjId, name: &str, position: u32) -> Result<Site, SymbolFault>
         ensures { result ≡ resolved self.now.names object name.now position }
     {
         let Some(number) = self.names.get_index_of(name) else {
             return Err(SymbolFault::Missing);
         };
-        let Some(table) = self.tables.sites.get(usize::from(object.0)) else {
+        let Some(sites) = self.tables.sites.get(number) else {
             return Err(SymbolFault::Missing);
         };
-        let Some(sites) = table.get(&number) else {
-            return Err(SymbolFault::Missing);
-        };
-        sites.pick(position)
+        pick(sites, object, position)
     }
 
     /// Returns the symbol of a site: its object, its name, and its position, from 1, among the symbols of that name

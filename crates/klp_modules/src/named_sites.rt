@@ -1,68 +1,52 @@
-ghost use Rattle.std.specs.Prelude.{◌≡◌, [], ◌∷◌, ◌++◌, OnOk};
+ghost use Rattle.std.specs.Prelude.{◌≡◌, slice_get};
 ghost use Rattle.klp_modules.specs.Names.{picked};
+ghost use Rattle.klp_modules.specs.NamedSites.{sites_of};
 
 use crate::fault::SymbolFault;
-use klp_types::Site;
-use std::alloc::{AllocError, Global};
-use std::marker::Model;
+use klp_types::{ObjId, Site};
+use smallvec::SmallVec;
 
-/// The sites of the symbols of one name in an object, in order. The first has its place in the value: few names have
-/// a second one, for which memory is taken.
-#[derive(Drop)]
-pub struct NamedSites {
-    first: Option<Site>,
-    others: Vec<Site>,
+/// A symbol of a name: its object, and its site.
+#[derive(Clone, Copy, Default)]
+pub struct NamedSite {
+    pub object: ObjId,
+    pub site: Site,
 }
 
-impl Model for NamedSites {
-    ghost use Rattle.std.specs.Prelude.{ℕ, List, [], ◌≡◌, None};
-    ghost use Rattle.klp_modules.specs.NamedSites.{sites_from};
+/// The symbols of a name, of all objects in order. Few names have a second one, for which memory is taken.
+pub type NamedSites = SmallVec<NamedSite, 1>;
 
-    ghost Value = { List ℕ };
-
-    ghost view = { λ s. sites_from s.first s.others.items };
-
-    ghost invariant = { λ s. s.first ≡ None → s.others.items ≡ [] };
+/// Returns the site of one of the object's symbols, which are counted from 0. `None` if it has fewer.
+fn site_of(sites: &[NamedSite], object: ObjId, number: usize) -> Option<Site>
+    ensures { result ≡ slice_get (sites_of object sites.now) number }
+{
+    let mut left = number;
+    for named in sites {
+        if named.object == object {
+            if left == 0 {
+                return Some(named.site);
+            }
+            left -= 1;
+        }
+    }
+    None
 }
 
-impl NamedSites {
-    /// Creates the empty list, which takes no memory.
-    pub fn new(alloc: Global) -> NamedSites
-        ensures { result ≡ [] }
-    {
-        NamedSites {
-            first: None,
-            others: Vec::new(alloc),
-        }
-    }
-
-    /// Adds the next site. `Err` if memory is refused.
-    pub fn push(&mut self, site: Site) -> Result<(), AllocError>
-        ensures { OnOk result (self.new ≡ self.old ++ site ∷ []) }
-    {
-        if self.first.is_none() {
-            self.first = Some(site);
-        } else {
-            self.others.push(site)?;
-        }
-        Ok(())
-    }
-
-    /// Picks one of the sites by its position: 0 means the only one, n the n-th.
-    pub fn pick(&self, position: u32) -> Result<Site, SymbolFault>
-        ensures { result ≡ picked self.now position }
-    {
-        let Some(first) = self.first else {
-            return Err(SymbolFault::Missing);
+/// Picks one of the object's symbols by its position: 0 means the only one, n the n-th.
+pub fn pick(sites: &[NamedSite], object: ObjId, position: u32) -> Result<Site, SymbolFault>
+    ensures { result ≡ picked (sites_of object sites.now) position }
+{
+    let Some(first) = site_of(sites, object, 0) else {
+        return Err(SymbolFault::Missing);
+    };
+    if position > 0 {
+        return match site_of(sites, object, position as usize - 1) {
+            Some(site) => Ok(site),
+            None => Err(SymbolFault::NoPosition),
         };
-        match position {
-            0 if self.others.is_empty() => Ok(first),
-            0 => Err(SymbolFault::Ambiguous),
-            1 => Ok(first),
-            _ => match self.others.get(position as usize - 2) {
-                Some(site) => Ok(*site),
-                None => Err(SymbolFault::NoPosition),
-            },
-        }
+    }
+    match site_of(sites, object, 1) {
+        Some(_) => Err(SymbolFault::Ambiguous),
+        None => Ok(first),
     }
 }

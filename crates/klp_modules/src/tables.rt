@@ -1,72 +1,76 @@
 //! The tables for look-ups. Each is made once, from the objects, since these never change.
 
-ghost use Rattle.std.specs.Prelude.{◌≡◌, ◌+◌, ◌≤◌, ◌++◌, ◌==◌, length, count_by, IfOk, OnOk};
+ghost use Rattle.std.specs.Prelude.{◌≡◌, ◌+◌, ◌≤◌, ◌<◌, ◌++◌, ◌==◌, [], length, count_by, IfOk, OnOk};
 ghost use Rattle.klp_types.specs.declared.limits.TheConstants.{MAX_OBJECTS, MAX_SITES};
 ghost use Rattle.klp_modules.specs.Kept.{symbol_count};
-ghost use Rattle.klp_modules.specs.Tables.{IsSiteTable, HasSites, AreTabled, placed, placed_symbols};
+ghost use Rattle.klp_modules.specs.declared.numbered.NumberedSymbol.{NumberedSymbol as NumberedSymbolValue};
+ghost use Rattle.std.specs.List.{All};
+ghost use Rattle.klp_modules.specs.Tables.{HasSites, AreTabled, placed, placed_symbols};
 
-use crate::named_sites::NamedSites;
+use crate::named_sites::{NamedSite, NamedSites};
 use crate::numbered::{NumberedObject, NumberedSymbol};
-use indexmap::IndexMap;
 use klp_types::{ObjId, Site};
 use std::alloc::{AllocError, Global};
 
 /// The tables for objects with numbered names.
 #[derive(Drop)]
 pub struct Tables {
-    /// By object, for the number of each name the sites of its symbols of that name, in order.
-    pub sites: Vec<IndexMap<usize, NamedSites>>,
+    /// By the number of a name, the symbols of that name.
+    pub sites: Vec<NamedSites>,
     /// By site, its symbol.
     pub symbols: Vec<NumberedSymbol>,
 }
 
 impl Tables {
-    /// Makes the tables for these objects. `Err` if memory is refused.
-    pub fn new(alloc: Global, objects: &[NumberedObject]) -> Result<Tables, AllocError>
+    /// Makes the tables for these objects, whose names are numbers below `names`. `Err` if memory is refused.
+    pub fn new(
+        alloc: Global,
+        names: usize,
+        objects: &[NumberedObject],
+    ) -> Result<Tables, AllocError>
         requires few_objects { length objects.now ≤ MAX_OBJECTS }
         requires few_symbols { symbol_count objects.now ≤ MAX_SITES }
-        ensures { IfOk result (AreTabled objects.now) }
+        requires names { All (λ (s : NumberedSymbolValue). s.name < names) (placed_symbols 0 objects.now) }
+        ensures { IfOk result (AreTabled names objects.now) }
     {
-        let sites = sites_by_object(alloc, objects)?;
         let symbols = symbols_by_site(alloc, objects)?;
+        let sites = sites_by_name(alloc, names, &symbols)?;
         Ok(Tables { sites, symbols })
     }
 }
 
-/// Makes a table for each object, from the number of a name to the sites of the object's symbols of that name. A
-/// position minus 1 is then an index.
-fn sites_by_object(
-    alloc: Global,
-    objects: &[NumberedObject],
-) -> Result<Vec<IndexMap<usize, NamedSites>>, AllocError>
-    requires { symbol_count objects.now ≤ MAX_SITES }
-    ensures { IfOk result (λ tables. HasSites objects.now tables.items) }
+/// Makes a list for each of so many names, without a symbol.
+fn without_sites(alloc: Global, names: usize) -> Result<Vec<NamedSites>, AllocError>
+    ensures count { IfOk result (λ sites. length sites.items ≡ names) }
+    ensures sites { IfOk result (λ sites. HasSites [] sites.items) }
 {
-    let mut tables = Vec::new(alloc);
-    let mut first = 0;
-    for object in objects {
-        tables.push(sites_by_name(alloc, first, &object.symbols)?)?;
-        first += object.symbols.len() as u16;
+    let mut sites = Vec::with_capacity(alloc, names)?;
+    for _ in 0..names {
+        sites.push(NamedSites::new(alloc))?;
     }
-    Ok(tables)
+    Ok(sites)
 }
 
-/// Makes the table for one object, whose first symbol has the site `first`: from the number of a name to the sites
-/// of the symbols of that name, in order.
+/// Makes a list for each of so many names: its symbols, of all objects in order. The names of the symbols are among
+/// them.
 fn sites_by_name(
     alloc: Global,
-    first: u16,
-    symbols: &[usize],
-) -> Result<IndexMap<usize, NamedSites>, AllocError>
-    requires { first + length symbols.now ≤ MAX_SITES }
-    ensures { IfOk result (IsSiteTable first symbols.now) }
+    names: usize,
+    symbols: &[NumberedSymbol],
+) -> Result<Vec<NamedSites>, AllocError>
+    requires names { All (λ (s : NumberedSymbolValue). s.name < names) symbols.now }
+    requires few { length symbols.now ≤ MAX_SITES }
+    ensures count { IfOk result (λ sites. length sites.items ≡ names) }
+    ensures sites { IfOk result (λ sites. HasSites symbols.now sites.items) }
 {
-    let mut table = IndexMap::with_capacity(alloc, symbols.len())?;
-    for (place, name) in symbols.iter().enumerate() {
-        let sites = table.entry(*name)?.or_insert(NamedSites::new(alloc));
-        sites.push(Site(first + place as u16))?;
+    let mut sites = without_sites(alloc, names)?;
+    for (place, symbol) in symbols.iter().enumerate() {
+        sites[symbol.name].push(NamedSite {
+            object: symbol.object,
+            site: Site(place as u16),
+        })?;
     }
-    Ok(table)
+    Ok(sites)
 }
 
 /// Makes a table with the symbol of each site. An administrator names a site by its symbol.

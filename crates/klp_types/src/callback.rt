@@ -12,3 +12,10 @@ pub enum Which {
     /// Post-unpatch: after the object was unpatched and no task runs the patch any more. It undoes what `Pre` did.
     PostUn,
 }
+
+/// Returns pre-patch, the first kind. It fills the unused elements of an array of kinds; none of these is ever read.
+impl Default for Which {
+    fn default() -> Self {
+        Which::Pre
+    }
+}

@@ -30,6 +30,9 @@ pub const MAX_FUNCTIONS: usize = 64;
 /// how many records enabling a patch logs.
 pub const MAX_STATES: usize = 16;
 
+/// How many kinds of callbacks there are: an object of a patch has at most one of each (callbacks, Callbacks).
+pub const CALLBACK_KINDS: usize = 4;
+
 /// How many edits a script may have. This bounds the records of a callback, and so those of an event.
 pub const MAX_EDITS: usize = 16;
 

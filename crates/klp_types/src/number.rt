@@ -2,7 +2,7 @@ use std::marker::Model;
 
 /// An object, by its index in the image from 0. Object 0 is `vmlinux`, the others are modules. Contracts see just
 /// the number, so that definitions use plain numbers (docs/DECISIONS.md, "Numbers of objects, sites and patches").
-#[derive(Clone, Copy, Debug, PartialEq, Eq)]
+#[derive(Clone, Copy, Debug, Default, PartialEq, Eq)]
 pub struct ObjId(pub u8);
 
 impl Model for ObjId {
@@ -17,7 +17,7 @@ impl Model for ObjId {
 
 /// A site, which is one symbol of one object. Sites are numbered from 0 over the symbols of all objects, in the
 /// image's order, loaded or not. So a site keeps its number while modules are loaded and unloaded.
-#[derive(Clone, Copy, Debug, PartialEq, Eq)]
+#[derive(Clone, Copy, Debug, Default, PartialEq, Eq)]
 pub struct Site(pub u16);
 
 impl Model for Site {
