@@ -20,8 +20,8 @@ use std::mem::replace;
 
 /// The names of all objects and symbols, loaded or not, and which objects are loaded.
 ///
-/// Each name is stored once, and each look-up uses a table: its cost doesn't grow with the number of objects or
-/// symbols. Only `new` takes memory.
+/// Each name is stored once, in a table by which it is found. A look-up then walks over the objects, of which there are
+/// few, or over the symbols of that name. Only `new` takes memory.
 #[derive(Drop)]
 pub struct Modules {
     /// Every name of an object or a symbol. A name's index in this set is its number.
