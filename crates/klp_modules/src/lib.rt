@@ -6,8 +6,9 @@
 //!
 //! The model is the image's names in order, and the loaded flags (`specs/Names`). `resolve` returns the site that a
 //! name and a position pick, or why there is none. `set_loaded` changes one flag and returns its undo record
-//! (`specs/Undo`). Each name is stored once and look-ups use tables (`src/tables.rt`), so a look-up walks over
-//! no symbols but those of its name (docs/DECISIONS.md, "Names kept once"). `laws` connects the sites of the names with those of the image.
+//! (`specs/Undo`). Each name is stored once and look-ups use tables (`src/tables.rt`), so a look-up walks over no
+//! symbols but those of its name (docs/DECISIONS.md, "Names kept once"). `laws` connects the sites of the names with
+//! those of the image.
 #![tactic(auto)]
 
 mod fault;
