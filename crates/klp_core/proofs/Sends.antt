@@ -25,7 +25,6 @@ use Rattle.klp_callback.specs.contracts.boxed.Boxed as boxed
 use Rattle.klp_callback.specs.contracts.boxed.Boxed.TheInside as boxed_inside
 use Rattle.klp_callback.specs.contracts.counted_box.CountedBox as counted_box
 use Rattle.klp_catalog.specs.contracts.patch.CatalogPatch as patch
-use Rattle.klp_words.specs.contracts.names.Names as names
 use Rattle.klp_catalog.specs.contracts.catalog.Catalog as catalog
 use Rattle.klp_catalog.specs.contracts.catalog.Catalog.TheInside as catalog_inside
 use Rattle.klp_core.specs.contracts.manager.Manager as manager
@@ -61,9 +60,6 @@ records_send = search (sendable, crosses) depth 60 fits 100000
 patch_send : IsSend patch.the_row
 patch_send = search (sendable, crosses) depth 60 fits 100000
 
-names_send : IsSend names.the_row
-names_send = search (sendable, crosses) depth 60 fits 100000
-
 pub parts_send : IsSend parts.the_row
 parts_send = declared_send
     parts.the_type
@@ -79,7 +75,7 @@ module _ (T : RattleType) (g : Ghosts T.Denot) (s : Sends (table_of T.Denot g)) 
   boxed_send = view_send _ _ _ _ _ (declared_send (boxed_inside.the_type T g) (counted_send, tt))
 
   pub catalog_send : IsSend (catalog.the_row T g)
-  catalog_send = view_send _ _ _ _ _ (declared_send (catalog_inside.the_type T g) (search (sendable, crosses) depth 60 fits 100000, (search (sendable, crosses) depth 60 fits 100000, (row _ names_send, (row _ (Vec-send _ patch_send), (row _ (Vec-send _ boxed_send), tt))))))
+  catalog_send = view_send _ _ _ _ _ (declared_send (catalog_inside.the_type T g) (search (sendable, crosses) depth 60 fits 100000, (search (sendable, crosses) depth 60 fits 100000, (row _ (Vec-send _ patch_send), (row _ (Vec-send _ boxed_send), tt)))))
 
   pub manager_send : IsSend (manager.the_row T g)
   manager_send = view_send _ _ _ _ _ (declared_send (inside.the_type T g) (parts_send, (row _ catalog_send, (row _ journal_send, tt))))
