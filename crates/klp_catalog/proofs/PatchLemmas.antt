@@ -1,11 +1,12 @@
 -- The patch of a number, as a look-up finds it.
-use Rattle.std.proofs.Common.{◌≡◌, ℕ, ◌≤◌, ◌==◌, List, [], ◌∷◌, ◌++◌, replicate, length, map, slice_get, Some, None, Option, refl, sym, ap, subst, ◌∙◌, arith, Bor, Bool, true, ◌&&◌, option_map}
-use Rattle.std.specs.Prelude.{position, MatchOption, option_and_then}
-use Rattle.std.specs.List.{list_all}
+use Rattle.std.proofs.Common.{◌≡◌, ℕ, ◌+◌, ◌≤◌, ◌==◌, List, [], ◌∷◌, ◌++◌, replicate, length, map, slice_get, Some, None, Option, refl, sym, ap, subst, ◌∙◌, arith, Bor, Bool, true, ◌&&◌, option_map}
+use Rattle.std.specs.Prelude.{position, MatchOption, option_and_then, not, ◌||◌}
+use Rattle.std.specs.List.{list_all, list_any}
 use Rattle.std.specs.Slice.{IsItemAt}
 use Rattle.std.proofs.lemmas.List.{length-map, map-append}
 use Rattle.std.proofs.lemmas.Option.{slice_get_past, slice_get_within, slice_get-map}
-use Rattle.klp_types.specs.Setting.{PatchObject}
+use Rattle.klp_types.specs.Setting.{PatchObject, Callback}
+use Rattle.klp_types.specs.Entries.{is_empty}
 use Rattle.klp_types.specs.Script.{Script}
 use Rattle.klp_types.specs.declared.callback.Which.{Which}
 use Rattle.klp_types.specs.Compatible.{SystemState, version_among, is_compatible_with}
@@ -13,9 +14,9 @@ use Rattle.klp_modules.specs.Names.{ObjectNames}
 use Rattle.klp_catalog_text.specs.Plan.{PlanFunction}
 use Rattle.klp_catalog.specs.Catalog.{CatalogFunction, Catalog, patch_object, targets_of_patch, resolved_function, functions_of_patch}
 use Rattle.klp_catalog.specs.States.{states_of, is_cumulative, is_compatible}
-use Rattle.klp_catalog.specs.Runs.{objects_at}
-use Rattle.klp_catalog.specs.Stored.{StoredTarget, StoredPatch, number_in, number_of, target_in, patch_in, patches_in, targets_at, stored_functions, stored_states, stored_replaces, IsStored}
-use Rattle.klp_catalog.specs.Patch.{objects_in_order, IsPatch, IsAbsent, KeepsTo}
+use Rattle.klp_catalog.specs.Runs.{objects_at, has_callbacks}
+use Rattle.klp_catalog.specs.Stored.{StoredTarget, StoredPatch, number_in, number_of, callbacks_from, target_in, patch_in, patches_in, targets_at, stored_functions, stored_states, stored_replaces, IsStored}
+use Rattle.klp_catalog.specs.Patch.{objects_in_order, kinds_of, IsPatch, IsAbsent, KeepsTo}
 use Rattle.klp_catalog.proofs.CatalogLemmas.{catalog_of, states_are, replaces_is, functions_are, in_setting, few_functions, apart_functions, patch_in_object, few_targets, few_states}
 use Rattle.klp_catalog.proofs.RunLemmas.{objects_are, place_is, seen_here}
 use Rattle.klp_catalog.proofs.PlaceLemmas.{object_once}
@@ -30,6 +31,15 @@ kept_objects : (names : List ObjectNames) (scripts : List Script) (targets : Lis
     → map (λ (t : StoredTarget). t.object) targets ≡ map (λ (o : PatchObject). o.object) (map (patch_object names) (map (target_in scripts) targets))
 kept_objects names scripts [] = refl
 kept_objects names scripts (target ∷ targets) = ap (target.object ∷◌) (kept_objects names scripts targets)
+
+kinds_from : (scripts : List Script) (n : ℕ) (kinds : List Which) → kinds ≡ map (λ (c : Callback). c.which) (callbacks_from scripts n kinds)
+kinds_from scripts n [] = refl
+kinds_from scripts n (which ∷ kinds) = ap (which ∷◌) (kinds_from scripts (n + 1) kinds)
+
+kept_kinds : (names : List ObjectNames) (scripts : List Script) (targets : List StoredTarget)
+    → map (λ (t : StoredTarget). t.kinds) targets ≡ map kinds_of (map (patch_object names) (map (target_in scripts) targets))
+kept_kinds names scripts [] = refl
+kept_kinds names scripts (target ∷ targets) = λ i. kinds_from scripts target.first target.kinds i ∷ kept_kinds names scripts targets i
 
 each_object : (names : List ObjectNames) (object : ℕ) (functions : List PlanFunction)
     → map (λ (f : CatalogFunction). f.object) (map (resolved_function names object) functions) ≡ replicate (length functions) object
@@ -70,6 +80,8 @@ module _ {names : List ObjectNames} {symbols : List ℕ} (stored : List StoredPa
         states = ap stored_states (sym here) ∙ states_are names stored scripts counts p;
         objects = kept_objects names scripts patch.targets
             ∙ ap (map (λ (o : PatchObject). o.object)) (sym (objects_are names stored scripts counts (catalog_of names stored scripts counts) refl p ∙ ap (λ s. map (patch_object names) (map (target_in scripts) (targets_at s))) here));
+        kinds = kept_kinds names scripts patch.targets
+            ∙ ap (map kinds_of) (sym (objects_are names stored scripts counts (catalog_of names stored scripts counts) refl p ∙ ap (λ s. map (patch_object names) (map (target_in scripts) (targets_at s))) here));
         places = λ object. ap (λ s. position (λ (t : StoredTarget). t.object == object) (targets_at s)) (sym here)
             ∙ sym (place_is names stored scripts counts (catalog_of names stored scripts counts) refl p object);
       })
@@ -130,3 +142,20 @@ lives_with_none catalog p other none =
 
 pub compatible_next : (catalog : Catalog) (p other : ℕ) (rest : List ℕ) → lives_with catalog p other ≡ true → is_compatible catalog p (other ∷ rest) ≡ is_compatible catalog p rest
 compatible_next catalog p other rest lives = ap (λ b. b && is_compatible catalog p rest) lives
+
+some_kind : (kinds : List Which) (callbacks : List Callback) → kinds ≡ map (λ (c : Callback). c.which) callbacks → is_empty kinds ≡ is_empty callbacks
+some_kind kinds [] same = ap is_empty same
+some_kind kinds (callback ∷ callbacks) same = ap is_empty same
+
+any_kinds : (objects : List PatchObject) → list_any (λ (kinds : List Which). not (is_empty kinds)) (map kinds_of objects) ≡ list_any (λ (o : PatchObject). not (is_empty o.callbacks)) objects
+any_kinds [] = refl
+any_kinds (object ∷ objects) = λ i. not (some_kind (kinds_of object) object.callbacks refl i) || any_kinds objects i
+
+any_targets : (targets : List StoredTarget) → list_any (λ (t : StoredTarget). not (is_empty t.kinds)) targets ≡ list_any (λ (kinds : List Which). not (is_empty kinds)) (map (λ (t : StoredTarget). t.kinds) targets)
+any_targets [] = refl
+any_targets (target ∷ targets) = ap (not (is_empty target.kinds) ||◌) (any_targets targets)
+
+-- whether a patch that is kept has a callback
+pub kept_callbacks : (catalog : Catalog) (p : ℕ) (patch : StoredPatch) → IsPatch catalog p patch → list_any (λ (t : StoredTarget). not (is_empty t.kinds)) patch.targets ≡ has_callbacks catalog p
+kept_callbacks catalog p patch is =
+    any_targets patch.targets ∙ ap (list_any (λ (kinds : List Which). not (is_empty kinds))) is.kinds ∙ any_kinds (objects_at catalog p)

@@ -2,7 +2,8 @@
 use Rattle.std.specs.Prelude.{◌≡◌, ℕ, ◌<◌, ◌≤◌, ◌==◌, false, List, [], ◌∷◌, ◌++◌, length, map, position, replicate}
 use Rattle.std.specs.List.{All, count_by}
 use Rattle.klp_types.specs.declared.limits.TheConstants.{MAX_TARGETS, MAX_FUNCTIONS, MAX_STATES}
-use Rattle.klp_types.specs.Setting.{PatchObject, all_functions}
+use Rattle.klp_types.specs.declared.callback.Which.{Which}
+use Rattle.klp_types.specs.Setting.{PatchObject, Callback, all_functions}
 use Rattle.klp_catalog.specs.Catalog.{CatalogFunction, Catalog, catalog_functions, setting_function, has_same_site}
 use Rattle.klp_catalog.specs.States.{states_of, is_cumulative}
 use Rattle.klp_catalog.specs.Runs.{objects_at, place_of}
@@ -14,6 +15,10 @@ abbrev pub objects_in_order : List StoredTarget → List ℕ
 objects_in_order [] = []
 objects_in_order (target ∷ targets) = replicate (length target.functions) target.object ++ objects_in_order targets
 
+-- the kinds of an object's callbacks, in order
+abbrev pub kinds_of : PatchObject → List Which
+kinds_of object = map (λ (c : Callback). c.which) object.callbacks
+
 -- `patch` is the stored patch with this number
 pub record IsPatch (catalog : Catalog) (number : ℕ) (patch : StoredPatch) : Type 0 where
   pub there : number < length catalog.patches
@@ -24,6 +29,8 @@ pub record IsPatch (catalog : Catalog) (number : ℕ) (patch : StoredPatch) : Ty
   pub states : patch.states ≡ states_of catalog number
   -- the same objects in the same order, so an index in one list is the index in the other
   pub objects : map (λ (t : StoredTarget). t.object) patch.targets ≡ map (λ (o : PatchObject). o.object) (objects_at catalog number)
+  -- the kinds of the callbacks of each object
+  pub kinds : map (λ (t : StoredTarget). t.kinds) patch.targets ≡ map kinds_of (objects_at catalog number)
   pub places : (object : ℕ) → position (λ (t : StoredTarget). t.object == object) patch.targets ≡ place_of object (objects_at catalog number)
 
 -- there is no patch with this number: it replaces nothing, changes nothing and names no state

@@ -1,9 +1,11 @@
 -- The callbacks of a catalog's patches, and how often each of them ran.
-use Rattle.std.specs.Prelude.{◌≡◌, ℕ, ◌+◌, ◌==◌, List, [], ◌∷◌, ◌++◌, length, map, position, slice_get, Option, Some, None, option_and_then}
+use Rattle.std.specs.Prelude.{◌≡◌, ℕ, ◌+◌, ◌==◌, not, Bool, List, [], ◌∷◌, ◌++◌, length, map, position, slice_get, Option, Some, None, option_and_then}
+use Rattle.std.specs.List.{list_any}
 use Rattle.klp_types.specs.declared.callback.Which.{Which}
 use Rattle.klp_types.specs.declared.record.Record.{Record}
 use Rattle.klp_types.specs.Setting.{PatchObject, Callback, patch_objects}
 use Rattle.klp_types.specs.Callbacks.{Call, script_for, call_of, after_calls}
+use Rattle.klp_types.specs.Entries.{is_empty}
 use Rattle.klp_types.specs.Records.{RecordList}
 use Rattle.klp_types.specs.Script.{Script, alloc_count}
 use Rattle.klp_types.specs.World.{World}
@@ -25,6 +27,10 @@ objects_at catalog patch = patch_objects (slice_get (patches_of catalog) patch)
 -- the callbacks that a patch has for the object at this index, from 0
 abbrev pub callbacks_at : Catalog → ℕ → ℕ → List Callback
 callbacks_at catalog patch place = callbacks_of (slice_get (objects_at catalog patch) place)
+
+-- whether the patch has a callback for one of its objects
+abbrev pub has_callbacks : Catalog → ℕ → Bool
+has_callbacks catalog patch = list_any (λ (o : PatchObject). not (is_empty o.callbacks)) (objects_at catalog patch)
 
 -- the script of the callback of this kind, if the patch has one for the object
 abbrev pub script_at : Catalog → ℕ → ℕ → Which → Option Script

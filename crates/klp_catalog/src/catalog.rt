@@ -16,7 +16,7 @@ ghost use Rattle.klp_catalog_text.specs.Draft.{patch_names_of};
 ghost use Rattle.klp_catalog.specs.Catalog.{CatalogFunction as FunctionValue, catalog_functions, setting_function};
 ghost use Rattle.klp_catalog.specs.Catalog.{patches_of, has_same_site, some_same_site, new_function_of};
 ghost use Rattle.klp_catalog.specs.States as states;
-ghost use Rattle.klp_catalog.specs.Runs.{HasCounts, objects_at, place_of, script_at, allocs_if, after_runs};
+ghost use Rattle.klp_catalog.specs.Runs.{HasCounts, has_callbacks, objects_at, place_of, script_at, allocs_if, after_runs};
 ghost use Rattle.klp_catalog.specs.Runs.{callback_runs, IsRun};
 ghost use Rattle.klp_catalog.specs.Limits.{AreWithin};
 ghost use Rattle.klp_catalog.specs.Patch.{IsPatch, IsAbsent, KeepsTo};
@@ -300,6 +300,17 @@ impl Catalog {
     {
         let number = patch::number_of(&self.patches, patch, usize::from(place), which)?;
         Some(self.callbacks[number].run(patch, world, log))
+    }
+
+    /// Whether the patch has a callback for one of its objects, loaded or not. Most patches have none, so who asks
+    /// this first saves a look-up for each object and kind. The cost is a look at each object of the patch.
+    pub fn has_callbacks(&self, patch: PatchId) -> bool
+        ensures { result ≡ has_callbacks self.now patch }
+    {
+        match self.get(patch) {
+            Some(found) => found.has_callbacks(),
+            None => false,
+        }
     }
 
     /// Whether the patch has a callback of this kind for the object at this index.

@@ -1,5 +1,6 @@
-ghost use Rattle.std.specs.Prelude.{◌≡◌, ◌≤◌, ◌==◌, length, map, position, is_some, bytes_eq};
-ghost use Rattle.std.specs.List.{list_all};
+ghost use Rattle.std.specs.Prelude.{◌≡◌, ◌≤◌, ◌==◌, not, length, map, position, is_some, bytes_eq};
+ghost use Rattle.std.specs.List.{list_all, list_any};
+ghost use Rattle.klp_types.specs.Entries.{is_empty};
 ghost use Rattle.klp_types.specs.Compatible as compatible;
 ghost use Rattle.klp_types.specs.Compatible.{SystemState as StateValue};
 ghost use Rattle.klp_catalog.specs.Catalog.{CatalogFunction as FunctionValue};
@@ -76,6 +77,13 @@ impl CatalogPatch {
         ensures { result.now ≡ self.now.targets }
     {
         &self.targets
+    }
+
+    /// Whether the patch has a callback for one of its objects.
+    pub(crate) fn has_callbacks(&self) -> bool
+        ensures { result ≡ list_any (λ (t : StoredTarget). not (is_empty t.kinds)) self.now.targets }
+    {
+        self.targets.iter().any(|target| !target.kinds.is_empty())
     }
 
     /// Copies the ids of the system states that the patch names, in the order of the text (system-state). The

@@ -3,10 +3,10 @@ use Rattle.std.proofs.Common.{◌≡◌, ℕ, zero, suc, ◌+◌, ◌-◌, ◌<�
 use Rattle.std.specs.Prelude.{slice_get, option_map, unwrap_or, cond}
 use Rattle.std.specs.Option.{IfSome}
 use Rattle.std.proofs.lemmas.Bool.{lt-ltb, le-ltb, ltb-true, ltb-false, eqb-true, and_right}
-use Rattle.std.proofs.lemmas.List.{length-map, drop_all}
-use Rattle.klp_types.specs.Image.{Symbol, Object, symbols_of, object_of}
+use Rattle.std.proofs.lemmas.List.{drop_all}
+use Rattle.klp_types.specs.Image.{Object, symbols_of, object_of}
 use Rattle.klp_types.specs.Setting.{is_at}
-use Rattle.klp_modules.specs.Names.{names_of, first_site, symbol_names}
+use Rattle.klp_modules.specs.Names.{names_of}
 use Rattle.klp_catalog.specs.Assembled.{IsInObject}
 use Rattle.klp_catalog.proofs.SiteLemmas.{object_of-named}
 use Rattle.klp_sites.specs.Table.{SiteTable}

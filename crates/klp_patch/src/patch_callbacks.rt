@@ -46,6 +46,10 @@ pub fn allocs(catalog: &Catalog, modules: &Modules, patch: PatchId, which: Which
     // so a bound on the records follows
     ensures records { records_of (calls_of patch which (loaded_in catalog.now modules.now patch)) ≤ MAX_KIND_RECORDS }
 {
+    // Most patches have no callbacks, and every event that may run some asks first.
+    if !catalog.has_callbacks(patch) {
+        return 0;
+    }
     let mut sum = 0;
     for place in 0..catalog.target_len(patch) {
         sum += usize::from(allocs_where_loaded(catalog, modules, patch, which, place));

@@ -1,4 +1,4 @@
-use Rattle.std.proofs.Common.{◌+◌, ◌∙◌, ap, arith}
+use Rattle.std.proofs.Common.{◌+◌, ◌∙◌, sym, ap, arith}
 use Rattle.klp_types.specs.Callbacks.{allocs_of}
 use Rattle.klp_patch.specs.Loaded.{is_loaded_in}
 use Rattle.klp_patch.specs.Refusing.{loaded_call}
@@ -7,6 +7,7 @@ use Rattle.klp_patch.specs.Calls.{records_of}
 use Rattle.klp_patch.proofs.CallLemmas.{allocs-append}
 use Rattle.klp_patch.proofs.RanLemmas.{records-append}
 use Rattle.klp_patch.proofs.LoopLemmas.{left_from, next_left}
+use Rattle.klp_patch.proofs.SomeLemmas.{none_run}
 use Rattle.klp_patch.proofs.patch_callbacks.allocs.Goals as goal
 
 pub loop-place-preserved : goal.loop-place-preserved
@@ -25,3 +26,12 @@ loop-place-preserved g c =
       few = omega (arith, c.from-sum.ensures, c.allocs_where_loaded.ensures.limit, c.loop-place.invariant.few);
       records = omega (arith, records, c.allocs_where_loaded.ensures.records, c.loop-place.invariant.records);
     }
+
+pub returns-then-not-has_callbacks-clause-value : goal.returns-then-not-has_callbacks-clause-value
+returns-then-not-has_callbacks-clause-value g c =
+    sym (ap allocs_of (none_run c.args.catalog.now c.args.modules.now c.args.patch c.args.which (sym c.if-not-has_callbacks.ensures)))
+
+pub returns-then-not-has_callbacks-clause-records : goal.returns-then-not-has_callbacks-clause-records
+returns-then-not-has_callbacks-clause-records g c =
+    let none = ap records_of (none_run c.args.catalog.now c.args.modules.now c.args.patch c.args.which (sym c.if-not-has_callbacks.ensures)) in
+    omega (arith, none)

@@ -1,4 +1,4 @@
-use Rattle.std.proofs.Common.{rules, refl, sym, ap, subst, false, List, Some, None, ◌∙◌}
+use Rattle.std.proofs.Common.{rules, refl, sym, ap, subst, false, List, ◌∙◌}
 use Rattle.std.specs.Prelude.{find, ◌==◌}
 use Rattle.klp_types.specs.declared.version.Entry.{Entry}
 use Rattle.klp_stack.specs.Stack.{IsStack, entries_at, entries_of_others}
