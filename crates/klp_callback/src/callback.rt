@@ -15,8 +15,8 @@ pub trait Callback: Drop + Send {
 
     ghost runs_of: { Self → ℕ };
 
-    /// Runs the callback for the patch: makes the edits of its script, logs every row that they change, counts the
-    /// run, and returns the script's status. It takes no memory. A run whose status isn't 0 counts too, and makes no
+    /// Runs the callback for the patch: makes the edits of its script, logs every row that they change, counts the run,
+    /// and returns the script's status. It takes no memory. A run whose status isn't 0 is counted too, but makes no
     /// edit.
     fn run(&mut self, patch: PatchId, world: &mut World, log: &mut Records) -> i32
         requires room { HasRoom world.old log.old (alloc_count (script_of self.old).edits)
@@ -27,8 +27,8 @@ pub trait Callback: Drop + Send {
         ensures changes { Changes world.old world.new log.old log.new (effect patch world.old (script_of self.old))
             (rows_of_script patch world.old (script_of self.old)) };
 
-    /// Returns how many edits of the script add a shadow variable. Callers check for that much room before a run,
-    /// so that no run fails half way.
+    /// Returns how many edits of the script add a shadow variable. Before a run, callers make sure that there is room
+    /// for this many variables, so that no run fails half way.
     fn allocs(&self) -> u16
         ensures { result ≡ alloc_count (script_of self.now).edits };
 
@@ -37,8 +37,8 @@ pub trait Callback: Drop + Send {
     fn runs(&self) -> u64
         ensures { result ≡ runs_of self.now };
 
-    /// Lends the script that the callback runs. A box is asked for it at each run, and a script is too long to copy
-    /// each time (docs/DECISIONS.md, "The script of a boxed callback").
+    /// Returns the script that the callback runs, by reference. A [`Boxed`](crate::Boxed) asks for it at each run, and
+    /// a script is too long to be copied each time (docs/DECISIONS.md, "The script of a boxed callback").
     fn script(&self) -> &Script
         ensures { result.now ≡ script_of self.now };
 }

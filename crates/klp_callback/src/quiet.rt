@@ -10,7 +10,7 @@ use std::marker::Model;
 /// A callback that edits nothing and succeeds. Use it if a callback is required but nothing has to happen.
 #[derive(Drop)]
 pub struct Quiet {
-    /// The empty script, which `script` lends.
+    /// The empty script, to which `script` returns a reference.
     script: Script,
     runs: u64,
 }
@@ -26,7 +26,7 @@ impl Model for Quiet {
 }
 
 impl Quiet {
-    /// Creates a callback that never ran, with the empty script.
+    /// Creates a callback that has never run, with the empty script.
     pub fn new() -> Self
         ensures { result ≡ 0 }
     {

@@ -11,7 +11,7 @@ use std::marker::Model;
 /// refuses its patch.
 #[derive(Drop)]
 pub struct Refusing {
-    /// A script without edits that has the status. `script` lends it.
+    /// The script, which has the status and no edits. `script` returns a reference to it.
     script: Script,
     runs: u64,
 }
@@ -28,7 +28,7 @@ impl Model for Refusing {
 }
 
 impl Refusing {
-    /// Creates a callback that never ran and returns this status. Status 0 refuses nothing.
+    /// Creates a callback that has never run and returns this status. Status 0 refuses nothing.
     pub fn new(status: i32) -> Self
         ensures { result ≡ record { status = status; runs = 0 } }
     {

@@ -23,7 +23,8 @@ impl Model for Scripted {
 }
 
 impl Scripted {
-    /// Creates a callback that never ran, with this script. It owns the script, so that the script can't change.
+    /// Creates a callback that has never run, with this script. The callback owns the script, so the script can't
+    /// change.
     pub fn new(script: Script) -> Self
         ensures { result ≡ record { script = script; runs = 0 } }
     {

@@ -11,17 +11,17 @@ use std::alloc::Global;
 /// Some consecutive items of a list.
 #[derive(Clone, Copy)]
 pub struct Span {
-    /// The first of them.
+    /// The number of the first item, from 0.
     pub from: usize,
-    /// The one after the last.
+    /// The number of the item after the last one.
     pub to: usize,
 }
 
 impl Span {
-    /// No items.
+    /// A span without items.
     pub const EMPTY: Span = Span { from: 0, to: 0 };
 
-    /// Returns these items, or none of them if the list has fewer.
+    /// Returns the items of the span. Returns no item if the list is too short.
     pub fn of<T>(self, items: &[T]) -> &[T]
         ensures { result.now ≡ span_of self items.now }
     {
@@ -29,7 +29,7 @@ impl Span {
     }
 }
 
-/// A line about the patches that are there.
+/// A line of a sample that is about patches.
 #[derive(Clone, Copy)]
 pub enum PatchRow<'a> {
     /// A patch, with its files `enabled` and `transition`.
@@ -41,40 +41,40 @@ pub enum PatchRow<'a> {
         /// Whether `transition` reads 1.
         is_moving: bool,
     },
-    /// An object of the patch above.
+    /// An object that the patch of an earlier line changes.
     Object(&'a [u8]),
-    /// The object above is loaded.
+    /// The object of the line before is loaded.
     Loaded,
-    /// A function of the object above that the patch above changes.
+    /// A function that the patch changes in the object, both named by earlier lines.
     Function {
         /// Its name.
         name: &'a [u8],
-        /// Its position among the symbols of this name; 0 if there is no other.
+        /// Its position among the symbols of this name, or 0 if no other symbol has the name.
         position: u32,
     },
 }
 
-/// A task that a sample names, since it changed.
+/// A task that a sample names because the task changed.
 #[derive(Clone, Copy)]
 pub struct SeenTask<'a> {
     /// The task's line.
     pub task: TaskLine<'a>,
-    /// What the task is inside of, innermost first, in [`Capture::frames`].
+    /// The functions that the task is inside of, innermost first, as a span of [`Capture::frames`].
     pub frames: Span,
 }
 
-/// What a sample shows, without what hasn't changed.
+/// What a sample shows. What hasn't changed since earlier samples isn't repeated.
 #[derive(Clone, Copy)]
 pub struct Sample {
-    /// When it was taken, and what it counts.
+    /// When the sample was taken, and how many tasks it counted.
     pub line: SampleLine,
-    /// The patches, as a sample last listed them, in [`Capture::rows`].
+    /// The latest list of patches up to this sample, as a span of [`Capture::rows`].
     pub patches: Span,
-    /// Whether this sample itself lists them.
+    /// Whether this sample itself lists the patches.
     pub tells_patches: bool,
-    /// The tasks that it names, in [`Capture::seen`].
+    /// The tasks that the sample names, as a span of [`Capture::seen`].
     pub tasks: Span,
-    /// The threads that have ended, in [`Capture::gone`].
+    /// The threads that have ended, as a span of [`Capture::gone`].
     pub gone: Span,
 }
 
@@ -94,30 +94,30 @@ pub struct Capture<'a> {
     pub kernel: &'a [u8],
     /// The files that the kernel didn't show.
     pub missing: Vec<&'a [u8]>,
-    /// The functions that were asked for, though no patch changes them.
+    /// The functions for which `klpcap` was told to look, though no patch changes them.
     pub asked: Vec<&'a [u8]>,
-    /// The lines about patches of all samples.
+    /// The lines about patches, of all samples.
     pub rows: Vec<PatchRow<'a>>,
-    /// The tasks that all samples name.
+    /// The tasks that samples name, of all samples.
     pub seen: Vec<SeenTask<'a>>,
-    /// The functions that all these tasks are inside of.
+    /// The functions that these tasks are inside of.
     pub frames: Vec<FrameLine<'a>>,
     /// The threads that have ended.
     pub gone: Vec<u64>,
     /// The samples, in the order in which they were taken.
     pub samples: Vec<Sample>,
-    /// The kernel's own log, as far as it is about livepatching.
+    /// The lines of the kernel's own log that are about livepatching.
     pub log: Vec<LogLine<'a>>,
     /// Functions with their addresses.
     pub symbols: Vec<SymbolLine<'a>>,
     /// The modules that are loaded, the newest first.
     pub modules: Vec<&'a [u8]>,
-    /// Whether the log has its last line. Else it was cut off.
+    /// Whether the log has its last line. If not, it was cut off.
     pub is_whole: bool,
     begun: Begun,
 }
 
-/// The sample that is being read: where its lines begin in the lists.
+/// The sample that is being read. The numbers say where its lines begin in the lists.
 #[derive(Clone, Copy)]
 struct Begun {
     patches: Span,
@@ -150,7 +150,7 @@ impl<'a> Capture<'a> {
         }
     }
 
-    /// Adds a line about the patches. It belongs to those that the sample lists.
+    /// Adds a line about patches to those of the sample.
     fn add_row(&mut self, row: PatchRow<'a>) -> Result<(), CaptureFaultKind> {
         if !self.begun.tells_patches {
             return Err(CaptureFaultKind::Stray);
@@ -160,7 +160,7 @@ impl<'a> Capture<'a> {
         Ok(())
     }
 
-    /// Adds a line about the object above, if there is one since the patch above.
+    /// Adds a line about the latest object. It is a fault if no object was named since the latest patch.
     fn add_of_object(&mut self, row: PatchRow<'a>) -> Result<(), CaptureFaultKind> {
         match self.begun.patches.of(&self.rows).last() {
             Some(PatchRow::Object(_) | PatchRow::Loaded | PatchRow::Function { .. }) => {
@@ -183,7 +183,7 @@ impl<'a> Capture<'a> {
         Ok(())
     }
 
-    /// Adds a function that the task above is inside of.
+    /// Adds a function that the latest task is inside of.
     fn add_frame(&mut self, frame: FrameLine<'a>) -> Result<(), CaptureFaultKind> {
         if self.seen.len() <= self.begun.tasks {
             return Err(CaptureFaultKind::Stray);
@@ -196,7 +196,7 @@ impl<'a> Capture<'a> {
         Ok(())
     }
 
-    /// Notes that the task above is inside of the same functions as when it was named before.
+    /// Notes that the latest task is inside of the same functions as when it was named before.
     fn keep_frames(&mut self) -> Result<(), CaptureFaultKind> {
         if self.seen.len() <= self.begun.tasks {
             return Err(CaptureFaultKind::Stray);
@@ -247,7 +247,7 @@ impl<'a> Capture<'a> {
         Ok(())
     }
 
-    /// Adds a line that is about the patches or the tasks of a sample.
+    /// Adds a line about the patches or tasks of a sample.
     fn add_seen(&mut self, line: Line<'a>) -> Result<(), CaptureFaultKind> {
         match line {
             Line::Patches => self.begin_patches(),
@@ -298,13 +298,13 @@ impl<'a> Capture<'a> {
         Ok(())
     }
 
-    /// Whether functions were asked for, though no patch changes them.
+    /// Whether `klpcap` was told to look for functions that no patch changes.
     pub fn is_preflight(&self) -> bool {
         !self.asked.is_empty()
     }
 
-    /// Reads a log, in time linear in its length, or reports its first faulty line. A log that was cut off is read up
-    /// to its last whole line: what belongs to a sample that hasn't ended is left out.
+    /// Reads a log. Returns its first faulty line as `Err`. The time is linear in the length of the log. A log that was
+    /// cut off is read up to its last whole line, and a sample that hasn't ended there is left out.
     pub fn read(alloc: Global, text: &'a [u8]) -> Result<Capture<'a>, CaptureFault> {
         let mut capture = Capture::new(alloc);
         let whole = match text.iter().rposition(|byte| *byte == b'\n') {

@@ -6,14 +6,14 @@ use thiserror::Error;
 /// What is wrong with a line of a log.
 #[derive(Clone, Copy, Debug, PartialEq, Eq)]
 pub enum CaptureFaultKind {
-    /// The first line isn't `klpcap 1`, so this is no log, or one of another version.
+    /// The first line isn't `klpcap 1`: this is no log, or a log of another version.
     NoHeading,
-    /// No line begins with this word, or what follows it isn't as wanted.
+    /// The line begins with an unknown word, or its other words aren't as they should be.
     BadLine,
-    /// A line belongs to an object, a patch or a task, and no such line is above it in its sample. Or it is a second
-    /// heading, or stands after the last line, `end`.
+    /// The line belongs to an object, a patch or a task, but its sample names none before it. Or it is a second
+    /// heading, or it follows the last line, `end`.
     Stray,
-    /// A sample began before the one above it had ended.
+    /// A sample began before the sample before it had ended.
     OutOfOrder,
     NoMemory,
 }
@@ -43,7 +43,7 @@ impl<T: Drop> From<AllocFailed<T>> for CaptureFaultKind {
 #[derive(Clone, Copy, Debug, PartialEq, Eq, Error)]
 #[error("line {line}: {kind}")]
 pub struct CaptureFault {
-    /// Counted from 1.
+    /// The number of the line, from 1.
     pub line: u64,
     pub kind: CaptureFaultKind,
 }

@@ -1,8 +1,8 @@
-//! The log of a transition of a real kernel, as `klpcap` recorded it.
+//! The log of a real kernel's transition, as `klpcap` recorded it.
 //!
-//! [`Capture::read`] reads a log (docs/CAPTURE.md), and reports its first faulty line. Its samples share lists of what
-//! they have: patches, tasks, and the functions that these are inside of. So an hour of quiet samples is small. The
-//! crates above say what a log comes to.
+//! [`Capture::read`] reads a log (docs/CAPTURE.md), and reports its first faulty line. Samples share the lists of
+//! patches, tasks, and the functions that tasks are inside of. So an hour of samples in which nothing changes takes
+//! little memory. Crates above this one say what a log means.
 #![tactic(auto)]
 
 mod capture;

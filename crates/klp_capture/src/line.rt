@@ -1,8 +1,8 @@
-//! One line of a log: a word, and what belongs to it (docs/CAPTURE.md, "What a log says").
+//! One line of a log: a word, and what follows it (docs/CAPTURE.md, "What a log says").
 use crate::time::Moment;
 use klp_words::{LineWords, Separators, cut, hexadecimal, microseconds, number32, number64};
 
-/// How a task is, by the letter of `/proc/<pid>/stat`.
+/// What a task does, by the letter in `/proc/<pid>/stat`.
 #[derive(Clone, Copy, PartialEq, Eq)]
 pub enum Activity {
     /// It runs, or waits for a processor.
@@ -16,19 +16,19 @@ pub enum Activity {
 pub struct TaskLine<'a> {
     /// The thread's number.
     pub thread: u64,
-    /// When the thread began, in ticks since boot: a reused number has another start.
+    /// When the thread began, in ticks since boot. If its number is used again, the new thread has another start.
     pub start: u64,
-    /// Whether it ran.
+    /// Whether the task ran or slept.
     pub activity: Activity,
     /// What `patch_state` reads: -1, 0 or 1.
     pub state: PatchedState,
     /// How often the task got a processor.
     pub runs: u64,
-    /// Whether the task slept while it was read: then its functions are of one moment.
+    /// Whether the task slept all the time while it was read. If so, its functions are those of one moment.
     pub is_stable: bool,
-    /// Whether it is a thread of the kernel itself.
+    /// Whether the task is a thread of the kernel itself.
     pub is_kernel_thread: bool,
-    /// What it is called. These bytes need not be text.
+    /// The task's name. Its bytes needn't be text.
     pub name: &'a [u8],
 }
 
@@ -48,22 +48,22 @@ pub enum PatchedState {
 pub struct FrameLine<'a> {
     /// Its name.
     pub function: &'a [u8],
-    /// The module that has the function; none for the kernel itself.
+    /// The module that has the function, or `None` if the kernel itself has it.
     pub module: Option<&'a [u8]>,
 }
 
 /// The end of a sample.
 #[derive(Clone, Copy)]
 pub struct SampleLine {
-    /// When it began.
+    /// When the sample began.
     pub from: Moment,
-    /// When it had ended.
+    /// When the sample had ended.
     pub to: Moment,
-    /// How many tasks there were.
+    /// How many tasks there were in all.
     pub tasks: u64,
-    /// How many of them lagged, weren't followed, and ran.
+    /// How many tasks lagged and ran, without the tasks that `klpcap` followed.
     pub running: u64,
-    /// The same for those that slept.
+    /// How many tasks lagged and slept, without the tasks that `klpcap` followed.
     pub sleeping: u64,
     /// Whether a patch changed while the sample was taken.
     pub is_torn: bool,
@@ -72,11 +72,11 @@ pub struct SampleLine {
 /// A symbol with its address.
 #[derive(Clone, Copy)]
 pub struct SymbolLine<'a> {
-    /// Where it is.
+    /// The symbol's address.
     pub address: u64,
     /// Its name.
     pub name: &'a [u8],
-    /// The module that has it; none for the kernel itself.
+    /// The module that has the symbol, or `None` if the kernel itself has it.
     pub module: Option<&'a [u8]>,
 }
 
@@ -88,7 +88,7 @@ pub(crate) enum Line<'a> {
     /// The kernel's release, and the machine.
     Kernel(&'a [u8]),
     Missing(&'a [u8]),
-    /// A function that was asked for, though no patch changes it.
+    /// A function for which `klpcap` was told to look, though no patch changes it.
     Find(&'a [u8]),
     Patches,
     Patch {
@@ -104,7 +104,7 @@ pub(crate) enum Line<'a> {
     },
     Task(TaskLine<'a>),
     Frame(FrameLine<'a>),
-    /// The task is inside of the same functions as before.
+    /// The task is inside of the same functions as in its line before.
     SameFrames,
     Gone(u64),
     Sample(SampleLine),
@@ -134,12 +134,13 @@ fn moment_of(word: &[u8]) -> Option<Moment> {
     }
 }
 
-/// A name that isn't empty.
+/// Returns the name, or `None` if it is empty.
 fn named(word: &[u8]) -> Option<&[u8]> {
     if word.is_empty() { None } else { Some(word) }
 }
 
-/// A module as it stands after a function: `[NAME]`. For the kernel itself nothing stands there.
+/// Reads the module that may follow a function: `[NAME]`. The kernel itself has no such word. Returns `None` if the
+/// word has another form.
 fn module_of(word: Option<&[u8]>) -> Option<Option<&[u8]>> {
     let Some(word) = word else {
         return Some(None);
@@ -164,7 +165,7 @@ fn patch_line(rest: &[u8]) -> Option<Line<'_>> {
     })
 }
 
-/// `NAME,POSITION`; the name may have commas itself.
+/// Reads `NAME,POSITION`. The name itself may have commas.
 fn function_line(rest: &[u8]) -> Option<Line<'_>> {
     let comma = rest.iter().rposition(|byte| *byte == b',')?;
     let name = named(rest.get(..comma)?)?;
@@ -192,7 +193,8 @@ fn state_of(word: &[u8]) -> Option<PatchedState> {
     }
 }
 
-/// `TID PID START STATE PATCH_STATE RUNS STABLE KTHREAD NAME`. The name is the rest of the line, and may have blanks.
+/// Reads `TID PID START STATE PATCH_STATE RUNS STABLE KTHREAD NAME`. The name is the rest of the line, and may have
+/// blanks.
 fn task_line(rest: &[u8]) -> Option<Line<'_>> {
     let (thread, rest) = cut(rest, b' ');
     let (_process, rest) = cut(rest, b' ');
@@ -214,7 +216,7 @@ fn task_line(rest: &[u8]) -> Option<Line<'_>> {
     }))
 }
 
-/// `FUNC+OFFSET/SIZE [MODULE]`. An address without a name has no offset.
+/// Reads `FUNC+OFFSET/SIZE [MODULE]`. An address without a function's name has no offset.
 fn frame_line(rest: &[u8]) -> Option<Line<'_>> {
     if rest == b"=".as_slice() {
         return None;
@@ -228,7 +230,7 @@ fn frame_line(rest: &[u8]) -> Option<Line<'_>> {
     Some(Line::Frame(FrameLine { function, module }))
 }
 
-/// `FROM TO TASKS RUNNING SLEEPING TORN`
+/// Reads `FROM TO TASKS RUNNING SLEEPING TORN`.
 fn sample_line(rest: &[u8]) -> Option<Line<'_>> {
     let mut words = LineWords::new(rest, Separators::Spaces);
     let line = SampleLine {
@@ -253,7 +255,7 @@ fn log_line(rest: &[u8]) -> Option<Line<'_>> {
     })
 }
 
-/// `ADDRESS TYPE NAME [MODULE]`
+/// Reads `ADDRESS TYPE NAME [MODULE]`.
 fn symbol_line(rest: &[u8]) -> Option<Line<'_>> {
     let mut words = LineWords::new(rest, Separators::Spaces);
     let address = hexadecimal(words.next()?)?;
@@ -271,7 +273,7 @@ fn symbol_line(rest: &[u8]) -> Option<Line<'_>> {
 }
 
 impl<'a> Line<'a> {
-    /// Reads a line, without its line feed. None if it isn't one of a log.
+    /// Reads a line, without its line feed. Returns `None` if it isn't a line of a log.
     pub(crate) fn read(line: &'a [u8]) -> Option<Line<'a>> {
         let (word, rest) = cut(line, b' ');
         match word {

@@ -1,5 +1,5 @@
-//! Whether a trace has what a log shows. The trace is read as text, line by line: so it doesn't matter how it was
-//! found.
+//! Whether a trace shows what a log has. Only the text of the trace is read, so it makes no difference how the trace
+//! was found.
 ghost use Rattle.std.specs.Prelude.{◌≡◌, true, string_bytes, IfOk};
 ghost use Rattle.std.specs.List.{find, flat_map, list_any};
 ghost use Rattle.std.specs.Str.Lines.{lines};
@@ -13,7 +13,8 @@ use klp_catalog_text::Lines;
 use klp_words::cut;
 use std::alloc::{AllocError, Global};
 
-/// The row of the patch of this name, if it is there. Both of its files read 0 while its folder is made or taken away.
+/// Returns the row of the patch of this name. Returns `None` if there is none, or if both of the patch's files read 0,
+/// as they do while its folder is made or removed.
 pub fn patch_in<'a>(rows: &[PatchRow<'a>], name: &[u8]) -> Option<PatchRow<'a>>
     ensures { result ≡ find (is_there_as name.now) rows.now }
 {
@@ -51,7 +52,7 @@ fn is_half_there(row: &PatchRow<'_>) -> bool
     }
 }
 
-/// Whether a patch is just being made or taken away: then its folder is half there, and both of its files read 0.
+/// Whether the folder of a patch is being made or removed. Then both of its files read 0.
 fn is_changing(rows: &[PatchRow<'_>]) -> bool
     ensures { result ≡ list_any is_half_there rows.now }
 {
@@ -64,7 +65,7 @@ fn is_changing(rows: &[PatchRow<'_>]) -> bool
 }
 
 impl<'a> Capture<'a> {
-    /// Whether nothing changed in the patches during a sample.
+    /// Whether no patch changed during a sample.
     pub fn is_settled(&self, sample: &Sample) -> bool
         ensures { result ≡ is_settled self.now sample.now }
     {
@@ -78,7 +79,7 @@ fn flag_text(flag: bool) -> &'static [u8]
     if flag { b" 1" } else { b" 0" }
 }
 
-/// What a trace has of a patch's files.
+/// Returns the item of a trace that says what the files of a patch read.
 fn files_item(alloc: Global, rows: &[PatchRow<'_>], name: &[u8]) -> Result<Vec<u8>, AllocError>
     ensures { IfOk result (λ item. item.items ≡ files_item rows.now name.now) }
 {
@@ -101,7 +102,7 @@ fn files_item(alloc: Global, rows: &[PatchRow<'_>], name: &[u8]) -> Result<Vec<u
     Ok(item)
 }
 
-/// What a trace has of a task's state.
+/// Returns the item of a trace that says what a task's `patch_state` reads.
 fn state_item(alloc: Global, number: usize, state: PatchedState) -> Result<String, AllocError>
     ensures { IfOk result (λ item. string_bytes item ≡ state_item number state) }
 {
@@ -112,7 +113,7 @@ fn state_item(alloc: Global, number: usize, state: PatchedState) -> Result<Strin
     }
 }
 
-/// The number of a thread that a sample names.
+/// Returns the thread of a task that a sample names, with its number in the trace.
 fn thread_of(threads: &[Thread], seen: &SeenTask<'_>) -> Option<Thread>
     ensures { result ≡ find (is_thread seen.now) threads.now }
 {
@@ -124,7 +125,7 @@ fn thread_of(threads: &[Thread], seen: &SeenTask<'_>) -> Option<Thread>
     None
 }
 
-/// A line of a trace without its time.
+/// Returns a line of a trace without its time.
 fn item_in(line: &[u8]) -> &[u8]
     ensures { result.now ≡ item_in line.now }
 {
@@ -134,7 +135,7 @@ fn item_in(line: &[u8]) -> &[u8]
     }
 }
 
-/// Reads lines up to the first that has this item. False if none has.
+/// Reads lines up to the first that has this item. Returns false if none has it.
 fn stands(lines: &mut Lines<'_>, item: &[u8]) -> bool
     ensures { result ≡ true → StandsIn item.now lines.old lines.new }
 {
@@ -205,7 +206,7 @@ fn patches_stand(
     Ok(true)
 }
 
-/// Whether a sample had ended before a force.
+/// Whether a sample had ended before the force, if there was one.
 fn is_before(forced: Option<Moment>, sample: &Sample) -> bool
     ensures { result ≡ is_before forced sample.now }
 {
@@ -235,7 +236,7 @@ impl<'a> Capture<'a> {
         Ok(stand)
     }
 
-    /// Whether a sample is to be judged: nothing changed in the patches during it, and it had ended before a force.
+    /// Whether a sample is judged. This is so if no patch changed during it, and if it had ended before a force.
     pub fn is_judged(&self, forced: Option<Moment>, sample: &Sample) -> bool
         ensures { result ≡ is_judged self.now forced sample.now }
     {
@@ -261,8 +262,8 @@ impl<'a> Capture<'a> {
         Ok(stand)
     }
 
-    /// The number of the first sample that a trace doesn't show, among the judged ones of these first samples of the
-    /// log. None if it shows them all, each after the one before.
+    /// Looks at the judged ones among these first samples of the log. Returns the number of the first that the trace
+    /// doesn't show. Returns `None` if the trace shows all of them, one after the other.
     pub fn first_not_shown(
         &self,
         alloc: Global,

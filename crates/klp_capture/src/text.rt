@@ -1,7 +1,7 @@
-//! Bytes of a log for people: names need not be text.
+//! Bytes of a log, printed for people. Names needn't be text.
 use std::fmt;
 
-/// Bytes that are text. Those that aren't are shown as the mark for that.
+/// Bytes, printed as text. For bytes that are no text, the replacement mark is printed.
 #[derive(Clone, Copy)]
 pub struct Text<'a>(pub &'a [u8]);
 

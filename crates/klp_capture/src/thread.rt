@@ -5,13 +5,13 @@
 pub struct Thread {
     /// The number of its task in the trace.
     pub number: usize,
-    /// The number that the kernel gave the thread.
+    /// The kernel's number of the thread.
     pub thread: u64,
-    /// When it began, in ticks since boot.
+    /// When the thread began, in ticks since boot.
     pub start: u64,
 }
 
-/// What a patch is called, in a log and in a trace.
+/// The name of a patch in a log, and its name in a trace.
 #[derive(Clone, Copy)]
 pub struct PatchName<'a> {
     /// Its name.

@@ -13,7 +13,7 @@ impl fmt::Display for Moment {
     }
 }
 
-/// The time from one moment to a later one, printed as seconds.
+/// The time between two moments, the earlier one first, printed as seconds.
 #[derive(Clone, Copy)]
 pub struct Elapsed(pub Moment, pub Moment);
 

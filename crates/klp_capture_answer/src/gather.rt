@@ -1,4 +1,4 @@
-//! A report, gathered from a log and the run that shows it.
+//! Gathers a report from a log and the run that shows it.
 use crate::inside::inside_of;
 use crate::refused::refused_of;
 use crate::report::{
@@ -17,7 +17,7 @@ pub(crate) fn text_of(alloc: Global, bytes: &[u8]) -> Result<String, AllocError>
     format!(in alloc; "{}", Text(bytes))
 }
 
-/// A task of the run.
+/// Returns the report's entry of a task of the run.
 fn task_of(alloc: Global, task: &Followed<'_>) -> Result<TaskReport, AllocError> {
     Ok(TaskReport {
         name: text_of(alloc, task.name)?,
@@ -26,7 +26,7 @@ fn task_of(alloc: Global, task: &Followed<'_>) -> Result<TaskReport, AllocError>
     })
 }
 
-/// The name of a version of a function that the log has, or none.
+/// Returns the name of the function that this version is. Returns `None` if the log doesn't have its name.
 fn name_of<'a>(run: &Run<'a>, version: Version) -> Option<&'a [u8]> {
     let Version::New(patch, index) = version else {
         return None;
@@ -55,7 +55,7 @@ fn patch_name(alloc: Global, run: &Run<'_>, patch: usize) -> Result<String, Allo
     }
 }
 
-/// A stay of a task, in a transition that ended or didn't.
+/// Returns the report's entry of a stay. `holds_still` says whether the task still holds the transition up.
 fn holder_of(
     alloc: Global,
     run: &Run<'_>,
@@ -72,8 +72,8 @@ fn holder_of(
     })
 }
 
-/// The stays in which tasks held a transition up. `holding` are those that hold it up in the last sample, if it goes
-/// on.
+/// Returns the stays in which tasks held a transition up. If the transition goes on, `holding` are the tasks that hold
+/// it up in the last sample.
 fn holders_of(
     alloc: Global,
     run: &Run<'_>,
@@ -98,7 +98,7 @@ fn holders_of(
     Ok(holders)
 }
 
-/// The stay in which a task holds a transition up in its last sample: since when, as far as was seen.
+/// Returns the stay in which a task holds a transition up in the last sample. It began when samples first show it.
 fn stay_of(task: &Followed<'_>, transition: usize, moved: &Moved, version: Version) -> Stay {
     let from = match task.stays.last() {
         Some(stay) if stay.transition == transition && stay.to == moved.to => stay.from,
@@ -112,7 +112,7 @@ fn stay_of(task: &Followed<'_>, transition: usize, moved: &Moved, version: Versi
     }
 }
 
-/// Who lags in the last sample, and doesn't hold the transition up.
+/// Returns the tasks that lag in the last sample without holding the transition up.
 fn lagging_of(alloc: Global, run: &Run<'_>) -> Result<Vec<Lagging>, AllocError> {
     let mut lagging = Vec::new(alloc);
     for task in &run.tasks {
@@ -127,7 +127,8 @@ fn lagging_of(alloc: Global, run: &Run<'_>) -> Result<Vec<Lagging>, AllocError> 
     Ok(lagging)
 }
 
-/// Whom a force leaves, or would leave, asleep in a function that isn't called any more.
+/// Returns the tasks that a force left asleep in a function that is no longer called. If nothing was forced, returns
+/// the tasks that a force would leave so.
 fn left_of(alloc: Global, run: &Run<'_>, holding: &[Holding]) -> Result<Vec<Left>, AllocError> {
     let mut left = Vec::new(alloc);
     for holder in holding {
@@ -141,7 +142,8 @@ fn left_of(alloc: Global, run: &Run<'_>, holding: &[Holding]) -> Result<Vec<Left
     Ok(left)
 }
 
-/// How a transition ended, if it did. If the log has a force, its last transition ended by the force.
+/// Returns how a transition ended, or `None` if it goes on. If the log shows a force, the force ended the last
+/// transition.
 fn end_of(found: &Explained<'_>, moved: &Moved, is_last: bool) -> Option<EndReport> {
     if let Some(end) = moved.end {
         let how = match end.ending {
@@ -213,7 +215,7 @@ fn transitions_of(
     Ok(transitions)
 }
 
-/// The tasks that lag and aren't followed.
+/// Counts the tasks that lag but aren't followed.
 fn others_of(capture: &Capture<'_>, run: &Run<'_>) -> Counts {
     let (tasks, running, sleeping) = match run.last.and_then(|last| capture.samples.get(last)) {
         Some(sample) => (sample.line.tasks, sample.line.running, sample.line.sleeping),
@@ -238,7 +240,7 @@ fn missing_of(alloc: Global, capture: &Capture<'_>) -> Result<Vec<String>, Alloc
     Ok(missing)
 }
 
-/// Gathers what a log comes to.
+/// Gathers what was found out about a log.
 pub fn report_of(
     alloc: Global,
     capture: &Capture<'_>,

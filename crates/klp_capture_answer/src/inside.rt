@@ -1,10 +1,10 @@
-//! Before a patch is loaded: who is inside of the functions that it would change.
+//! The tasks inside of functions that a patch would change, before the patch is loaded.
 use crate::gather::text_of;
 use crate::report::{Inside, TaskReport};
 use klp_capture::{Activity, Capture, Sample, SeenTask};
 use std::alloc::{AllocError, Global};
 
-/// A task as it was seen last, and in how many samples it was inside of such a function.
+/// A task as it was last seen, and the number of samples in which it was inside of such a function.
 #[derive(Clone, Copy)]
 struct Seen<'a> {
     task: SeenTask<'a>,
@@ -12,7 +12,7 @@ struct Seen<'a> {
     samples: u64,
 }
 
-/// The innermost of the functions asked for that a task is inside of.
+/// Returns the innermost function that a task is inside of, among those for which `klpcap` was told to look.
 fn asked_of<'a>(capture: &Capture<'a>, seen: &SeenTask<'a>) -> Option<&'a [u8]> {
     for frame in seen.frames.of(&capture.frames) {
         if capture.asked.contains(&frame.function) {
@@ -22,7 +22,7 @@ fn asked_of<'a>(capture: &Capture<'a>, seen: &SeenTask<'a>) -> Option<&'a [u8]> 
     None
 }
 
-/// Takes what a sample says. A task that the sample doesn't name is where it was.
+/// Adds what a sample shows. A task that the sample doesn't name is where it was before.
 fn take_sample<'a>(
     capture: &Capture<'a>,
     sample: &Sample,
@@ -59,7 +59,8 @@ fn take_sample<'a>(
     Ok(())
 }
 
-/// Who is inside of the functions asked for, in the last sample. Empty if none were asked for.
+/// Returns the tasks that the last sample shows inside of functions for which `klpcap` was told to look. The list is
+/// empty if it wasn't told to look for any.
 pub(crate) fn inside_of(alloc: Global, capture: &Capture<'_>) -> Result<Vec<Inside>, AllocError> {
     let mut inside = Vec::new(alloc);
     let mut all = Vec::new(alloc);

@@ -1,8 +1,9 @@
-//! What a log comes to: what moves since when, who holds it up, and what a force would leave.
+//! What a log means: which patch is in transition and since when, which tasks hold the transition up, and which tasks a
+//! force would leave asleep.
 //!
-//! [`report_of`] gathers it as data ([`Report`]), which [`print_report`] writes in words and [`print_json`] for
-//! programs. Names are shown as they are, except what would drive a terminal. For a log from before a patch, the report
-//! says who is inside of the functions that the patch would change.
+//! [`report_of`] gathers this as data ([`Report`]). [`print_report`] writes it in words, and [`print_json`] for
+//! programs. Names are shown unchanged, except for bytes that would control a terminal. For a log that was recorded
+//! before a patch is loaded, the report says which tasks are inside of the functions that the patch would change.
 #![tactic(auto)]
 
 mod gather;

@@ -1,4 +1,4 @@
-//! The sample that no run that was tried shows: what the log has there, and what the rules have.
+//! The sample that none of the tried runs shows: what the log has there, and what the rules have.
 use crate::report::Refused;
 use klp_capture::{Capture, Text};
 use klp_capture_run::{Explained, Followed};
@@ -8,14 +8,14 @@ use klp_program::Verdict;
 use std::alloc::{AllocError, Global};
 use std::fmt;
 
-/// A sentence in which each `task N` is called by its name and its thread's number.
+/// A sentence, printed with names: each `task N` in it is printed as the task's name and its thread's number.
 #[derive(Clone, Copy)]
 struct WithNames<'r, 'a> {
     text: &'r str,
     tasks: &'r [Followed<'a>],
 }
 
-/// A number at the front of a text, and what is behind it.
+/// Returns the number at the front of a text, and the rest of the text. Returns `None` if there is no number.
 fn number_at_front(text: &str) -> Option<(usize, &str)> {
     let length = text
         .bytes()
@@ -54,7 +54,7 @@ impl fmt::Display for WithNames<'_, '_> {
     }
 }
 
-/// What a line of the trace says that was seen, in words.
+/// Returns in words what a line of the trace says was seen.
 fn seen_at(alloc: Global, tasks: &[Followed<'_>], line: &str) -> Result<String, AllocError> {
     let words = line.split_once(' ');
     let shown = match words {
@@ -72,7 +72,7 @@ fn seen_at(alloc: Global, tasks: &[Followed<'_>], line: &str) -> Result<String, 
     format!(in alloc; "{}", WithNames { text, tasks })
 }
 
-/// Both sides at the line of the trace where the run ends: what the log has, and what the rules have.
+/// Returns both sides at the line of the trace where the run ends: first what the log has, then what the rules have.
 fn both_sides(
     alloc: Global,
     found: &Explained<'_>,
@@ -98,7 +98,7 @@ fn both_sides(
     Ok((log, rules))
 }
 
-/// The sample that no run that was tried shows, if there is one.
+/// Returns the sample that none of the tried runs shows, or `None` if there is none.
 pub(crate) fn refused_of(
     alloc: Global,
     capture: &Capture<'_>,

@@ -1,11 +1,11 @@
-//! What a log comes to, as data. Times are microseconds since the machine booted.
+//! What was found out about a log, as data. Times are microseconds since the machine booted.
 use klp_capture::Moment;
 use serde::Serialize;
 use std::alloc::Global;
 use std::io;
 use std::io::Write;
 
-/// A task, by its name and its thread's number.
+/// A task: its name, and its thread's number.
 #[derive(Drop, Serialize)]
 pub struct TaskReport {
     pub(crate) name: String,
@@ -13,7 +13,7 @@ pub struct TaskReport {
     pub(crate) is_kernel_thread: bool,
 }
 
-/// How long a task held a transition up: asleep in one function, without having run.
+/// A time in which a task held a transition up: asleep in one function, without running.
 #[derive(Drop, Serialize)]
 pub struct Holder {
     pub(crate) task: TaskReport,
@@ -21,28 +21,28 @@ pub struct Holder {
     /// The first sample that shows it, and the last.
     pub(crate) from_us: u64,
     pub(crate) to_us: u64,
-    /// Whether it did so in the last sample, and the transition goes on.
+    /// Whether the task held the transition up in the last sample and the transition goes on.
     pub(crate) holds_still: bool,
 }
 
-/// Why a task lags that doesn't hold the transition up.
+/// Why a task lags without holding the transition up.
 #[derive(Clone, Copy, PartialEq, Eq, Serialize)]
 #[serde(rename_all = "snake_case")]
 pub(crate) enum Why {
     /// It runs.
     Runs,
-    /// It sleeps in none of the functions that the log has of the patch.
+    /// It sleeps in none of those functions of the patch that the log names.
     AsleepElsewhere,
 }
 
-/// A task that lags, and doesn't hold the transition up.
+/// A task that lags without holding the transition up.
 #[derive(Drop, Serialize)]
 pub struct Lagging {
     pub(crate) task: TaskReport,
     pub(crate) why: Why,
 }
 
-/// Which way a transition goes.
+/// What the patch in transition becomes.
 #[derive(Clone, Copy, PartialEq, Eq, Serialize)]
 #[serde(rename_all = "snake_case")]
 pub(crate) enum Becomes {
@@ -72,24 +72,24 @@ pub struct TransitionReport {
     pub(crate) patch: String,
     pub(crate) becomes: Becomes,
     pub(crate) since_us: u64,
-    /// Whether the kernel's log has its start. Otherwise it started at this time or before.
+    /// Whether the kernel's log has the start of the transition. If not, it started at this time or before.
     pub(crate) is_start_known: bool,
     pub(crate) first_sample_us: u64,
     pub(crate) last_sample_us: u64,
     pub(crate) end: Option<EndReport>,
     pub(crate) holders: Vec<Holder>,
-    /// Who lags in its last sample, and doesn't hold it up.
+    /// The tasks that lag in the last sample without holding the transition up.
     pub(crate) lagging: Vec<Lagging>,
 }
 
-/// A task that a force leaves asleep in a function that isn't called any more.
+/// A task that a force leaves asleep in a function that is no longer called.
 #[derive(Drop, Serialize)]
 pub struct Left {
     pub(crate) task: TaskReport,
     pub(crate) function: String,
 }
 
-/// The sample that no run that was tried shows, and both sides there.
+/// The sample that none of the tried runs shows, with what the log and the rules have there.
 #[derive(Drop, Serialize)]
 pub struct Refused {
     pub(crate) from_us: u64,
@@ -100,51 +100,51 @@ pub struct Refused {
     pub(crate) rules: Option<String>,
 }
 
-/// A task that was seen inside of a function that the log was asked for.
+/// A task that was seen inside of a function for which `klpcap` was told to look.
 #[derive(Drop, Serialize)]
 pub struct Inside {
     pub(crate) task: TaskReport,
     pub(crate) function: String,
-    /// Whether it sleeps there, and so would hold a transition up. A running task may leave before.
+    /// Whether it sleeps there. If so, it would hold a transition up. A task that runs may leave the function first.
     pub(crate) is_asleep: bool,
-    /// In how many samples it was there.
+    /// The number of samples in which the task was there.
     pub(crate) samples: u64,
 }
 
-/// How many tasks the last sample shows, and how many of them lag unfollowed.
+/// How many tasks the last sample shows, and how many of them lag without being followed.
 #[derive(Clone, Copy, Serialize)]
 pub struct Counts {
     pub(crate) tasks: u64,
     pub(crate) running: u64,
     pub(crate) sleeping: u64,
-    /// How many tasks that the log follows are left out, since at most 64 are reported.
+    /// How many followed tasks are left out, since at most 64 are reported.
     pub(crate) left_out: u64,
     /// How many functions of the log's patches the catalog has no room for.
     pub(crate) functions_left_out: u64,
-    /// How many names of functions were cut off, since they are too long.
+    /// How many names of functions were cut because they are too long.
     pub(crate) names_cut: u64,
 }
 
-/// How many samples a run of the rules shows, and how many were left out, since a patch changed while they were taken.
+/// How many samples a run of the rules shows, and how many were left out because a patch changed while they were taken.
 #[derive(Clone, Copy, Serialize)]
 pub struct Samples {
     pub(crate) shown: u64,
     pub(crate) left_out: u64,
-    /// How many weren't reached: those after a force, or from the one that no run shows.
+    /// How many samples weren't reached: those after a force, and those from the first one that no run shows.
     pub(crate) later: u64,
 }
 
-/// What a log comes to.
+/// What was found out about a log.
 #[derive(Drop, Serialize)]
 pub struct Report {
     pub(crate) kernel: String,
     /// The files that the kernel didn't show.
     pub(crate) missing: Vec<String>,
-    /// Whether the log was asked for functions that a patch would change.
+    /// Whether `klpcap` was told to look for functions that a patch would change.
     pub(crate) is_preflight: bool,
     pub(crate) inside: Vec<Inside>,
     pub(crate) transitions: Vec<TransitionReport>,
-    /// The tasks that sleep in a function of the transition in the last sample.
+    /// The tasks that a force left asleep in a function that is no longer called, or would leave so.
     pub(crate) left_by_force: Vec<Left>,
     pub(crate) forced_at_us: Option<u64>,
     pub(crate) others: Counts,
@@ -156,13 +156,13 @@ pub struct Report {
 }
 
 impl Report {
-    /// Whether the log is one from before a patch, and shows no transition.
+    /// Whether the log was recorded before a patch was loaded, and shows no transition.
     pub fn is_preflight_alone(&self) -> bool {
         self.is_preflight && self.transitions.is_empty()
     }
 }
 
-/// A time of a report.
+/// Returns a time of a report as a moment.
 pub(crate) fn seconds(microseconds: u64) -> Moment {
     Moment(microseconds)
 }

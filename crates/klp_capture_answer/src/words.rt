@@ -8,15 +8,15 @@ use klp_faulty_words::escaped::Escaped;
 use std::io::Write;
 use std::{fmt, io};
 
-/// How many tasks of one kind are written.
+/// At most this many tasks of each kind are written.
 const SHOWN: usize = 16;
 
-/// A name, without what would drive a terminal.
+/// Returns a name without bytes that would control a terminal.
 fn shown(name: &String) -> Escaped<'_> {
     Escaped(name.as_bytes())
 }
 
-/// A task, by its name and its thread's number: `billing[90]`.
+/// Prints a task as its name and its thread's number, such as `billing[90]`.
 impl fmt::Display for TaskReport {
     fn fmt<W: fmt::Write>(&self, f: &mut fmt::Formatter<W>) -> fmt::Result {
         let (name, thread) = (shown(&self.name), self.thread);
@@ -33,12 +33,12 @@ impl fmt::Display for Becomes {
     }
 }
 
-/// The time from one moment to another.
+/// Returns the time between two moments, the earlier one first.
 fn elapsed(from_us: u64, to_us: u64) -> Elapsed {
     Elapsed(seconds(from_us), seconds(to_us))
 }
 
-/// Ends a list that names only the first of its tasks.
+/// Writes how many tasks a list leaves out, if it names only the first ones.
 fn print_more<W: Write>(count: usize, what: &str, out: &mut W) -> io::Result<()> {
     match count.saturating_sub(SHOWN) {
         0 => Ok(()),
@@ -46,7 +46,7 @@ fn print_more<W: Write>(count: usize, what: &str, out: &mut W) -> io::Result<()>
     }
 }
 
-/// Who holds the transition up, or held it up.
+/// Writes which task holds the transition up, or held it up, and for how long.
 fn print_holder<W: Write>(holder: &Holder, last_us: u64, out: &mut W) -> io::Result<()> {
     let (task, function) = (&holder.task, shown(&holder.function));
     let kind = if task.is_kernel_thread {
@@ -92,7 +92,7 @@ fn print_holders<W: Write>(
     print_more(count, what, out)
 }
 
-/// Who lags, and doesn't hold it up.
+/// Writes which task lags without holding the transition up.
 fn print_lagging<W: Write>(lagging: &Lagging, out: &mut W) -> io::Result<()> {
     let task = &lagging.task;
     match lagging.why {
@@ -112,7 +112,7 @@ fn print_lagging<W: Write>(lagging: &Lagging, out: &mut W) -> io::Result<()> {
     }
 }
 
-/// What came of a transition.
+/// Returns in words how a transition ended.
 fn ending(transition: &TransitionReport, end: EndReport) -> &'static str {
     match (end.how, transition.becomes) {
         (How::Complete, _) => "and that is complete",
@@ -157,7 +157,7 @@ fn print_transition<W: Write>(transition: &TransitionReport, out: &mut W) -> io:
     print_more(transition.lagging.len(), "lag", out)
 }
 
-/// Whom a force leaves behind, or would.
+/// Writes which tasks a force left asleep, or would leave asleep.
 fn print_left<W: Write>(left: &[Left], front: &str, out: &mut W) -> io::Result<()> {
     for left in left.iter().take(SHOWN) {
         let (task, function) = (&left.task, shown(&left.function));
@@ -170,7 +170,7 @@ fn print_left<W: Write>(left: &[Left], front: &str, out: &mut W) -> io::Result<(
 }
 
 impl Report {
-    /// Whether a transition goes on in the last sample.
+    /// Whether the last transition goes on in the last sample.
     fn goes_on(&self) -> bool {
         match self.transitions.last() {
             Some(last) => last.end.is_none(),
@@ -178,7 +178,7 @@ impl Report {
         }
     }
 
-    /// The tasks that lag and aren't followed.
+    /// Writes how many tasks lag without being followed.
     fn print_others<W: Write>(&self, out: &mut W) -> io::Result<()> {
         let others = self.others;
         if others.running > 0 || others.sleeping > 0 {
@@ -198,7 +198,7 @@ impl Report {
         Ok(())
     }
 
-    /// What a catalog has no room for.
+    /// Writes what was left out because a catalog has no room for it.
     fn print_limits<W: Write>(&self, out: &mut W) -> io::Result<()> {
         let (left_out, cut) = (self.others.functions_left_out, self.others.names_cut);
         if left_out > 0 {
@@ -245,7 +245,7 @@ impl Report {
         }
     }
 
-    /// Who is inside of the functions that were asked for.
+    /// Writes the tasks that are inside of functions for which `klpcap` was told to look.
     fn print_inside<W: Write>(&self, out: &mut W) -> io::Result<()> {
         for inside in self.inside.iter().take(SHOWN) {
             print_inside(inside, out)?;
@@ -311,7 +311,7 @@ impl Report {
     }
 }
 
-/// A task inside of a function that was asked for.
+/// Writes a task that is inside of a function for which `klpcap` was told to look.
 fn print_inside<W: Write>(inside: &Inside, out: &mut W) -> io::Result<()> {
     let (task, function) = (&inside.task, shown(&inside.function));
     if inside.is_asleep {
@@ -328,7 +328,7 @@ fn print_inside<W: Write>(inside: &Inside, out: &mut W) -> io::Result<()> {
     }
 }
 
-/// The sample that no run that was tried shows, and both sides.
+/// Writes the sample that none of the tried runs shows, with what the log and the rules have there.
 fn print_refused<W: Write>(refused: &Refused, out: &mut W) -> io::Result<()> {
     let (from, to) = (seconds(refused.from_us), seconds(refused.to_us));
     writeln!(
@@ -343,11 +343,12 @@ fn print_refused<W: Write>(refused: &Refused, out: &mut W) -> io::Result<()> {
     }
     writeln!(
         out,
-        "either the kernel or the patch broke the rules, or the log isn't what the kernel did"
+        "either the kernel or the patch broke the rules, or the log isn't what the kernel did, or the search missed a run"
     )
 }
 
-/// Writes what moves since when, who holds it up, and whether the rules explain it.
+/// Writes which patch is in transition and since when, which tasks hold the transition up, and whether the rules
+/// explain the log.
 pub fn print_report<W: Write>(report: &Report, out: &mut W) -> io::Result<()> {
     for file in &report.missing {
         let file = shown(file);

@@ -1,4 +1,4 @@
-//! The catalog of what a log names, as text.
+//! Writes the catalog of what a log names, as text.
 use crate::named::{Functions, SeenVersion};
 use klp_capture::Text;
 use klp_types::MAX_SYMBOL_NAME;
@@ -8,7 +8,7 @@ use std::alloc::{AllocError, Global};
 /// The first five bytes of a function that can be patched: a NOP.
 const NOP: &str = "0f1f440000";
 
-/// As much of a symbol's name as a catalog has room for.
+/// Returns the name of a symbol, cut to the length that a catalog allows.
 fn cut_name(name: &[u8]) -> Text<'_> {
     Text(name.get(..MAX_SYMBOL_NAME).unwrap_or(name))
 }
@@ -81,7 +81,7 @@ impl Functions<'_> {
         Ok(())
     }
 
-    /// The text of a catalog that has what the log names.
+    /// Returns the text of a catalog of all that the log names.
     pub fn catalog(&self, alloc: Global) -> Result<String, AllocError> {
         let handler = self.handler;
         let mut text = format!(in alloc; "handler {handler:x}\n")?;

@@ -4,10 +4,10 @@ use klp_capture::{Capture, PatchRow};
 use klp_types::{MAX_FUNCTIONS, MAX_OBJECTS, MAX_SITES, MAX_TARGETS};
 use std::alloc::{AllocError, Global};
 
-/// How many functions without room are counted at most.
+/// At most this many functions without room are counted.
 const MOST_LEFT_OUT: usize = 4096;
 
-/// A function that a patch changes, as the rows have it.
+/// A function that a patch changes, as rows of the log say.
 #[derive(Clone, Copy, PartialEq, Eq)]
 pub(crate) struct FoundFunction<'a> {
     pub(crate) patch: usize,
@@ -16,7 +16,7 @@ pub(crate) struct FoundFunction<'a> {
     pub(crate) position: u32,
 }
 
-/// The functions of all rows, each once.
+/// The functions in all rows. Each is listed once.
 #[derive(Drop)]
 pub(crate) struct Found<'a> {
     pub(crate) functions: Vec<FoundFunction<'a>>,
@@ -25,7 +25,7 @@ pub(crate) struct Found<'a> {
 }
 
 impl<'a> Found<'a> {
-    /// How many objects a patch changes.
+    /// Returns how many objects a patch changes.
     fn targets(&self, patch: usize) -> usize {
         let mut targets: usize = 0;
         for object in 0..MAX_OBJECTS {
@@ -67,7 +67,7 @@ impl<'a> Found<'a> {
     }
 }
 
-/// The functions of all rows, and their objects.
+/// Finds the functions in all rows. Adds their objects to `objects`.
 pub(crate) fn found_in<'a>(
     alloc: Global,
     rows: &[PatchRow<'a>],
@@ -100,7 +100,7 @@ pub(crate) fn found_in<'a>(
     Ok(found)
 }
 
-/// Whether older patches left when the transition of this one completed.
+/// Whether older patches were gone when the transition of this patch completed.
 fn has_replaced(capture: &Capture<'_>, patch: &[u8]) -> bool {
     let mut last: Option<usize> = None;
     for (number, sample) in capture.samples.iter().enumerate() {
@@ -143,8 +143,9 @@ pub(crate) fn is_shared(found: &[FoundFunction<'_>], function: &FoundFunction<'_
     })
 }
 
-/// Whether a patch has new functions, but lacks one for some function that another patch changes: only a cumulative
-/// patch gives a function back. So it is known to be cumulative before its transition completes.
+/// Whether a patch has new functions, but none for a function in its list that another patch changes too. Only a
+/// cumulative patch is like this, since it gives such a function back. So it is known to be cumulative before its
+/// transition completes.
 fn gives_back(
     capture: &Capture<'_>,
     found: &[FoundFunction<'_>],
@@ -163,7 +164,7 @@ fn gives_back(
     has_new && has_nop
 }
 
-/// Whether a patch is cumulative, as far as the log shows that.
+/// Whether the log shows that a patch is cumulative.
 pub(crate) fn is_cumulative(
     capture: &Capture<'_>,
     found: &[FoundFunction<'_>],

@@ -1,12 +1,13 @@
-//! What the kernel's own log, in a log of `klpcap`, says of a transition: when it started, and whether it was forced.
+//! Reads what the kernel's own log, which a log of `klpcap` contains, says of a transition: when it started, and
+//! whether it was forced.
 use klp_capture::{Capture, Moment, Sample};
 
 /// When a transition started.
 #[derive(Clone, Copy, PartialEq, Eq)]
 pub enum Since {
-    /// The kernel's own log has its start.
+    /// The kernel's own log says that it started at this moment.
     Logged(Moment),
-    /// The start isn't known: it was at this sample, the transition's first, or before.
+    /// The start isn't known. It was when this sample was taken, the first of the transition, or before.
     AtOrBefore(Moment),
 }
 
@@ -18,11 +19,11 @@ const FORCED: &[u8] = b"forcing remaining tasks";
 enum Milestone {
     /// A transition with this target starts.
     Starts(bool),
-    /// One is complete.
+    /// A transition is complete.
     Completes,
 }
 
-/// What a line of the kernel's log says of the transition of a patch: `livepatch: 'NAME': starting patching
+/// Reads what a line of the kernel's log says of a patch's transition, such as `livepatch: 'NAME': starting patching
 /// transition`.
 fn milestone_of(text: &[u8], patch: &[u8]) -> Option<Milestone> {
     let behind = text.strip_prefix(b"livepatch: '".as_slice())?;
@@ -36,16 +37,17 @@ fn milestone_of(text: &[u8], patch: &[u8]) -> Option<Milestone> {
     }
 }
 
-/// How far the clock of the kernel's log may be from that of the samples, in microseconds.
+/// By how many microseconds the clock of the kernel's log and that of the samples may differ.
 const CLOCKS_APART: u64 = 200_000;
 
-/// Whether a moment of the kernel's log is after the begin of a sample, as far as the clocks show.
+/// Whether a moment of the kernel's log may be after the beginning of a sample, as the two clocks differ by
+/// `CLOCKS_APART` at most.
 fn is_behind(at: Moment, sample: Moment) -> bool {
     at.0.saturating_add(CLOCKS_APART) >= sample.0
 }
 
-/// Since when a transition is under way that a sample is the first to show. `before` is the last sample that didn't
-/// show it: an earlier start in the kernel's log is another transition's.
+/// Returns when a transition started. `sample` is the first sample that shows it, and `before` the last one that
+/// doesn't. A start before `before` in the kernel's log is the start of another transition.
 pub fn since_when(
     capture: &Capture<'_>,
     patch: &[u8],
@@ -70,14 +72,15 @@ pub fn since_when(
     }
 }
 
-/// Whether some bytes contain others.
+/// Whether `bytes` contains `wanted`.
 fn contains(bytes: &[u8], wanted: &[u8]) -> bool {
     bytes
         .windows(wanted.len().max(1))
         .any(|window| window == wanted)
 }
 
-/// When a transition was forced while it was recorded, by the kernel's log. The log has older forces too.
+/// Returns when a transition was forced while `klpcap` recorded, by the kernel's log. Older forces in that log don't
+/// count.
 pub fn forced_in(capture: &Capture<'_>) -> Option<Moment> {
     let first = capture.samples.first()?.line.from;
     let line = capture

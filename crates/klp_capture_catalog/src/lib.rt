@@ -1,10 +1,10 @@
-//! What a log of a real kernel names, and the catalog that says the same to a manager.
+//! What a log of a real kernel names, and a catalog with the same names.
 //!
-//! [`Functions`] has the patches of a log with the functions that they change, as far as its frames and symbols show,
-//! and writes them as a catalog's text ([`Functions::catalog`]). `patch_lines` writes what happened to a patch between
-//! two samples as lines of a trace, `transition` says which transitions a log shows and how each ended, and
-//! `kernel_log` reads what the kernel's own log says of them: when one started, and whether it was forced. Nothing here
-//! needs trust: what is made of it is checked against the rules (`klp_capture_run`).
+//! [`Functions`] has the patches of a log and the functions that they change, as far as the log's frames and symbols
+//! show them. [`Functions::catalog`] writes them as a catalog's text. `patch_lines` writes, as lines of a trace, what
+//! happened to a patch between two samples. `transition` says which transitions a log shows, and how each ended.
+//! `kernel_log` reads what the kernel's own log says of a transition: when it started, and whether it was forced.
+//! Nothing here has to be trusted, since `klp_capture_run` checks against the rules what is made of it.
 #![tactic(auto)]
 
 mod catalog;

@@ -8,18 +8,18 @@ use std::alloc::{AllocError, Global};
 /// The object of functions that are in no module.
 const KERNEL: &[u8] = b"vmlinux";
 
-/// The function that patched functions call, and where it is if the log doesn't say.
+/// The function that patched functions call. Its address is `HANDLER_ADDRESS` if the log doesn't have it.
 const HANDLER: &[u8] = b"klp_ftrace_handler";
 
 const HANDLER_ADDRESS: u64 = 0xffff_ffff_8100_0000;
 
-/// What replaces an address that the log lacks, and how far the next one is.
+/// Addresses that stand for ones that the log doesn't have come after this one, `ADDRESS_STEP` apart.
 const FIRST_ADDRESS: u64 = 0xffff_ffff_cf00_0000;
 
 const ADDRESS_STEP: u64 = 16;
 
-/// What the names of new functions begin with, before the name of the function that they replace: the same name
-/// (kpatch), the kernel's samples, and klp-convert.
+/// What the name of a new function begins with, before the name of the function that it replaces: nothing (kpatch),
+/// `livepatch_` (the kernel's samples), or `klpp_` (klp-convert).
 const PREFIXES: [&[u8]; 3] = [b"", b"livepatch_", b"klpp_"];
 
 /// A patch that the log names.
@@ -27,7 +27,7 @@ const PREFIXES: [&[u8]; 3] = [b"", b"livepatch_", b"klpp_"];
 pub struct SeenPatch<'a> {
     /// What it is called.
     pub name: &'a [u8],
-    /// Whether it is cumulative, by the log or by a guess.
+    /// Whether the patch is cumulative. If the log doesn't show it, this is a guess.
     pub is_cumulative: bool,
 }
 
@@ -42,11 +42,12 @@ pub struct SeenFunction<'a> {
     pub name: &'a [u8],
     /// Its position among the symbols of this name, from 1.
     pub position: u32,
-    /// Which new function of its patch replaces it. None for a function that a cumulative patch gives back.
+    /// The number of the new function among those of its patch. `None` for a function that a cumulative patch gives
+    /// back.
     pub index: Option<u16>,
-    /// The name of the new function, if the log has it.
+    /// The name of the new function, or `None` if the log doesn't have it.
     pub new_name: Option<&'a [u8]>,
-    /// Where the new function is, or an address that stands for that.
+    /// The address of the new function, or another address if the log doesn't have it.
     pub new_address: u64,
 }
 
@@ -77,15 +78,15 @@ pub struct Functions<'a> {
     pub functions: Vec<SeenFunction<'a>>,
     pub(crate) symbols: Vec<SeenSymbol<'a>>,
     pub(crate) handler: u64,
-    /// The functions whose names are longer than `MAX_SYMBOL_NAME` bytes: the catalog has the first so many of them.
+    /// The functions whose names have more than `MAX_SYMBOL_NAME` bytes. The catalog has the beginnings of these names.
     pub cut: Vec<&'a [u8]>,
     /// How many functions the catalog has no room for. At most 4,096 are counted.
     pub left_out: usize,
-    /// What stands for the next address that isn't known.
+    /// The next address that stands for one that the log doesn't have.
     spare: u64,
 }
 
-/// What the files of a patch read in these rows, if it is there.
+/// Returns what the files of a patch read, by these rows. Returns `None` if the patch isn't there.
 pub fn files_in(rows: &[PatchRow<'_>], name: &[u8]) -> Files {
     match patch_in(rows, name) {
         Some(
@@ -99,7 +100,7 @@ pub fn files_in(rows: &[PatchRow<'_>], name: &[u8]) -> Files {
     }
 }
 
-/// The patch in these rows that is in transition, with its target.
+/// Returns the patch that is in transition by these rows, with its target.
 pub fn moving_in<'a>(rows: &[PatchRow<'a>]) -> Option<(&'a [u8], bool)> {
     for row in rows {
         if let PatchRow::Patch {
@@ -114,7 +115,7 @@ pub fn moving_in<'a>(rows: &[PatchRow<'a>]) -> Option<(&'a [u8], bool)> {
     None
 }
 
-/// Whether a module has this symbol; without a module the kernel itself.
+/// Whether a symbol belongs to an object: to a module of this name, or to the kernel itself.
 fn is_of(symbol: &SymbolLine<'_>, object: &[u8]) -> bool {
     match symbol.module {
         Some(module) => module == object,
@@ -129,7 +130,7 @@ fn is_named_after(new: &[u8], prefix: &[u8], old: &[u8]) -> bool {
     }
 }
 
-/// Where a module stands in a list, the newest first: older ones are behind.
+/// Returns the place of a module in a list that has the newest module first. So an older module has a higher number.
 fn age_of(modules: &[&[u8]], name: &[u8]) -> usize {
     modules
         .iter()
@@ -137,7 +138,8 @@ fn age_of(modules: &[&[u8]], name: &[u8]) -> usize {
         .unwrap_or(modules.len())
 }
 
-/// The index of this name, which is added if it isn't there. None if there is no room.
+/// Returns the index of this name, after adding the name if the list doesn't have it. Returns `None` if there is no
+/// room.
 pub(crate) fn index_of<'a>(
     names: &mut Vec<&'a [u8]>,
     name: &'a [u8],
@@ -153,7 +155,7 @@ pub(crate) fn index_of<'a>(
     Ok(Some(names.len().saturating_sub(1)))
 }
 
-/// What the first sample says of the patches.
+/// Returns the rows about patches of the first sample.
 fn first_rows<'c, 'a>(capture: &'c Capture<'a>) -> &'c [PatchRow<'a>] {
     let span = match capture.samples.first() {
         Some(sample) => sample.patches,
@@ -162,7 +164,8 @@ fn first_rows<'c, 'a>(capture: &'c Capture<'a>) -> &'c [PatchRow<'a>] {
     span.of(&capture.rows)
 }
 
-/// The names of the patches, the oldest first. Those of the first sample are sorted by their modules.
+/// Returns the names of the patches, the oldest first. The patches of the first sample are ordered by the age of their
+/// modules.
 fn patches_of<'a>(alloc: Global, capture: &Capture<'a>) -> Result<Vec<&'a [u8]>, AllocError> {
     let mut names: Vec<&'a [u8]> = Vec::new(alloc);
     for row in first_rows(capture) {
@@ -185,7 +188,7 @@ fn patches_of<'a>(alloc: Global, capture: &Capture<'a>) -> Result<Vec<&'a [u8]>,
     Ok(names)
 }
 
-/// The patch that is in transition in the last sample.
+/// Returns the patch that is in transition in the last sample.
 fn last_moving<'a>(capture: &Capture<'a>) -> Option<&'a [u8]> {
     let (name, _target) = moving_in(capture.samples.last()?.patches.of(&capture.rows))?;
     Some(name)
@@ -200,7 +203,8 @@ fn has_symbols(capture: &Capture<'_>, patch: &[u8]) -> bool {
             .any(|symbol| symbol.module == Some(patch))
 }
 
-/// The symbol of the new function that replaces a function of this name, if the patch's module has one.
+/// Returns the symbol of the new function that replaces a function of this name. Returns `None` if the patch's module
+/// has none.
 pub(crate) fn new_symbol_of<'a>(
     symbols: &[SymbolLine<'a>],
     patch: &[u8],
@@ -218,8 +222,8 @@ pub(crate) fn new_symbol_of<'a>(
 }
 
 impl<'a> Functions<'a> {
-    /// What a log names. With `guesses`, takes the last patch in transition for a cumulative one: a log that was cut
-    /// off doesn't show that.
+    /// Returns what a log names. With `guesses`, the last patch in transition counts as a cumulative one, since a log
+    /// that was cut off doesn't show whether it is.
     pub fn of(
         alloc: Global,
         capture: &Capture<'a>,
@@ -253,7 +257,7 @@ impl<'a> Functions<'a> {
         Ok(functions)
     }
 
-    /// What the patches are called in a trace.
+    /// Returns the names of the patches in the log and in the trace.
     pub fn names(&self, alloc: Global) -> Result<Vec<PatchName<'a>>, AllocError> {
         let mut names = Vec::new(alloc);
         for patch in &self.patches {
@@ -262,7 +266,7 @@ impl<'a> Functions<'a> {
         Ok(names)
     }
 
-    /// An address that stands for one that the log doesn't have.
+    /// Returns an address that stands for one that the log doesn't have.
     fn spare_address(&mut self) -> u64 {
         self.spare = self.spare.saturating_add(ADDRESS_STEP);
         self.spare
@@ -324,7 +328,8 @@ impl<'a> Functions<'a> {
         Ok(())
     }
 
-    /// Adds the symbols of each object that its functions are named by: those of the log, and others if it has too few.
+    /// Adds the symbols of each object under the names of its functions: the symbols of the log, and further ones if
+    /// the log has too few.
     fn add_symbols(&mut self, capture: &Capture<'a>) -> Result<(), AllocError> {
         for place in 0..self.functions.len() {
             let Some(function) = self.functions.get(place).copied() else {
@@ -375,7 +380,8 @@ impl<'a> Functions<'a> {
         Ok(())
     }
 
-    /// The function that a task is inside of, if a patch of the log changes it, or has it.
+    /// Returns the version of a function that a frame is in. Returns `None` if no patch of the log changes the
+    /// function, or has it as a new function.
     pub fn seen_version(&self, frame: FrameLine<'_>) -> Option<SeenVersion> {
         let function = self
             .functions
@@ -397,7 +403,8 @@ impl<'a> Functions<'a> {
         })
     }
 
-    /// The name of the symbol at a site of the catalog: sites count through all objects, in the order of their symbols.
+    /// Returns the name of the symbol at a site of the catalog. Sites are numbered over all objects, in the order of
+    /// their symbols.
     pub fn name_at(&self, site: usize) -> &'a [u8] {
         let mut left = site;
         for object in 0..self.objects.len() {
@@ -413,7 +420,7 @@ impl<'a> Functions<'a> {
         b""
     }
 
-    /// Whether a frame is the new function that replaces this one.
+    /// Whether a frame is in the new function that replaces this function.
     fn is_new(&self, function: &SeenFunction<'a>, frame: FrameLine<'_>) -> bool {
         let Some(patch) = self.patches.get(function.patch) else {
             return false;
@@ -423,7 +430,7 @@ impl<'a> Functions<'a> {
         }
         match function.new_name {
             Some(name) => name == frame.function,
-            // A log that was cut off lacks its symbols.
+            // A log that was cut off may lack the symbols of the patch's module.
             None => PREFIXES.iter().any(|prefix| is_named_after(
                 frame.function,
                 prefix,
@@ -432,7 +439,7 @@ impl<'a> Functions<'a> {
         }
     }
 
-    /// Whether a frame is the original of this function.
+    /// Whether a frame is in the original of this function.
     fn is_original(&self, function: &SeenFunction<'a>, frame: FrameLine<'_>) -> bool {
         let Some(object) = self.objects.get(function.object) else {
             return false;
@@ -445,7 +452,7 @@ impl<'a> Functions<'a> {
     }
 }
 
-/// Where the log has the function that patched functions call.
+/// Returns the address of the function that patched functions call, by the log's symbols.
 fn handler_in(symbols: &[SymbolLine<'_>]) -> u64 {
     let found = symbols
         .iter()

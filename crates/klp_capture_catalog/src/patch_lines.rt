@@ -2,7 +2,7 @@
 use klp_capture::Text;
 use std::alloc::AllocError;
 
-/// What the files of a patch read, `enabled` and `transition`; none if it isn't there.
+/// What the files `enabled` and `transition` of a patch read. `None` if the patch isn't there.
 pub type Files = Option<(bool, bool)>;
 
 /// Lines about one patch.
@@ -18,7 +18,7 @@ impl<'r> PatchLines<'r> {
         writeln!(self.text, "load {name}")
     }
 
-    /// The patch stood before the log began.
+    /// Writes that the patch was there before the log began.
     pub fn stand(&mut self) -> Result<(), AllocError> {
         self.load()?;
         self.poll()
@@ -37,8 +37,8 @@ impl<'r> PatchLines<'r> {
         self.text.push_str("poll\n")
     }
 
-    /// Writes what led from one reading of its files to the next, except the poll that completes a transition at the
-    /// end. A patch that a cumulative one replaced does nothing.
+    /// Writes what led from one reading of the patch's files to the next. If the transition completed in between, the
+    /// poll that completed it isn't written. For a patch that a cumulative one replaced, nothing is written.
     pub fn change(
         &mut self,
         before: Files,
@@ -59,7 +59,7 @@ impl<'r> PatchLines<'r> {
         }
     }
 
-    /// Writes what its files read.
+    /// Writes what the patch's files read.
     pub fn saw(&mut self, files: Files) -> Result<(), AllocError> {
         let name = Text(self.name);
         match files {
@@ -72,7 +72,7 @@ impl<'r> PatchLines<'r> {
     }
 }
 
-/// Whether a change of a patch's files ends with the completion of its transition.
+/// Whether the transition of a patch completed between two readings of the patch's files.
 pub fn completes(before: Files, after: Files, is_replaced: bool) -> bool {
     match (before, after) {
         (None | Some((_, true)), Some((true, false))) => true,
@@ -81,7 +81,8 @@ pub fn completes(before: Files, after: Files, is_replaced: bool) -> bool {
     }
 }
 
-/// Whether a transition starts by a change of a patch's files: not if it is reversed, or goes on.
+/// Whether a transition of the patch started between two readings of its files. Going on and being reversed don't
+/// count.
 pub fn starts(before: Files, after: Files, is_replaced: bool) -> bool {
     match (before, after) {
         (None, Some(_)) => true,

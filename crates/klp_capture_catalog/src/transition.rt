@@ -1,4 +1,4 @@
-//! Transitions that a log shows: which, since when, and how each ended.
+//! The transitions that a log shows: of which patch, since when, and how each ended.
 use crate::kernel_log::Since;
 use crate::patch_lines::Files;
 use klp_capture::Moment;
@@ -12,18 +12,18 @@ pub struct Moved {
     pub target: bool,
     /// When it started.
     pub since: Since,
-    /// The first sample of it.
+    /// When the first sample that shows the transition was taken.
     pub from: Moment,
-    /// The last sample of it so far.
+    /// When the last sample that shows the transition was taken.
     pub to: Moment,
-    /// How it ended; none as long as it goes on.
+    /// How it ended. `None` as long as it goes on.
     pub end: Option<End>,
 }
 
 /// The end of a transition.
 #[derive(Clone, Copy)]
 pub struct End {
-    /// The first sample that shows it.
+    /// When the first sample after the transition was taken.
     pub at: Moment,
     /// What came of it.
     pub ending: Ending,
@@ -34,17 +34,17 @@ pub struct End {
 pub enum Ending {
     /// All tasks reached its target.
     Complete,
-    /// It was reversed. The patch may be back at the other end already.
+    /// It was reversed. The transition back may already be complete.
     Reversed,
 }
 
 impl Moved {
-    /// Whether a patch with this target is this transition.
+    /// Whether this is the transition of this patch to this target.
     pub fn is_of(&self, patch: usize, target: bool) -> bool {
         self.patch == patch && self.target == target
     }
 
-    /// What came of it, by what its patch's files read afterwards.
+    /// Returns how the transition ended, by what the patch's files read afterwards.
     pub fn ending_by(&self, files: Files) -> Ending {
         let is_enabled = matches!(files, Some((true, _)));
         if is_enabled == self.target {

@@ -1,4 +1,5 @@
-//! Explaining a log: a catalog of what it names, a run of the rules that shows it, and whether it really is one.
+//! Explains a log: makes a catalog of what the log names, looks for a run of the rules that shows the log, and checks
+//! that run.
 ghost use Rattle.std.specs.Prelude.{◌≡◌, ◌≤◌, ◌<◌, ◌↔◌, true, false, length, string_bytes, None, is_some, Ok, IfOk};
 ghost use Rattle.std.specs.Prelude.{IfSome};
 ghost use Rattle.std.specs.Str.Lines.{lines};
@@ -19,37 +20,38 @@ use klp_core::Manager;
 use klp_program::{Fault, Verdict, boot, close, scripted, watch_over_text};
 use std::alloc::{AllocError, Global};
 
-/// What a log comes to.
+/// What was found out about a log.
 #[derive(Drop)]
 pub struct Explained<'a> {
     /// The run that was found.
     pub run: Run<'a>,
-    /// What the patches are called in the trace.
+    /// The names of the patches in the trace.
     pub names: Vec<PatchName<'a>>,
     /// The threads that have a number in the trace.
     pub threads: Vec<Thread>,
     /// The text of the catalog, whose patches, objects and functions are those that the log names.
     pub catalog: String,
-    /// The first sample that none of the runs leads to which were tried, if there is one, counted from 0.
+    /// The first sample that none of the tried runs leads to, counted from 0. `None` if there is none.
     pub failed: Option<usize>,
-    /// The same in a log that was cut off. Such a log may lack the line of a force that leads there. So neither that
-    /// sample nor what comes later is judged.
+    /// The first sample that none of the tried runs leads to, if the log was cut off. Such a log may lack the line of a
+    /// force that led there. So neither this sample nor a later one is judged.
     pub unjudged: Option<usize>,
-    /// The first sample that the trace lacks, though something led to it. There is one only if the search is at fault.
+    /// The first sample that the trace doesn't show, though something led to it. It is always `None` unless the search
+    /// is at fault.
     pub unshown: Option<usize>,
-    /// How many samples weren't reached: those after a force, and those from the first that nothing leads to.
+    /// How many samples weren't reached: those after a force, and those from the first one that nothing leads to.
     pub later: u64,
-    /// When the transition was forced, if it was. Later samples aren't looked at.
+    /// When the transition was forced, or `None`. Later samples aren't looked at.
     pub forced: Option<Moment>,
     /// The verdict on the trace.
     pub verdict: Verdict,
-    /// Who lags at the end of the trace, by the numbers of the tasks. None if the trace isn't as the rules say.
+    /// Who lags at the end of the trace, by the numbers of the tasks. `None` if the trace breaks the rules.
     pub lags: Option<Lags>,
 }
 
 impl<'a> Explained<'a> {
-    /// Whether a run of the rules shows what was recorded: some sample is in the trace, no sample is `failed` or
-    /// `unshown`, the trace is honest, and it is known who lags at its end.
+    /// Whether a run of the rules shows what was recorded. This is so if the trace shows some sample, `failed` and
+    /// `unshown` are `None`, the trace is honest, and it is known who lags at its end.
     pub fn is_explained(&self) -> bool
         ensures { (result ≡ true) ↔
             ((is_honest self.now.verdict ≡ true) × (self.now.failed ≡ None) × (self.now.unshown ≡ None)
@@ -66,7 +68,7 @@ impl<'a> Explained<'a> {
         }
     }
 
-    /// Whether no run that was tried shows what was recorded. A log that shows no sample at all is neither explained
+    /// Whether none of the tried runs shows what was recorded. A log without any sample to show is neither explained
     /// nor refuted.
     pub fn is_refuted(&self) -> bool
         ensures { (result ≡ false) ↔
@@ -78,7 +80,7 @@ impl<'a> Explained<'a> {
         }
     }
 
-    /// The trace that shows what the log has, up to the sample that nothing leads to.
+    /// Returns the trace. It shows what the log has, up to the first sample that nothing leads to.
     pub fn trace(&self) -> &str
         ensures { result.now ≡ string_bytes self.now.run.trace }
     {
@@ -87,15 +89,15 @@ impl<'a> Explained<'a> {
 }
 
 impl<'a> Explained<'a> {
-    /// The tasks that hold the transition up at the end of the trace, which is the last settled sample. There are none
-    /// if no transition is under way there.
+    /// Returns the tasks that hold the transition up at the end of the trace, which is the last settled sample. There
+    /// are none if no transition is under way then.
     pub fn holders(&self, alloc: Global) -> Result<Vec<Holder>, AllocError>
         ensures { IfOk result (λ list. list.items ≡ holders_in self.now.lags) }
     {
         holders_of(alloc, &self.lags)
     }
 
-    /// A text of names (`klppage CATALOG SCRIPT NAMES`): what each task of the trace is called.
+    /// Returns a text of names (for `klppage CATALOG SCRIPT NAMES`) with the name of each task of the trace.
     pub fn names(&self, alloc: Global) -> Result<String, AllocError> {
         let mut text = String::new(alloc);
         for (number, task) in self.run.tasks.iter().enumerate() {
@@ -107,7 +109,7 @@ impl<'a> Explained<'a> {
     }
 }
 
-// Drops the manager then.
+// Explores the samples, and then drops the manager.
 fn explore_by<'a>(
     alloc: Global,
     manager: Manager,
@@ -122,7 +124,8 @@ fn explore_by<'a>(
     failed
 }
 
-// Boots a manager over a plan. The callbacks are made here, as for watching a trace; a log's plan has none.
+// Boots a manager with a plan, and explores the samples. The callbacks are made here, as for watching a trace. A plan
+// that is made of a log has none.
 fn explore_over_plan<'a>(
     alloc: Global,
     plan: Plan,
@@ -140,7 +143,7 @@ fn explore_over_plan<'a>(
     Ok(explore_by(alloc, manager, run, capture, forced)?)
 }
 
-/// A run, and the first sample that it doesn't lead to.
+/// A run, and the first sample that it doesn't lead to, if there is one.
 #[derive(Drop)]
 struct Outcome<'a> {
     run: Run<'a>,
@@ -148,7 +151,7 @@ struct Outcome<'a> {
     stopped: Option<usize>,
 }
 
-/// Makes a catalog of what a log names, and looks for a run over it.
+/// Makes a catalog of what a log names, and looks for a run with that catalog.
 fn explored<'a>(
     alloc: Global,
     capture: &Capture<'a>,
@@ -167,7 +170,7 @@ fn explored<'a>(
     })
 }
 
-/// How far a run gets: the first sample that it doesn't lead to.
+/// Returns the first sample that a run doesn't lead to, or `None` if it leads to all.
 fn reached(
     alloc: Global,
     capture: &Capture<'_>,
@@ -178,8 +181,8 @@ fn reached(
     Ok(found.stopped)
 }
 
-/// Whether a run gets further if the last patch in transition is taken for a cumulative one. A log shows this only once
-/// the transition is complete, or by the symbols at the log's end. A log that was cut off may lack both.
+/// Whether a run leads further if the last patch in transition counts as cumulative. A log shows whether it is only
+/// once the transition is complete, or by the symbols at the log's end. A log that was cut off may lack both.
 fn is_better_guessed(
     alloc: Global,
     capture: &Capture<'_>,
@@ -197,7 +200,7 @@ fn is_better_guessed(
     }
 }
 
-/// The samples before one of this number, or all.
+/// Returns the samples before the one of this number, or all samples without a number.
 fn samples_before(number: Option<usize>, samples: &[Sample]) -> &[Sample]
     ensures { result.now ≡ samples_before number samples.now }
 {
@@ -207,9 +210,10 @@ fn samples_before(number: Option<usize>, samples: &[Sample]) -> &[Sample]
     }
 }
 /// Explains a log: makes a catalog of what it names, and looks for a run of the rules that shows each sample. The
-/// verdict is that of `klpwatch` on the trace that was found, over that catalog. Up to the first sample that nothing
-/// leads to, the trace shows each settled sample before a force: the states of the tasks that the sample names, and the
-/// files of the patches. The rules say who lags at the end, by the state that the trace leads to.
+/// verdict is that of `klpwatch` on the trace that was found, with that catalog. The trace shows each settled sample
+/// that is before a force and before the first sample that nothing leads to. It shows the states of the tasks that the
+/// sample names, and the files of the patches. Who lags at the end follows from the rules and the state that the trace
+/// leads to.
 pub fn explain<'a>(alloc: Global, capture: &Capture<'a>) -> Result<Explained<'a>, Fault>
     ensures judged { IfOk result
         (λ found. Watches (string_bytes found.catalog) (string_bytes found.run.trace) (Ok found.verdict)) }

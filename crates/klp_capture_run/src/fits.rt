@@ -1,4 +1,4 @@
-//! Whether lines of a trace lead to what they say is seen.
+//! Whether the events in lines of a trace lead to what the other lines say was seen.
 ghost use Rattle.klp_core.specs.Journaled.{IsWellFormed};
 
 use klp_core::Manager;
@@ -42,7 +42,7 @@ fn shows(manager: &Manager, sight: &Sight) -> bool {
     }
 }
 
-/// Takes an event, or compares what is shown.
+/// Passes an event to the manager, or compares what was seen with what the manager shows.
 fn holds(manager: &mut Manager, item: &Observed) -> bool
     requires { IsWellFormed manager.old }
 {
@@ -54,8 +54,9 @@ fn holds(manager: &mut Manager, item: &Observed) -> bool
     }
 }
 
-/// Whether a manager takes the events of these lines, whatever it answers, and shows between them what they say. Calls
-/// are compared by the versions that ran. The events that it took stay.
+/// Passes the events of these lines to a manager, and returns whether it accepts them and shows between them what the
+/// other lines say. Its replies aren't compared. Of a call, the version that ran is compared. Events that were accepted
+/// stay.
 pub(crate) fn fits(alloc: Global, manager: &mut Manager, text: &str) -> bool
     requires { IsWellFormed manager.old }
 {

@@ -1,4 +1,4 @@
-//! A task that a log follows, as the run so far leaves it.
+//! A task that a log follows, as it is after the part of the run that was found so far.
 use klp_capture::{Activity, Moment, PatchedState};
 use klp_capture_catalog::{Functions, SeenVersion};
 use klp_core::Lag;
@@ -10,7 +10,7 @@ use std::alloc::AllocError;
 pub struct Followed<'a> {
     /// The thread's number.
     pub thread: u64,
-    /// When the thread began, so that a reused number isn't taken for the same thread.
+    /// When the thread began. If its number is used again, the new thread has another start.
     pub start: u64,
     /// What it is called.
     pub name: &'a [u8],
@@ -20,25 +20,25 @@ pub struct Followed<'a> {
     /// The functions that it called and hasn't returned from, outermost first.
     pub(crate) inside: Vec<SeenVersion>,
     pub(crate) state: PatchedState,
-    /// How often it had got a processor when it was seen last.
+    /// How often the task had got a processor when it was last seen.
     pub(crate) runs: u64,
-    /// Since when it hasn't run, as far as was seen.
+    /// The moment since which the task hasn't run, as far as samples show.
     pub(crate) since: Moment,
     pub(crate) has_ended: bool,
-    /// Why it wasn't at the target in the last sample of a transition.
+    /// Why the task wasn't at the target in the last sample that showed a transition. `None` if it was.
     pub lag: Option<Lag>,
-    /// The stays in which it held a transition up, in their order.
+    /// The stays in which the task held a transition up, in order of time.
     pub stays: Vec<Stay>,
 }
 
-/// How long a task held a transition up, in one function and without having run.
+/// A time in which a task held a transition up, in one function and without running.
 #[derive(Clone, Copy)]
 pub struct Stay {
     /// The index of the transition.
     pub transition: usize,
-    /// The first sample in which it did so.
+    /// When the first sample that shows the stay was taken.
     pub from: Moment,
-    /// The last of them.
+    /// When the last sample that shows the stay was taken.
     pub to: Moment,
     /// The function that it slept in.
     pub version: Version,
@@ -56,13 +56,13 @@ pub(crate) struct Sighting {
 }
 
 impl Sighting {
-    /// Whether it slept in a place that is known.
+    /// Whether the task slept, and it is known where.
     pub(crate) fn is_asleep(&self) -> bool {
         self.is_stable && self.activity == Activity::Asleep
     }
 }
 
-/// How many places two lists begin with in common.
+/// Returns how many places the two lists have in common at their beginning.
 fn common(a: &[SeenVersion], b: &[SeenVersion]) -> usize {
     a.iter().zip(b).take_while(|pair| pair.0 == pair.1).count()
 }
@@ -116,7 +116,7 @@ impl<'r, 'a> TaskLines<'r, 'a> {
         self.text.push_str("\n")
     }
 
-    /// The task begins, and gets to where it was seen first.
+    /// Writes that the task begins, and gets to where it was first seen.
     pub(crate) fn begin(&mut self, seen: &Sighting) -> Result<(), AllocError> {
         self.event("new")?;
         if seen.activity == Activity::Running && seen.places.is_empty() {
@@ -132,8 +132,8 @@ impl<'r, 'a> TaskLines<'r, 'a> {
         Ok(())
     }
 
-    /// The task ran since it was seen last, and gets to where it is now. If it was switched, it left the kernel in
-    /// between.
+    /// Writes that the task ran since it was last seen, and how it got to where it is now. If it was switched, it left
+    /// the kernel on the way.
     pub(crate) fn go_on(
         &mut self,
         task: &Followed<'_>,
@@ -167,7 +167,7 @@ impl<'r, 'a> TaskLines<'r, 'a> {
         Ok(())
     }
 
-    /// The task returns from all functions, and ends.
+    /// Writes that the task returns from all functions, and ends.
     pub(crate) fn end(&mut self, task: &Followed<'_>) -> Result<(), AllocError> {
         if task.mode == Mode::Asleep {
             self.event("wake")?;
@@ -176,7 +176,7 @@ impl<'r, 'a> TaskLines<'r, 'a> {
         self.event("end")
     }
 
-    /// What the task's `patch_state` read.
+    /// Writes what the task's `patch_state` read.
     pub(crate) fn saw(&mut self, state: PatchedState) -> Result<(), AllocError> {
         let number = self.number;
         let state = match state {

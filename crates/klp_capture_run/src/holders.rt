@@ -1,5 +1,5 @@
-//! Who holds a transition up at the end of a trace. The trace is read back, and done over a newly booted manager: so
-//! the result follows from the rules and the trace alone, and not from how the trace was found.
+//! Finds who holds a transition up at the end of a trace. The trace is read again, and done with a newly booted
+//! manager. So the result follows from the rules and the trace alone, however the trace was found.
 ghost use Rattle.std.specs.Prelude.{◌≡◌, ◌≤◌, ◌++◌, length, OnOk, IfOk, IfSome};
 ghost use Rattle.klp_catalog_text.specs.Within.{AreTargetsWithin};
 ghost use Rattle.klp_capture_run.specs.Holders.{LagBehind, LagBehindTrace, LagOverPlan, LagOver, holder_at};
@@ -15,7 +15,8 @@ use klp_types::{MAX_TASKS, Version};
 use klp_watch::{Observed, compare_whole};
 use std::alloc::{AllocError, Global};
 
-/// For each task, why it isn't at the target of the transition under way.
+/// For each task number, why the task isn't at the target of the transition. `None` if it is, or if there is no such
+/// task.
 pub type Lags = [Option<Lag>; MAX_TASKS];
 
 /// A task that holds a transition up.
@@ -27,7 +28,7 @@ pub struct Holder {
     pub version: Version,
 }
 
-// Does the items, and drops the manager then. None if one isn't as the rules say.
+// Does the items, and then drops the manager. Returns `None` if an item breaks the rules.
 fn lags_behind(manager: Manager, items: &[Observed]) -> Option<Lags>
     ensures { IfSome result (λ lags. LagBehind manager.managed items.now lags) }
 {
@@ -41,7 +42,8 @@ fn lags_behind(manager: Manager, items: &[Observed]) -> Option<Lags>
     }
 }
 
-// The same for the items of a trace. None if it can't be read.
+// Does the items of a trace, and then drops the manager. Returns `None` if the trace can't be read, or an item breaks
+// the rules.
 fn lags_behind_trace(alloc: Global, manager: Manager, trace: &[u8]) -> Option<Lags>
     ensures { IfSome result (λ lags. LagBehindTrace manager trace.now lags) }
 {
@@ -54,7 +56,8 @@ fn lags_behind_trace(alloc: Global, manager: Manager, trace: &[u8]) -> Option<La
     }
 }
 
-// The same over a plan. The callbacks are made here, as for watching a trace; a log's plan has none.
+// Does a trace with a manager of this plan. The callbacks are made here, as for watching a trace. A plan that is made
+// of a log has none.
 fn lags_over_plan(alloc: Global, plan: Plan, trace: &[u8]) -> Result<Option<Lags>, Fault>
     requires { AreTargetsWithin (length plan.objects) plan.patches }
     ensures { IfOk result (λ found. IfSome found (λ lags. LagOverPlan plan trace.now lags)) }
@@ -67,8 +70,8 @@ fn lags_over_plan(alloc: Global, plan: Plan, trace: &[u8]) -> Result<Option<Lags
     Ok(lags_behind_trace(alloc, manager, trace))
 }
 
-/// Who lags in the state that a trace leads to over a catalog, and why. None if the trace can't be read, or isn't as
-/// the rules say.
+/// Returns who lags at the end of a trace, and why. `catalog` is the catalog's text. Returns `None` if the trace can't
+/// be read or breaks the rules.
 pub(crate) fn lags_over(alloc: Global, catalog: &[u8], trace: &[u8]) -> Result<Option<Lags>, Fault>
     ensures { IfOk result (λ found. IfSome found (λ lags. LagOver catalog.now trace.now lags)) }
 {
@@ -98,7 +101,7 @@ fn listed(alloc: Global, lags: &[Option<Lag>]) -> Result<Vec<Holder>, AllocError
     Ok(list)
 }
 
-/// Lists the tasks that hold a transition up, by their numbers.
+/// Returns the tasks that hold a transition up, in the order of their numbers.
 pub(crate) fn holders_of(alloc: Global, lags: &Option<Lags>) -> Result<Vec<Holder>, AllocError>
     ensures { IfOk result (λ list. list.items ≡ holders_in lags.now) }
 {

@@ -6,18 +6,18 @@ use klp_capture::Text;
 use klp_capture_catalog::{Files, PatchLines};
 use std::alloc::{AllocError, Global};
 
-/// Lines of a trace that lead to one sample, with a poll at one place among them, or none.
+/// Lines of a trace that lead to one sample. Among them is at most one poll.
 #[derive(Drop)]
 struct Lines<'r, 'a> {
     run: &'r Run<'a>,
     text: String,
-    /// The place before which a poll stands, counted from 0.
+    /// The number of the place, from 0, where a poll is written. `None` if none is.
     poll: Option<usize>,
     place: usize,
 }
 
 impl<'r, 'a> Lines<'r, 'a> {
-    /// A place where a poll may stand.
+    /// Marks a place where a poll may be, and writes the poll if it is this place.
     fn place(&mut self) -> Result<(), AllocError> {
         if self.poll == Some(self.place) {
             self.text.push_str("poll\n")?;
@@ -34,7 +34,7 @@ impl<'r, 'a> Lines<'r, 'a> {
         }
     }
 
-    /// Adds that the tasks which the sample doesn't name were as before when it was taken.
+    /// Adds that those tasks which the sample doesn't name hadn't changed when it was taken.
     fn add_unnamed(&mut self, step: &Step, known: usize) -> Result<(), AllocError> {
         for number in 0..known {
             let is_named = step.named.iter().any(|named| named.number == number);
@@ -50,7 +50,7 @@ impl<'r, 'a> Lines<'r, 'a> {
         Ok(())
     }
 
-    /// Adds which modules were loaded.
+    /// Adds the modules that were loaded.
     fn add_loads(&mut self, loads: &[usize]) -> Result<(), AllocError> {
         for object in loads {
             let name = Text(
@@ -66,7 +66,7 @@ impl<'r, 'a> Lines<'r, 'a> {
         Ok(())
     }
 
-    /// Adds the patches that stood when the log began.
+    /// Adds the patches that were there before the log began.
     fn add_standing(&mut self) -> Result<(), AllocError> {
         for (patch, files) in self.run.functions.patches.iter().zip(&self.run.files) {
             if files.is_some() {
@@ -95,7 +95,7 @@ impl<'r, 'a> Lines<'r, 'a> {
         Ok(())
     }
 
-    /// Adds what a named task did, if it ran.
+    /// Adds what a task did that the sample names, if the task ran.
     fn add_task(&mut self, facts: &Facts, named: &Named) -> Result<(), AllocError> {
         let Some(task) = self.run.tasks.get(named.number) else {
             return Ok(());
@@ -144,7 +144,7 @@ impl<'r, 'a> Lines<'r, 'a> {
 }
 
 impl<'a> Run<'a> {
-    /// The lines of a trace that lead to a sample.
+    /// Returns the lines of a trace that lead to a sample.
     pub(crate) fn lines(
         &self,
         alloc: Global,
@@ -183,7 +183,7 @@ impl<'a> Run<'a> {
         lines.add_tasks(step)?;
         lines.add_files(after)?;
         let Lines { text, .. } = lines;
-        // A sample may show nothing at all. A time alone is no line of a trace.
+        // A sample may show nothing at all. A time without an item is no line of a trace.
         if text.len() == empty {
             return Ok(String::new(alloc));
         }

@@ -1,9 +1,9 @@
-//! A run of the rules that shows what a log shows, sample by sample.
+//! Looks for a run of the rules that shows what a log shows, sample by sample.
 //!
-//! A log says what was, not what happened. Between two samples this looks for events that the rules allow, and that
-//! lead from one to the next: it tries lines of a trace on a manager, compares what the manager shows then, and takes
-//! the lines back if the log shows something else. The search needs no trust: it finds a trace, which is checked
-//! against the rules like any other.
+//! A log says in which states the kernel was, but not what happened. For each two successive samples, this module looks
+//! for events that the rules allow and that lead from one to the other. It tries lines of a trace on a manager,
+//! compares what the manager then shows, and undoes the lines if the log shows something else. The search doesn't have
+//! to be trusted: the trace that it finds is checked against the rules, like any other trace.
 ghost use Rattle.klp_core.specs.Journaled.{IsWellFormed};
 
 use crate::fits::fits;
@@ -14,31 +14,32 @@ use klp_core::Manager;
 use klp_types::MAX_GROUPS;
 use std::alloc::{AllocError, Global};
 
-/// How many events the journal may have before a sample, so that it has room for those of the sample.
+/// How many events the journal may have before a sample. More are sealed first, so that there is room for those of the
+/// sample.
 const MAX_BEFORE_A_SAMPLE: u32 = MAX_GROUPS as u32 / 2;
 
-/// How far the run has come.
+/// The run as far as it was found.
 #[derive(Drop)]
 pub struct Run<'a> {
     /// What the log names.
     pub functions: Functions<'a>,
     /// The tasks that the log follows, by their numbers in the trace.
     pub tasks: Vec<Followed<'a>>,
-    /// For each patch what its files read in the last sample; none if it wasn't there.
+    /// For each patch, what its files read in the last sample. `None` if the patch wasn't there.
     pub files: Vec<Files>,
-    /// For each object whether it is loaded.
+    /// For each object, whether it is loaded.
     pub(crate) loaded: Vec<bool>,
     /// The trace so far.
     pub trace: String,
-    /// How many tasks the log follows for which the rules have no number.
+    /// How many tasks were left out that the log follows, since the rules have no numbers for them.
     pub left_out: u64,
-    /// How many samples were left out, since a patch changed while they were taken.
+    /// How many samples were left out because a patch changed while they were taken.
     pub torn: u64,
     /// How many samples the run shows.
     pub shown: u64,
-    /// The transitions that were seen, in their order.
+    /// The transitions that the log shows, in order of time.
     pub transitions: Vec<Moved>,
-    /// The last sample that was reached.
+    /// The last sample that the run reached. `None` before the first.
     pub last: Option<usize>,
 }
 
@@ -66,7 +67,7 @@ impl<'a> Run<'a> {
         })
     }
 
-    /// The threads that have a number in the trace.
+    /// Returns the threads that have a number in the trace.
     pub(crate) fn threads(&self, alloc: Global) -> Result<Vec<Thread>, AllocError> {
         let mut threads = Vec::new(alloc);
         for (number, task) in self.tasks.iter().enumerate() {
@@ -79,7 +80,7 @@ impl<'a> Run<'a> {
         Ok(threads)
     }
 
-    /// The objects that were loaded since the last sample.
+    /// Returns the objects that were loaded since the last sample.
     fn loads_in(&self, alloc: Global, rows: &[PatchRow<'a>]) -> Result<Vec<usize>, AllocError> {
         let mut loads = Vec::new(alloc);
         let mut object = None;
@@ -102,9 +103,9 @@ impl<'a> Run<'a> {
         Ok(loads)
     }
 
-    /// Goes on to a sample: looks for lines that lead to it, and takes their events. Returns false if there are none.
-    /// Then the trace gets the lines that were tried first, if the log is whole: one that was cut off may lack the line
-    /// of a force, so these lines aren't to be judged.
+    /// Looks for lines that lead to a sample, passes their events to the manager, and adds them to the trace. Returns
+    /// false if there are no such lines. The trace then gets the lines that were tried first, but only if the log is
+    /// whole. A log that was cut off may lack the line of a force, so its lines aren't to be judged.
     fn advance(
         &mut self,
         alloc: Global,
@@ -154,7 +155,7 @@ impl<'a> Run<'a> {
         Ok(true)
     }
 
-    /// Whether the last transition that was seen goes on, as far as is known.
+    /// Whether the last transition so far is that of this patch to this target, and goes on as far as is known.
     fn is_under_way(&self, patch: usize, target: bool) -> bool {
         match self.transitions.last() {
             Some(moved) => moved.end.is_none() && moved.is_of(patch, target),
@@ -162,7 +163,7 @@ impl<'a> Run<'a> {
         }
     }
 
-    /// Notes that the last transition isn't under way any more, if it was.
+    /// Notes that the last transition has ended, if it was under way.
     fn note_end(&mut self, moment: Moment) {
         let Some(moved) = self.transitions.last_mut() else {
             return;
@@ -174,7 +175,7 @@ impl<'a> Run<'a> {
         }
     }
 
-    /// Notes the transition that is under way in a sample, or that the last one ended.
+    /// Notes the transition that is under way in a sample. If there is none, notes that the last one has ended.
     fn note_transition(
         &mut self,
         capture: &Capture<'a>,
@@ -212,7 +213,7 @@ impl<'a> Run<'a> {
         Ok(())
     }
 
-    /// Notes what is under way in a sample that was reached, and who lags behind it.
+    /// Notes what the run has reached with a sample: which transition is under way, and who lags.
     fn note(
         &mut self,
         manager: &Manager,
@@ -238,7 +239,8 @@ impl<'a> Run<'a> {
         Ok(())
     }
 
-    /// Goes on to each sample in turn, up to this moment. Returns the number of the first sample that nothing leads to.
+    /// Leads the run from sample to sample, up to this moment. Returns the number of the first sample that nothing
+    /// leads to.
     pub(crate) fn explore(
         &mut self,
         alloc: Global,

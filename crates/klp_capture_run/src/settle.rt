@@ -8,7 +8,7 @@ use klp_core::Lag;
 use klp_types::Mode;
 use std::alloc::AllocError;
 
-/// Returns the mode of a task that was seen so.
+/// Returns the mode of a task that was seen in this way.
 fn mode_of(seen: &Sighting) -> Mode {
     if seen.is_asleep() {
         Mode::Asleep
@@ -18,8 +18,8 @@ fn mode_of(seen: &Sighting) -> Mode {
 }
 
 impl<'a> Followed<'a> {
-    /// Notes how the task lags in a sample of a transition, if it does. A stay goes on as long as the task holds the
-    /// transition up in the same function in successive samples, and doesn't run.
+    /// Notes why the task lags in a sample of a transition, if it does. A stay goes on through successive samples as
+    /// long as the task holds the transition up in the same function and doesn't run.
     pub(crate) fn note_lag(
         &mut self,
         lag: Option<Lag>,
@@ -49,7 +49,7 @@ impl<'a> Followed<'a> {
         Ok(())
     }
 
-    /// The task has begun, and is where it was seen first.
+    /// Notes that the task has begun, and is where it was first seen.
     fn settle_begun(&mut self, facts: &Facts, seen: Sighting) {
         let is_outside = seen.activity == Activity::Running && seen.places.is_empty();
         self.mode = if is_outside {
@@ -119,8 +119,8 @@ impl<'a> Run<'a> {
         }
     }
 
-    /// Notes what the files read before the first sample: the patches that it shows stood already, except one that is
-    /// being enabled.
+    /// Notes what the patches' files read before the first sample: the same as in that sample, except for a patch that
+    /// is being enabled, which wasn't there yet.
     pub(crate) fn stand(&mut self, after: &[Files]) {
         for patch in 0..self.files.len() {
             let now = after.get(patch).copied().unwrap_or(None);

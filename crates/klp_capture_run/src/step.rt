@@ -1,4 +1,4 @@
-//! A sample, and what changed with it since the last one.
+//! A sample, and what has changed since the sample before it.
 use crate::followed::{Followed, Sighting};
 use crate::run::Run;
 use klp_capture::{Activity, Capture, Moment, PatchRow, PatchedState, Sample, SeenTask};
@@ -6,28 +6,28 @@ use klp_capture_catalog::{Files, SeenVersion, completes, files_in, moving_in, st
 use klp_types::{MAX_FRAMES, MAX_TASKS, Mode};
 use std::alloc::{AllocError, Global};
 
-/// What changed with a sample.
+/// What has changed since the sample before.
 #[derive(Clone, Copy)]
 pub(crate) struct Facts {
     pub(crate) moment: Moment,
     /// Whether the files of a patch changed.
     pub(crate) has_changed: bool,
-    /// Whether a transition starts: then all tasks are at its other end first.
+    /// Whether a transition starts. All tasks are then at its other end first.
     pub(crate) starts: bool,
-    /// The target of the transition that goes on, starts or completes.
+    /// The target of the transition that starts, goes on or completes. `None` without one.
     pub(crate) target: Option<bool>,
     /// Whether a transition completes.
     pub(crate) completes: bool,
 }
 
-/// A task by its number, and how a sample shows it.
+/// A task's number, and how a sample shows the task.
 #[derive(Drop)]
 pub(crate) struct Named {
     pub(crate) number: usize,
     pub(crate) seen: Sighting,
 }
 
-/// A sample, and what the trace must say before it.
+/// A sample, and what lines of the trace must say before it.
 #[derive(Drop)]
 pub(crate) struct Step {
     pub(crate) facts: Facts,
@@ -35,7 +35,7 @@ pub(crate) struct Step {
     pub(crate) named: Vec<Named>,
     /// The numbers of the tasks that have ended.
     pub(crate) ended: Vec<usize>,
-    /// The tasks that begin before it. The first has the next number.
+    /// The tasks that begin before the sample. The first of them gets the next number, and so on.
     pub(crate) begun: Vec<Sighting>,
 }
 
@@ -48,7 +48,8 @@ pub(crate) fn state_at(target: bool) -> PatchedState {
 }
 
 impl<'a> Run<'a> {
-    /// The functions that a task is inside of, outermost first, as far as the log's patches concern them.
+    /// Returns the functions that a task is inside of, outermost first. Only functions that patches of the log change
+    /// or have count.
     fn places_of(
         &self,
         alloc: Global,
@@ -81,14 +82,14 @@ impl<'a> Run<'a> {
         })
     }
 
-    /// The number of a thread that hasn't ended.
+    /// Returns the number in the trace of a thread that hasn't ended. Returns `None` if there is none.
     fn number_of(&self, thread: u64, start: u64) -> Option<usize> {
         self.tasks.iter().position(|task| task.thread == thread
             && task.start == start
             && !task.has_ended)
     }
 
-    /// Adds the tasks that are seen first in these samples, as they were seen then.
+    /// Adds the tasks that these samples are the first to show, as each was first seen.
     fn add_begun(
         &mut self,
         alloc: Global,
@@ -126,8 +127,8 @@ impl<'a> Run<'a> {
     }
 }
 
-/// Where a transition that starts in a sample ends: the number of the first sample that shows another transition, or
-/// none.
+/// Returns the number of the first sample that no longer shows the transition which starts in this sample. Such a
+/// sample may show another transition, or none.
 fn end_of_transition(capture: &Capture<'_>, number: usize) -> usize {
     let samples = capture.samples.get(number..).unwrap_or(&[]);
     let Some(first) = samples.first() else {
@@ -145,7 +146,7 @@ fn end_of_transition(capture: &Capture<'_>, number: usize) -> usize {
 }
 
 impl<'a> Run<'a> {
-    /// What the files of each patch read in a sample.
+    /// Returns what the files of each patch read in a sample.
     pub(crate) fn files_at(
         &self,
         alloc: Global,
@@ -158,7 +159,7 @@ impl<'a> Run<'a> {
         Ok(files)
     }
 
-    /// Whether a patch is gone because a cumulative patch replaced it, whose transition completed.
+    /// Whether a patch is gone because the transition of a cumulative patch, which replaced it, completed.
     pub(crate) fn is_replaced(&self, patch: usize, after: &[Files]) -> bool {
         let pairs = self.files.iter().zip(after);
         pairs.zip(&self.functions.patches).enumerate().any(|(other, ((before, after), found))| {
@@ -166,7 +167,7 @@ impl<'a> Run<'a> {
         })
     }
 
-    /// What a sample says, and what the trace must say before it.
+    /// Returns what a sample shows, and what lines of the trace must say before it.
     pub(crate) fn step(
         &mut self,
         alloc: Global,
@@ -181,7 +182,7 @@ impl<'a> Run<'a> {
         } else {
             number.saturating_add(1)
         };
-        // What samples say that were left out counts too.
+        // What was seen in samples that were left out counts too.
         let first = match self.last {
             Some(last) => last.saturating_add(1),
             None => 0,
@@ -203,7 +204,7 @@ impl<'a> Run<'a> {
         })
     }
 
-    /// Adds the tasks that a sample names. The last sample that names a task counts.
+    /// Adds the tasks that a sample names. If several samples name a task, the last of them counts.
     fn add_named(
         &self,
         alloc: Global,
@@ -244,7 +245,7 @@ impl<'a> Run<'a> {
         Ok(())
     }
 
-    /// What changed with a sample.
+    /// Returns what has changed since the sample before.
     fn facts(&self, sample: &Sample, after: &[Files]) -> Facts {
         let mut facts = Facts {
             moment: sample.line.from,
@@ -270,7 +271,7 @@ impl<'a> Run<'a> {
         facts
     }
 
-    /// The target of a transition that completed since the last sample.
+    /// Returns the target of a transition that completed since the last sample. Returns `None` if none did.
     fn target_completed(&self, after: &[Files]) -> Option<bool> {
         for (before, now) in self.files.iter().zip(after) {
             match (before, now) {
@@ -284,7 +285,8 @@ impl<'a> Run<'a> {
 }
 
 impl Facts {
-    /// Whether a task that ran was switched in between, by leaving the kernel. `before` is its earlier state.
+    /// Whether a task that ran was switched in between because it left the kernel. `before` is its state in the sample
+    /// before.
     pub(crate) fn is_switched(&self, before: PatchedState, seen: &Sighting) -> bool {
         let Some(target) = self.target else {
             return false;
@@ -301,7 +303,7 @@ impl Facts {
 }
 
 impl Step {
-    /// How many places for a poll there are.
+    /// Returns how many places there are where a poll may be written.
     pub(crate) fn places(&self) -> usize {
         self.named
             .len()

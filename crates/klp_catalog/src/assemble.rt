@@ -27,8 +27,8 @@ use thiserror::Error;
 /// Why no catalog can be made of a plan. The numbers are this project's own, and don't change.
 #[derive(Clone, Copy, Debug, PartialEq, Eq, Error)]
 pub enum AssembleFault {
-    /// The number of callbacks isn't the number of scripts in the plan. This is checked first, since the callbacks
-    /// are the caller's and the text isn't at fault.
+    /// The number of callbacks isn't the number of scripts in the plan. This is checked first, since the callbacks are
+    /// made by the caller, so the text isn't at fault.
     #[error("WrongCallbacks")]
     WrongCallbacks = 1,
     /// A patch has two functions for one site, of which only one could run.
@@ -55,8 +55,8 @@ impl<T: Drop> From<AllocFailed<T>> for AssembleFault {
     }
 }
 
-/// Returns how many symbols each object has, by the object's number; only the objects that an `ObjId` can name. The
-/// catalog keeps the counts, so that boot can compare them with the image's.
+/// Returns how many symbols each object has, by the object's number. The result has only objects that an `ObjId` can
+/// number. The catalog stores the counts, so that boot can compare them with the image's.
 pub(crate) fn symbol_counts(alloc: Global, modules: &Modules) -> Result<Vec<u16>, AllocError>
     ensures { IfOk result (λ counts. counts.items ≡ take 256 (map symbol_count modules.now.names)) }
 {
@@ -109,8 +109,8 @@ fn push_functions(
     Ok(())
 }
 
-/// Returns the kinds of the callbacks, in order. With the number of the first one they determine the number of
-/// each.
+/// Returns the kinds of the callbacks, in order. These kinds and the number of the first callback determine the number
+/// of each callback.
 fn kinds_of(alloc: Global, callbacks: &[PlanCallback]) -> Result<Kinds, AllocError>
     ensures { IfOk result (λ kinds. kinds.items ≡ map (λ (c : CallbackValue). c.which) callbacks.now) }
 {
@@ -121,7 +121,7 @@ fn kinds_of(alloc: Global, callbacks: &[PlanCallback]) -> Result<Kinds, AllocErr
     Ok(kinds)
 }
 
-/// Whether both are the same site. Two functions without a site don't have the same one.
+/// Whether both functions have the same site. False if one of them has no site.
 fn is_same_site(one: Option<Site>, other: Option<Site>) -> bool
     ensures { result ≡ catalog.is_same_site one other }
 {
@@ -131,7 +131,7 @@ fn is_same_site(one: Option<Site>, other: Option<Site>) -> bool
     }
 }
 
-/// Whether one of the functions is for this site. False if there is no site.
+/// Whether one of the functions is for this site. False if `site` is `None`.
 fn is_among(site: Option<Site>, functions: &[CatalogFunction]) -> bool
     ensures { result ≡ list_any (λ (f : FunctionValue). catalog.is_same_site site f.site) functions.now }
 {
@@ -162,7 +162,7 @@ fn all_have_sites(functions: &[CatalogFunction]) -> bool
     functions.iter().all(|function| function.site.is_some())
 }
 
-/// Makes an object of a patch, and takes the next numbers for its callbacks. Its functions are appended to
+/// Makes an object of a patch, and takes the next numbers for its callbacks. The object's functions are appended to
 /// `functions`, the one list of all functions of the patch.
 fn assemble_target(
     alloc: Global,
@@ -198,7 +198,7 @@ fn assemble_target(
     })
 }
 
-/// Makes a patch, with its functions resolved and numbers for its callbacks.
+/// Makes a patch: resolves its functions, and gives numbers to its callbacks.
 fn assemble_patch(
     alloc: Global,
     modules: &Modules,
@@ -233,11 +233,11 @@ fn assemble_patch(
     })
 }
 
-/// Makes the patches in order, each with its functions resolved and numbers for its callbacks. `callbacks` is how
-/// many callbacks the caller has.
+/// Makes the patches in order: resolves the functions of each patch, and gives numbers to its callbacks. `callbacks` is
+/// how many callbacks the caller has.
 ///
-/// Two functions for one site are reported only after all numbers are given out, since a wrong number of callbacks
-/// is the first fault to report.
+/// Two functions for one site are reported only when all numbers are given out, since a wrong number of callbacks is
+/// the first fault to report.
 pub(crate) fn assemble_patches(
     alloc: Global,
     modules: &Modules,
@@ -262,8 +262,8 @@ pub(crate) fn assemble_patches(
         same_site |= has_same_site(&assembled.functions);
         patches.push(assembled)?;
     }
-    // Only here is it known whether there are too many callbacks; this is reported before two functions for one
-    // site (docs/DECISIONS.md, "`WrongCallbacks` before `SameSite`").
+    // Only now is it known whether there are too many callbacks. This fault is reported before that of two functions
+    // for one site (docs/DECISIONS.md, "`WrongCallbacks` before `SameSite`").
     if numbers.next < callbacks {
         return Err(AssembleFault::WrongCallbacks);
     }

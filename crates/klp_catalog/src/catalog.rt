@@ -51,7 +51,7 @@ pub struct Catalog {
     /// The modules for which the catalog was assembled, as they were then. A snapshot takes no memory: only
     /// contracts use the names (docs/DECISIONS.md, "Names of objects and symbols").
     over: Snapshot<Modules>,
-    /// By object, how many symbols it has. Boot compares these counts with the image.
+    /// By object, how many symbols it has. Boot compares these counts with those of the image.
     symbols: Vec<u16>,
     patches: Vec<CatalogPatch>,
     /// The callbacks of all patches, in the order of the text. This is the caller's list, as it was handed in.
@@ -82,24 +82,24 @@ impl Catalog {
     /// `Missing` at line 0. `NoMemory` may be reported in place of any of these, at the line where memory ran out.
     pub fn read(alloc: Global, text: &[u8]) -> Result<Plan, TextFault>
         ensures plan { IfOk result (λ plan. plan_of text.now ≡ Ok plan) }
-        // `assemble` requires that the targets of a plan are objects of the image. This says so, although the
-        // objects are taken out in between (docs/DECISIONS.md, "The targets of a plan").
+        // `assemble` requires that the targets of a plan are objects of the image. This clause shows it, although the
+        // objects are taken out of the plan in between (docs/DECISIONS.md, "The targets of a plan").
         ensures targets { IfOk result (λ plan. AreTargetsWithin (length plan.objects) plan.patches) }
         ensures fault { IfErr result (λ fault. IsFaultOf text.now fault.line fault.kind) }
     {
         klp_catalog_text::read(alloc, text)
     }
 
-    /// Makes a catalog of a plan, for the modules of the image that is made of the plan's objects. It doesn't look
-    /// at the handler or the objects of the plan. On a fault it drops the plan.
+    /// Makes a catalog of a plan. `modules` are those of the image that is made of the plan's objects. The call doesn't
+    /// read the plan's handler or objects. On a fault it drops the plan.
     ///
-    /// Each function is resolved once, and compared with the other functions of its patch. If a function's symbol
-    /// isn't found, it has no site. This is no fault, since its module may never be loaded.
+    /// Each function is resolved once, and compared with the other functions of its patch. If a function's symbol isn't
+    /// found, the function has no site. This is no fault, since its module may never be loaded.
     ///
-    /// There must be one callback for each script of the plan, in the order of the text. The callbacks' own scripts
-    /// count, not those of the text, so that `patches_of` has what will run (docs/DECISIONS.md, "Scripts by the
-    /// callbacks"). The callbacks are boxed already, because no box is made here (docs/DECISIONS.md, "Callbacks in
-    /// their boxes").
+    /// There must be one callback for each script of the plan, in the order of the text. If a callback's script differs
+    /// from that of the text, the callback's counts, so that `patches_of` has what will run (docs/DECISIONS.md,
+    /// "Scripts by the callbacks"). The callbacks are boxed already, because no box is made here (docs/DECISIONS.md,
+    /// "Callbacks in their boxes").
     pub fn assemble(
         alloc: Global,
         modules: &Modules,
@@ -134,14 +134,14 @@ impl Catalog {
     pub fn patches(&self) -> u8
         ensures count { result ≡ length self.now.patches }
         ensures limit { result ≤ MAX_PATCHES }
-        // Every patch keeps to these limits, so callers know beforehand how much room its records need.
+        // Every patch keeps to these limits, so callers know beforehand how much room the records of a patch need.
         ensures limits { AreWithin self.now.patches }
     {
         self.patches.len() as u8
     }
 
-    /// Returns the patch with this number (the kernel's `struct klp_patch *`). `None` if there is no such patch. A
-    /// caller that needs several facts of a patch looks it up once with this, and asks the patch.
+    /// Returns the patch with this number (the kernel's `struct klp_patch *`). Returns `None` if there is no such
+    /// patch. A caller that needs several facts of a patch calls this once, and reads the facts from the result.
     pub fn get(&self, patch: PatchId) -> Option<&CatalogPatch>
         ensures found { MatchOption result (IsAbsent self.now patch) (λ found. IsPatch self.now patch found.now) }
         ensures keeps { KeepsTo self.now patch }
@@ -150,9 +150,9 @@ impl Catalog {
         self.patches.get(usize::from(number))
     }
 
-    /// Whether a patch can be installed beside these (the kernel's `klp_is_patch_compatible`). For each system
-    /// state of each installed patch, it must name the state with the same or a higher version. Unless it is
-    /// cumulative, it may also not name the state at all (system-state).
+    /// Whether a patch can be installed beside the `installed` ones (the kernel's `klp_is_patch_compatible`). For each
+    /// system state of each installed patch, the patch must name the state with the same or a higher version. A patch
+    /// that isn't cumulative may also leave the state out (system-state).
     pub fn is_compatible(&self, patch: PatchId, installed: &[PatchId]) -> bool
         requires patch { patch < length self.now.patches }
         requires installed { All (λ other. other < length self.now.patches) installed.now }
@@ -174,9 +174,9 @@ impl Catalog {
         true
     }
 
-    /// Returns the newest of the patches installed before this one that names the state. `installed` has the oldest
-    /// first. If the patch isn't among them, all of them count as before it, since it would be the newest. (The
-    /// rule is this project's own.)
+    /// Returns the newest patch that was installed before this one and names the state. `installed` has the oldest
+    /// first. If the patch isn't in it, all of its patches count as installed before, since this patch would be the
+    /// newest. (The rule is this project's own.)
     pub fn previous_state(&self, patch: PatchId, id: u64, installed: &[PatchId]) -> Option<PatchId>
         requires patch { patch < length self.now.patches }
         requires installed { All (λ other. other < length self.now.patches) installed.now }
@@ -185,8 +185,8 @@ impl Catalog {
         patch::previous_state(&self.patches, patch, id, installed)
     }
 
-    /// Returns how many symbols an object has, by the names for which the catalog was assembled. `None` if there is
-    /// no such object.
+    /// Returns how many symbols an object has, by the names for which the catalog was assembled. Returns `None` if
+    /// there is no such object.
     pub fn symbols(&self, object: ObjId) -> Option<u16>
         ensures { result ≡ option_map (λ (found : ObjectNames). length found.symbols)
             (slice_get self.now.names object) }
@@ -195,8 +195,8 @@ impl Catalog {
         count_at(&self.symbols, number)
     }
 
-    /// Returns the number of the patch with this name. `None` if there is no such patch. It compares the name with
-    /// those of the patches, at most [`MAX_PATCHES`](klp_types::MAX_PATCHES).
+    /// Returns the number of the patch with this name. Returns `None` if there is no such patch. The name is compared
+    /// with that of each patch, of which there are at most [`MAX_PATCHES`](klp_types::MAX_PATCHES).
     pub fn patch(&self, name: &str) -> Option<PatchId>
         ensures { result ≡ position (bytes_eq name.now) (patch_names_of self.now.patches) }
     {
@@ -204,7 +204,7 @@ impl Catalog {
         Some(PatchId(number as u8))
     }
 
-    /// Returns the name of a patch, as in its line of the text. `None` if there is no such patch.
+    /// Returns the name of a patch, as in its line of the text. Returns `None` if there is no such patch.
     pub fn patch_name(&self, patch: PatchId) -> Option<&str>
         ensures { option_map (λ name. name.now) result ≡ slice_get (patch_names_of self.now.patches) patch }
     {
@@ -212,8 +212,8 @@ impl Catalog {
         Some(found.name.as_str())
     }
 
-    /// Returns whether a patch is cumulative, so that it replaces all older ones (cumulative-patches). `None` if
-    /// there is no such patch.
+    /// Returns whether a patch is cumulative, so that it replaces all older ones (cumulative-patches). Returns `None`
+    /// if there is no such patch.
     pub fn replaces(&self, patch: PatchId) -> Option<bool>
         ensures { result ≡ option_map (λ (found : PatchValue). found.replace) (slice_get self.now.patches patch) }
     {
@@ -231,8 +231,8 @@ impl Catalog {
         }
     }
 
-    /// Returns how many objects a patch changes, at most [`MAX_TARGETS`](klp_types::MAX_TARGETS). 0 if there is no
-    /// such patch, so that a loop over the objects needs no check.
+    /// Returns how many objects a patch changes, at most [`MAX_TARGETS`](klp_types::MAX_TARGETS). Returns 0 if there is
+    /// no such patch, so that a loop over the objects needs no check.
     pub fn target_len(&self, patch: PatchId) -> u8
         ensures count { result ≡ length (objects_at self.now patch) }
         ensures limit { result ≤ MAX_TARGETS }
@@ -243,8 +243,8 @@ impl Catalog {
         }
     }
 
-    /// Returns the object that a patch changes, by its index among the objects of the patch, from 0. Callbacks are
-    /// run by this index. `None` if there is no such patch or index.
+    /// Returns an object that a patch changes: the one at this index among the patch's objects, from 0. Callbacks are
+    /// run by the same index. Returns `None` if there is no such patch or index.
     pub fn target(&self, patch: PatchId, number: u8) -> Option<ObjId>
         ensures { result ≡ option_map (λ (found : PatchObject). found.object) (slice_get
             (objects_at self.now patch) number) }
@@ -254,8 +254,8 @@ impl Catalog {
         Some(target.object)
     }
 
-    /// Returns the index of an object among those that a patch changes, from 0. `None` if the patch doesn't change
-    /// it. No patch changes an object twice.
+    /// Returns the index of an object among those that a patch changes, from 0. Returns `None` if the patch doesn't
+    /// change the object. No patch changes an object twice.
     pub fn place(&self, patch: PatchId, object: ObjId) -> Option<u8>
         ensures place { result ≡ place_of object (objects_at self.now patch) }
         // So an object has only one index, and walking over the indexes visits each object once.
@@ -266,8 +266,8 @@ impl Catalog {
         Some(place as u8)
     }
 
-    /// Returns the ids of the system states that a patch names, in the order of the text (system-state). Empty if
-    /// there is no such patch.
+    /// Returns the ids of the system states that a patch names, in the order of the text (system-state). The result is
+    /// empty if there is no such patch.
     pub fn state_ids(&self, patch: PatchId) -> ArrayVec<u64, MAX_STATES>
         ensures { result.items ≡ states.state_ids self.now patch }
     {
@@ -277,10 +277,10 @@ impl Catalog {
         }
     }
 
-    /// Runs the callback of a kind that a patch has for one of its objects, and returns the callback's status.
-    /// `place` is the object's index in the patch, from 0. `None` if the patch has no such callback. It takes no
-    /// memory (callbacks). A walk over a patch's objects has this index, so no object is looked up
-    /// (docs/DECISIONS.md, "Callbacks by place").
+    /// Runs a patch's callback of this kind for one of its objects, and returns the callback's status. `place` is the
+    /// object's index in the patch, from 0. Returns `None` if the patch has no such callback. The call takes no memory
+    /// (callbacks). A walk over a patch's objects has the index anyway, so no object is looked up (docs/DECISIONS.md,
+    /// "Callbacks by place").
     pub fn run(
         &mut self,
         patch: PatchId,
@@ -320,8 +320,8 @@ impl Catalog {
         patch::number_of(&self.patches, patch, usize::from(place), which).is_some()
     }
 
-    /// Returns how many shadow variables a run of this callback adds at most. 0 if there is no such callback, so
-    /// that sums need no special case.
+    /// Returns how many shadow variables a run of this callback adds at most. Returns 0 if there is no such callback,
+    /// so that sums need no special case.
     pub fn allocs(&self, patch: PatchId, place: u8, which: Which) -> u16
         ensures value { result ≡ allocs_if (script_at self.now patch place which) }
         ensures limit { result ≤ MAX_EDITS }
@@ -334,7 +334,7 @@ impl Catalog {
         }
     }
 
-    /// Returns how often the callback of this kind ran for this object; the count stops at the greatest `u64`.
+    /// Returns how often the callback of this kind ran for this object; the count stops at the greatest `u64`. Returns
     /// `None` if the patch has no such callback, which is different from one that never ran.
     pub fn callback_runs(&self, patch: PatchId, object: ObjId, which: Which) -> Option<u64>
         ensures runs { result ≡ callback_runs self.now patch object which }
@@ -348,7 +348,7 @@ impl Catalog {
     }
 
     /// Returns the new functions of a patch, over all its objects in order. A function's index in this list is its
-    /// number in versions and entries. Empty if there is no such patch.
+    /// number in versions and entries. The result is empty if there is no such patch.
     pub fn functions(&self, patch: PatchId) -> &[CatalogFunction]
         ensures functions { result.now ≡ catalog_functions self.now patch }
         // The manager relies on this when it puts the functions' entries on sites.
@@ -364,8 +364,8 @@ impl Catalog {
         }
     }
 
-    /// Returns a new function of a patch: its site, if it has one, its name and its address. `number` is its index
-    /// over all objects of the patch, from 0. `None` if there is no such function.
+    /// Returns a new function of a patch: its site, if it has one, its name and its address. `number` is its index over
+    /// all objects of the patch, from 0. Returns `None` if there is no such function.
     pub fn function(&self, patch: PatchId, number: u16) -> Option<(Option<Site>, &str, u64)>
         ensures { option_map {U = Option ℕ × List ℕ × ℕ} (λ f. (f.0, f.1.now, f.2)) result
             ≡ option_map new_function_of (slice_get (catalog_functions self.now patch) number) }
@@ -375,8 +375,8 @@ impl Catalog {
     }
 
     /// Returns the symbol that a new function replaces: its object, its name, and its position among the symbols of
-    /// that name, from 1. Position 0 means that the name must be unique in the object (livepatch, Metadata).
-    /// `number` is the function's index over all objects of the patch, from 0. `None` if there is no such function.
+    /// that name, from 1. Position 0 means that the name must be unique in the object (livepatch, Metadata). `number`
+    /// is the function's index over all objects of the patch, from 0. Returns `None` if there is no such function.
     pub fn function_name(&self, patch: PatchId, number: u16) -> Option<(ObjId, &str, u32)>
         ensures { option_map {U = ℕ × List ℕ × ℕ} (λ f. (f.0, f.1.now, f.2)) result
             ≡ option_map (λ (f : FunctionValue). (f.object, f.symbol, f.sympos)) (slice_get
@@ -387,7 +387,7 @@ impl Catalog {
     }
 }
 
-/// Returns the count at this index. `None` if there is none.
+/// Returns the count at this index. Returns `None` if there is none.
 fn count_at(counts: &[u16], number: u8) -> Option<u16>
     ensures { result ≡ slice_get counts.now number }
 {

@@ -31,30 +31,30 @@ impl Model for CatalogFunction {
 }
 
 impl CatalogFunction {
-    /// Returns the object that the function changes. Its site, if any, is in this object.
+    /// Returns the object that the function changes. The function's site, if it has one, is in this object.
     pub fn object(&self) -> ObjId
         ensures { result ≡ self.now.object }
     {
         self.object
     }
 
-    /// Returns the name of the symbol that the function replaces. It is kept for the console to print.
+    /// Returns the name of the symbol that the function replaces. It is stored so that the console can print it.
     pub fn symbol(&self) -> &str
         ensures { result.now ≡ self.now.symbol }
     {
         self.symbol.as_str()
     }
 
-    /// Returns which symbol of that name in the object is meant, from 1. 0 means that the name must be unique in
-    /// the object (livepatch, Metadata).
+    /// Returns the position of that symbol among the object's symbols of the same name, from 1. 0 means that the name
+    /// must be unique in the object (livepatch, Metadata).
     pub fn sympos(&self) -> u32
         ensures { result ≡ self.now.sympos }
     {
         self.sympos
     }
 
-    /// Returns the site of that symbol. `None` if the object has no such symbol, or has several and the position is
-    /// 0. Such a patch can't be enabled while the object is loaded.
+    /// Returns the site of that symbol. Returns `None` if the object has no such symbol, or if it has several and the
+    /// position is 0. Then the patch can't be enabled while the object is loaded.
     pub fn site(&self) -> Option<Site>
         ensures { result ≡ self.now.site }
     {

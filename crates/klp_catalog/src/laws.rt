@@ -17,9 +17,9 @@ pub fn sites_lie_in_their_objects()
         → site_of (names_of objects) object function ≡ Some site → object_of objects site ≡ Some object }
 {}
 
-/// After these callbacks ran, each callback's count has grown by how often the callback is in the list; it stops at
-/// the greatest `u64`. No other count changes, and patches, scripts and names stay. `looks` says the same of
-/// `callback_runs`, which takes the object's number instead of its index in the patch.
+/// When these callbacks have run, each callback's count has grown by the number of times that the callback is in the
+/// list; it stops at the greatest `u64`. Other counts, patches, scripts and names don't change. The clause `looks` says
+/// the same of `callback_runs`, which takes the object's number instead of its index in the patch.
 pub fn counts_grow_by_runs()
     ensures counts { (catalog : Catalog) (calls : List Call) (patch place : ℕ) (which : Which)
         → runs_of (after_runs catalog calls) patch place which ≡ option_map (grown (times patch place which calls))
@@ -32,8 +32,8 @@ pub fn counts_grow_by_runs()
     ensures patches { (catalog : Catalog) (calls : List Call) → (after_runs catalog calls).patches ≡ catalog.patches }
 {}
 
-/// Two lists of runs, one after the other, grow the counts as the joined list does, and the empty list changes
-/// nothing. So a walk over callbacks can be described as one list.
+/// Two lists of runs, one after the other, increase the counts as the joined list does, and the empty list changes
+/// nothing. So the runs of a walk over callbacks can be described as one list.
 pub fn runs_add_up()
     ensures { RunsAddUp }
 {}

@@ -24,7 +24,7 @@ pub struct CatalogPatch {
     pub(crate) targets: Vec<CatalogTarget>,
     /// The new functions for all these objects, in order. A function's index is its number in versions and entries.
     pub(crate) functions: Vec<CatalogFunction>,
-    /// Whether every function has a site. It is computed once, since each enabling of the patch asks for it.
+    /// Whether every function has a site. It is computed once, since it is needed each time the patch is enabled.
     pub(crate) names_sites: bool,
     pub(crate) states: Vec<SystemState>,
 }
@@ -64,15 +64,15 @@ impl CatalogPatch {
         &self.functions
     }
 
-    /// Whether every function has a site. If so, no function can prevent that the patch is enabled.
+    /// Whether every function has a site. If so, no function prevents the enabling of the patch.
     pub fn names_sites(&self) -> bool
         ensures { result ≡ list_all (λ (f : FunctionValue). is_some f.site) self.now.functions }
     {
         self.names_sites
     }
 
-    /// Returns the objects that the patch changes, in the order of the text. The functions are in the same order,
-    /// so the functions of an object begin after as many as the objects before it have.
+    /// Returns the objects that the patch changes, in the order of the text. The patch's functions are in the same
+    /// order: those of an object come after the functions of all objects before it.
     pub fn targets(&self) -> &[CatalogTarget]
         ensures { result.now ≡ self.now.targets }
     {
@@ -99,9 +99,9 @@ impl CatalogPatch {
         ids
     }
 
-    /// Whether the patch can be installed beside a patch with these system states. It must name each of them with
-    /// the same or a higher version. Only a patch that isn't cumulative may leave a state out, since a cumulative
-    /// one takes all states over.
+    /// Whether the patch can be installed beside a patch with these system states. It must name each of these states
+    /// with the same or a higher version. Only a patch that isn't cumulative may leave a state out, since a cumulative
+    /// patch takes over all states.
     pub(crate) fn is_compatible_with_all(&self, states: &[SystemState]) -> bool
         ensures { result ≡ list_all (λ (s : StateValue). compatible.is_compatible_with self.now.replace s
             (compatible.version_among s.id self.now.states)) states.now }
@@ -110,16 +110,16 @@ impl CatalogPatch {
     }
 }
 
-/// Returns the number of the patch with this name. `None` if there is none. There are few patches, so the name is
-/// compared with each (docs/DECISIONS.md, "Names by comparison").
+/// Returns the number of the patch with this name. Returns `None` if there is none. There are few patches, so the name
+/// is compared with each (docs/DECISIONS.md, "Names by comparison").
 pub(crate) fn with_name(patches: &[CatalogPatch], name: &str) -> Option<usize>
     ensures { result ≡ position (bytes_eq name.now) (map (λ (p : StoredPatch). p.name) patches.now) }
 {
     patches.iter().position(|patch| name == patch.name.as_str())
 }
 
-/// Returns the number of the callback of this kind that the patch has for the object at this index. The number
-/// counts all callbacks of the catalog. `None` if the patch has no such callback.
+/// Returns the number of the callback of this kind that the patch has for the object at this index. The number counts
+/// all callbacks of the catalog. Returns `None` if the patch has no such callback.
 pub(crate) fn number_of(
     patches: &[CatalogPatch],
     patch: PatchId,
@@ -134,15 +134,15 @@ pub(crate) fn number_of(
     Some(target.first + place)
 }
 
-/// Returns the index of an object among those that a patch changes. `None` if the patch doesn't change it. An
-/// object occurs at most once.
+/// Returns the index of an object among those that a patch changes. Returns `None` if the patch doesn't change the
+/// object. An object occurs at most once.
 pub(crate) fn place_of(targets: &[CatalogTarget], object: ObjId) -> Option<usize>
     ensures { result ≡ position (λ (t : StoredTarget). t.object == object) targets.now }
 {
     targets.iter().position(|target| target.object == object)
 }
 
-/// Returns the system states that a patch names. Empty if there is no such patch.
+/// Returns the system states that a patch names. The result is empty if there is no such patch.
 fn states_of(patches: &[CatalogPatch], patch: PatchId) -> &[SystemState]
     ensures { result.now ≡ states_at patches.now patch }
 {
@@ -152,8 +152,7 @@ fn states_of(patches: &[CatalogPatch], patch: PatchId) -> &[SystemState]
     }
 }
 
-/// Returns the version with which the state of this id is named. `None` if it isn't named. Each id is named at most
-/// once.
+/// Returns the version with which the states name this id. Returns `None` if they don't. Each id is named at most once.
 fn version_among(id: u64, states: &[SystemState]) -> Option<u32>
     ensures { result ≡ compatible.version_among id states.now }
 {
@@ -161,8 +160,8 @@ fn version_among(id: u64, states: &[SystemState]) -> Option<u32>
     Some(state.version)
 }
 
-/// Whether a patch with the states `own` can be installed beside a patch with this state. It must name the state
-/// with the same or a higher version; only a patch that isn't cumulative may leave the state out.
+/// Whether a patch with the states `own` can be installed beside a patch with the state `state`. The first patch must
+/// name this state with the same or a higher version. Only a patch that isn't cumulative may leave the state out.
 fn is_compatible_with(replace: bool, own: &[SystemState], state: SystemState) -> bool
     ensures { result ≡ compatible.is_compatible_with replace state (compatible.version_among state.id own.now) }
 {
@@ -172,8 +171,8 @@ fn is_compatible_with(replace: bool, own: &[SystemState], state: SystemState) ->
     }
 }
 
-/// Returns the newest of the patches installed before this one that names the state. `installed` has the oldest
-/// first. The walk stops at the patch itself, since later ones don't count.
+/// Returns the newest patch that was installed before this one and names the state. `installed` has the oldest first.
+/// The walk stops at the patch itself, since patches after it don't count.
 pub(crate) fn previous_state(
     patches: &[CatalogPatch],
     patch: PatchId,

@@ -7,10 +7,11 @@ use smallvec::SmallVec;
 use std::marker::Model;
 use std::snapshot::Snapshot;
 
-/// The kinds of an object's callbacks. A plan has at most one callback of each kind, so they take no memory.
+/// The kinds of an object's callbacks. A plan has at most one callback of each kind for an object, so this list takes
+/// no memory.
 pub(crate) type Kinds = SmallVec<Which, CALLBACK_KINDS>;
 
-/// An object that a patch changes. The catalog has the callbacks; the target has the numbers and kinds of its own.
+/// An object that a patch changes. Its callbacks are in the catalog; the target has their numbers and kinds.
 #[derive(Drop)]
 pub struct CatalogTarget {
     pub(crate) object: ObjId,
@@ -19,9 +20,9 @@ pub struct CatalogTarget {
     /// How many functions the patch has for the object. The functions of a patch are one list, in the order of its
     /// objects.
     pub(crate) count: usize,
-    /// The number of the object's first callback, among all callbacks of the catalog. These and their counts are
-    /// one list in the order of the text, so this number and the kinds find each callback (docs/DECISIONS.md,
-    /// "Counts of callbacks").
+    /// The number of the object's first callback, among all callbacks of the catalog. The callbacks and their counts
+    /// are one list in the order of the text. So this number and the kinds determine where each callback is
+    /// (docs/DECISIONS.md, "Counts of callbacks").
     pub(crate) first: usize,
     /// The kinds of the object's callbacks, in the order of their numbers.
     pub(crate) kinds: Kinds,

@@ -1,5 +1,5 @@
-//! The plan while its text is being read. Each kind of line has its own function, which checks that the line may be
-//! here.
+//! The plan while its text is being read. Each kind of line has a function, which checks that such a line may occur at
+//! this place.
 
 ghost use Rattle.std.specs.Prelude.{◌≡◌, ◌<◌, ◌==◌, vec_len, length, IsTrue, Ok, Err, OnOk, OnErr, MatchOption};
 ghost use Rattle.std.specs.Prelude.{option_copied};
@@ -27,10 +27,10 @@ use klp_types::{
 use std::alloc::{AllocError, Global};
 use std::marker::Model;
 
-/// The part of a plan that the lines read so far make.
+/// The part of a plan that the lines read so far have made.
 ///
-/// The open target is the last target of the last patch; `func` lines add to it. It needs no field of its own. A
-/// `patch` line closes it.
+/// The open target is the last target of the last patch; `func` lines add functions to it. It needs no separate field.
+/// A `patch` line closes it.
 #[derive(Drop)]
 pub(crate) struct Draft {
     handler: Option<u64>,
@@ -106,8 +106,8 @@ fn push_state(patches: &mut Vec<PlanPatch>, state: SystemState) -> Result<(), Al
     patches[last].push_state(state)
 }
 
-/// Returns the index of the object with this name. `None` if there is none. There are few objects, so the name is
-/// compared with each (docs/DECISIONS.md, "Names by comparison").
+/// Returns the index of the object with this name. Returns `None` if there is none. There are few objects, so the name
+/// is compared with each (docs/DECISIONS.md, "Names by comparison").
 fn object_number(objects: &[ObjectText], name: &str) -> Option<usize>
     ensures { result ≡ number_of name.now (names_of objects.now) }
 {
@@ -116,7 +116,7 @@ fn object_number(objects: &[ObjectText], name: &str) -> Option<usize>
         .position(|object| name == object.name.as_str())
 }
 
-/// Returns the index of the patch with this name. `None` if there is none.
+/// Returns the index of the patch with this name. Returns `None` if there is none.
 fn patch_number(patches: &[PlanPatch], name: &str) -> Option<usize>
     ensures { result ≡ number_of name.now (patch_names_of patches.now) }
 {
@@ -144,8 +144,8 @@ fn names_state(states: &[SystemState], id: u64) -> bool
     states.iter().any(|state| state.id == id)
 }
 
-/// Returns the callbacks of the last target, which is the open one; empty if there is none. A target may have each
-/// kind once.
+/// Returns the callbacks of the last target, which is the open one. The slice is empty if there is no target. A target
+/// may have one callback of each kind.
 fn last_callbacks(targets: &[PlanTarget]) -> &[PlanCallback]
     ensures { result.now ≡ callbacks_of (last_of targets.now) }
 {
@@ -155,7 +155,8 @@ fn last_callbacks(targets: &[PlanTarget]) -> &[PlanCallback]
     }
 }
 
-/// Returns the system states of the last patch. Empty if there is no patch, so that callers need no special case.
+/// Returns the system states of the last patch. The slice is empty if there is no patch, so that callers need no
+/// special case.
 fn open_states(patches: &[PlanPatch]) -> &[SystemState]
     ensures { result.now ≡ states_of (last_of patches.now) }
 {
@@ -165,7 +166,8 @@ fn open_states(patches: &[PlanPatch]) -> &[SystemState]
     }
 }
 
-/// Returns the targets of the last patch. Empty if there is no patch. No target is open exactly when this is empty.
+/// Returns the targets of the last patch. The slice is empty if there is no patch. A target is open exactly when the
+/// slice isn't empty.
 fn open_targets(patches: &[PlanPatch]) -> &[PlanTarget]
     ensures { result.now ≡ targets_of (last_of patches.now) }
 {
@@ -188,8 +190,9 @@ impl Draft {
         }
     }
 
-    /// Returns the name of the open target's object. `None` if no target is open. It is needed before a `func` line
-    /// is read, since the spelling of a symbol has the object's name too (docs/DECISIONS.md, "The open target").
+    /// Returns the name of the open target's object. Returns `None` if no target is open. A `func` line can be read
+    /// only with this name, since the spelling of a symbol has the object's name too (docs/DECISIONS.md, "The open
+    /// target").
     pub(crate) fn open_object(&self) -> Option<&str>
         ensures { option_copied result ≡ open_object self.now }
     {
@@ -198,7 +201,7 @@ impl Draft {
         Some(object.name.as_str())
     }
 
-    /// Sets the handler. `Err` if a patch was read already, or a handler.
+    /// Sets the handler. Returns `Err` if a patch or a handler was read before.
     fn place_handler(&mut self, address: u64) -> Result<(), TextFaultKind>
         ensures { Becomes result self.new (placed self.old (CatalogLine.Handler address)) }
     {
@@ -212,7 +215,8 @@ impl Draft {
         Ok(())
     }
 
-    /// Adds an object. `Err` if a patch was read already, the name exists, or there are too many objects.
+    /// Adds an object. Returns `Err` if a patch was read before, if an object has this name already, or if there are
+    /// too many objects.
     fn place_object(&mut self, alloc: Global, name: Name) -> Result<(), TextFaultKind>
         ensures { Becomes result self.new (placed self.old (CatalogLine.Object name)) }
     {
@@ -220,8 +224,8 @@ impl Draft {
         if !self.patches.is_empty() {
             return Err(TextFaultKind::OutOfPlace);
         }
-        // An image made from a plan mustn't have duplicates. This is reported before the limit (docs/DECISIONS.md,
-        // "Names given twice").
+        // The image that is made of a plan mustn't have two objects of the same name. This fault is reported before
+        // that of the limit (docs/DECISIONS.md, "Names given twice").
         if object_number(&self.objects, name.as_str()).is_some() {
             return Err(TextFaultKind::Twice);
         }
@@ -235,8 +239,8 @@ impl Draft {
         Ok(())
     }
 
-    /// Adds a symbol to the last object. `Err` if a patch was read already or no object was, or at the limit of
-    /// symbols or of a body's length.
+    /// Adds a symbol to the last object. Returns `Err` if a patch was read before, if no object was read, if there are
+    /// too many symbols, or if the body is too long.
     fn place_symbol(&mut self, symbol: SymbolText) -> Result<(), TextFaultKind>
         ensures { Becomes result self.new (placed self.old (CatalogLine.Symbol symbol)) }
     {
@@ -251,7 +255,8 @@ impl Draft {
         Ok(())
     }
 
-    /// Adds a patch, which closes the open target. `Err` if the name exists or there are too many patches.
+    /// Adds a patch, which closes the open target. Returns `Err` if a patch has this name already, or if there are too
+    /// many patches.
     fn place_patch(&mut self, alloc: Global, name: Name, replace: bool) -> Result<(), TextFaultKind>
         ensures { Becomes result self.new (placed self.old (CatalogLine.Patch name replace)) }
     {
@@ -272,8 +277,8 @@ impl Draft {
         Ok(())
     }
 
-    /// Adds an object to the last patch, as its open target. `Err` if there is no patch or no such object, if the
-    /// patch has the object already, or if it has too many.
+    /// Adds an object to the last patch, as its open target. Returns `Err` if there is no patch, if no object has this
+    /// name, if the patch has the object already, or if the patch has too many objects.
     fn place_target(&mut self, alloc: Global, name: &str) -> Result<(), TextFaultKind>
         ensures { Becomes result self.new (placed self.old (CatalogLine.Target name.now)) }
     {
@@ -295,7 +300,7 @@ impl Draft {
         Ok(())
     }
 
-    /// Adds a function to the open target. `Err` if no target is open, or if the patch has too many functions.
+    /// Adds a function to the open target. Returns `Err` if no target is open, or if the patch has too many functions.
     fn place_function(&mut self, function: PlanFunction) -> Result<(), TextFaultKind>
         ensures { Becomes result self.new (placed self.old (CatalogLine.Function function)) }
     {
@@ -310,8 +315,8 @@ impl Draft {
         Ok(())
     }
 
-    /// Adds a callback to the open target. `Err` if no target is open, if it has a callback of this kind, or if the
-    /// script has too many edits.
+    /// Adds a callback to the open target. Returns `Err` if no target is open, if the target already has a callback of
+    /// this kind, or if the script has too many edits.
     fn place_callback(&mut self, which: Which, script: ScriptText) -> Result<(), TextFaultKind>
         ensures { Becomes result self.new (placed self.old (CatalogLine.Callback which script)) }
     {
@@ -329,9 +334,9 @@ impl Draft {
         Ok(())
     }
 
-    /// Adds a system state to the last patch. It belongs to the patch, so it may follow any of its targets, and
-    /// leaves the open target open (docs/DECISIONS.md, "`state` lines"). `Err` if there is no patch, or the patch
-    /// names the id already or too many states.
+    /// Adds a system state to the last patch. The state belongs to the patch, so its line may follow any of the patch's
+    /// targets. The open target stays open (docs/DECISIONS.md, "`state` lines"). Returns `Err` if there is no patch, if
+    /// the patch names the id already, or if it names too many states.
     fn place_state(&mut self, state: SystemState) -> Result<(), TextFaultKind>
         ensures { Becomes result self.new (placed self.old (CatalogLine.State state)) }
     {
@@ -363,14 +368,14 @@ impl Draft {
         let Some(first) = words.next() else {
             return Ok(());
         };
-        // The words are checked before the place, so a misspelled line is reported as such wherever it is
-        // (docs/DECISIONS.md, "Words before the place of a line").
+        // The words are checked before the place of the line. So a misspelled line is reported as misspelled wherever
+        // it is (docs/DECISIONS.md, "Words before the place of a line").
         let line = CatalogLine::read(alloc, self.open_object(), text, first, &mut words)?;
         self.place(alloc, line)
     }
 
-    /// Adds what a line says, or returns a fault if the line may not be here. Each kind of line checks its own
-    /// place.
+    /// Adds what a line says. Returns a fault if the line may not occur at this place. Each kind of line checks this
+    /// for itself.
     pub(crate) fn place(
         &mut self,
         alloc: Global,
@@ -386,7 +391,7 @@ impl Draft {
             CatalogLine::Target(NameWord(name)) => self.place_target(alloc, name),
             CatalogLine::Function(function) => self.place_function(function),
             CatalogLine::Callback(which, script) => self.place_callback(which, script),
-            // Taken apart, since the check can't move a whole `SystemState` out of a line that lends.
+            // The state is taken apart, since the check can't move a whole `SystemState` out of a line that borrows.
             CatalogLine::State(SystemState { id, version }) => self.place_state(SystemState {
                 id,
                 version,
@@ -394,8 +399,8 @@ impl Draft {
         }
     }
 
-    /// Returns the handler, if the text had both a handler and an object. `None` if either is missing: only the end
-    /// of the text shows this, so no line is at fault.
+    /// Returns the handler, if the text had both a handler and an object. Returns `None` if either is missing. Only the
+    /// end of the text shows this, so no line is at fault.
     pub(crate) fn whole_handler(&self) -> Option<u64>
         ensures { MatchOption result (finished self.now ≡ Err (record { line = 0; kind = TextFaultKind.Missing }))
             (λ handler. finished self.now

@@ -18,7 +18,7 @@ use std::marker::Model;
 #[derive(Drop)]
 struct Fields<'a> {
     rest: &'a [u8],
-    /// Whether the last part was read. An empty rest alone doesn't show this, since it may still be one empty part.
+    /// Whether the last part was read. An empty rest doesn't show this, since one empty part may still be left in it.
     is_over: bool,
 }
 
@@ -41,7 +41,7 @@ impl<'a> Fields<'a> {
         }
     }
 
-    /// Returns the next part. `None` if there is no more.
+    /// Returns the next part. Returns `None` if there is no more.
     fn next(&mut self) -> Option<&'a [u8]>
         ensures { MatchOption result (self.old ≡ []) (λ part. self.old ≡ part.now ∷ self.new) }
     {
@@ -58,8 +58,8 @@ impl<'a> Fields<'a> {
     }
 }
 
-/// Reads the one number that an edit has left. A number out of range is a `BadEdit` and not a `BadNumber`, since a
-/// fault names a whole word and no part of it (docs/DECISIONS.md, "Faults inside an edit").
+/// Reads the rest of an edit, which must be one number. A number out of range is a `BadEdit` and not a `BadNumber`,
+/// since a fault names a whole word and no part of it (docs/DECISIONS.md, "Faults inside an edit").
 fn one_number(parts: &mut Fields<'_>) -> Result<u64, TextFaultKind>
     ensures { result ≡ one_number parts.old }
 {
@@ -69,7 +69,7 @@ fn one_number(parts: &mut Fields<'_>) -> Result<u64, TextFaultKind>
     number64(part).ok_or(TextFaultKind::BadEdit)
 }
 
-/// Reads the two numbers that an edit has left.
+/// Reads the rest of an edit, which must be two numbers.
 fn two_numbers(parts: &mut Fields<'_>) -> Result<(u64, u64), TextFaultKind>
     ensures { result ≡ two_numbers parts.old }
 {
@@ -135,8 +135,8 @@ fn take_prev_edit(parts: &mut Fields<'_>) -> Result<Edit, TextFaultKind>
     Ok(Edit::TakePrev(one_number(parts)?))
 }
 
-/// Reads an edit: its name and its numbers. The number of parts is checked before any number is read; every fault
-/// is `BadEdit` anyway.
+/// Reads an edit: its name and its numbers. The number of parts is checked before any number is read, but every fault
+/// is `BadEdit` in any case.
 fn edit(word: &[u8]) -> Result<Edit, TextFaultKind>
     ensures { result ≡ edit_of word.now }
 {
@@ -159,8 +159,8 @@ fn edit(word: &[u8]) -> Result<Edit, TextFaultKind>
     }
 }
 
-/// How many edits most scripts with edits have. So many take no memory, and more would make each line larger that is
-/// read, since a line is moved with the room for them.
+/// How many edits a line can store without memory of its own. Most scripts that have edits have this many. A greater
+/// number would make every line larger, and so more costly to move.
 const USUAL_EDITS: usize = 1;
 
 /// The edits of a line, which may be more than a script may have.
@@ -178,8 +178,8 @@ fn edits(alloc: Global, words: &mut LineWords<'_>) -> Result<TextEdits, TextFaul
     Ok(edits)
 }
 
-/// A script as its line has it. It may have more edits than a script may have, since all words are checked before
-/// their number is (docs/DECISIONS.md, "Scripts with too many edits").
+/// A script as its line has it. It may have too many edits for a script, since all words are checked before their
+/// number is (docs/DECISIONS.md, "Scripts with too many edits").
 #[derive(Drop)]
 pub struct ScriptText {
     edits: TextEdits,
@@ -195,8 +195,8 @@ impl Model for ScriptText {
 }
 
 impl ScriptText {
-    /// Returns the script. `None` if it has too many edits. It takes no memory, because a script's edits are an
-    /// array.
+    /// Returns the script. Returns `None` if it has too many edits. This takes no memory, because a script's edits are
+    /// an array.
     pub fn into_script(self) -> Option<Script>
         ensures { MatchOption result (MAX_EDITS < length self.edits)
             (λ script. (length self.edits ≤ MAX_EDITS) × (script ≡ self)) }
@@ -238,7 +238,7 @@ pub(crate) fn script(alloc: Global, words: &mut LineWords<'_>) -> Result<ScriptT
     let Some(status) = signed(word) else {
         return Err(TextFaultKind::BadNumber);
     };
-    // With another status, any word after it is one too many (docs/DECISIONS.md, "Edits behind a status").
+    // After any other status, every further word is one too many (docs/DECISIONS.md, "Edits behind a status").
     if status != 0 {
         return failure(alloc, status, words);
     }

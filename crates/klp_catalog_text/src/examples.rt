@@ -24,8 +24,8 @@ pub fn texts_say_this()
     ensures longer { plan_of longer_text ≡ Ok longer_plan }
 {}
 
-/// The fault of a text is that of its first faulty line. Every line counts, from 1. If no line is at fault, the
-/// fault is at line 0.
+/// The fault of a text is that of its first faulty line. Every line is counted, from 1. A fault of the whole text is
+/// reported at line 0.
 pub fn the_first_faulty_line_is_reported()
     ensures cut { plan_of
         (codes "handler ffffffff81000000\nobject vmlinux\nsymbol f ffffffff81001000 e80000000090c3\npatch p\ntarget vmlinux\nfunc .klp.sym.vmlinux.f,0")
@@ -100,8 +100,8 @@ pub fn callbacks_are_spelled_with_status_and_edits()
     ensures bad_edit { script_of (codes "0" ∷ codes "freeall:1" ∷ codes "z" ∷ []) ≡ Err BadEdit }
 {}
 
-/// A line is out of place if what it belongs to isn't open yet. The lines of the image are also out of place after
-/// a patch.
+/// A line is out of place if there is nothing yet to which it belongs: an object, a patch or a target. The lines of the
+/// image are also out of place after a patch.
 pub fn lines_have_their_place()
     ensures handler { placed (draft_with (patch_with [] ∷ [])) (line.Handler 1) ≡ Err OutOfPlace }
     ensures object { placed (draft_with (patch_with [] ∷ [])) (line.Object (codes "m")) ≡ Err OutOfPlace }
@@ -114,8 +114,8 @@ pub fn lines_have_their_place()
     ensures no_such_object { placed (draft_with (patch_with [] ∷ [])) (line.Target (codes "m")) ≡ Err UnknownObject }
 {}
 
-/// What may be said once is refused the second time. Targets, states and callbacks count only in the patch or
-/// target that is open.
+/// What may occur once is refused the second time. A target or a state is compared only with those of the open patch, a
+/// callback only with those of the open target.
 pub fn once_is_enough()
     ensures handler { placed (draft_with []) (line.Handler 1) ≡ Err Twice }
     ensures object { placed (draft_with []) (line.Object (codes "vmlinux")) ≡ Err Twice }
@@ -133,7 +133,7 @@ pub fn once_is_enough()
         ≡ Ok (record (draft_with []) { objects = record { name = codes "vmlinux"; symbols = f ∷ f ∷ [] } ∷ [] }) }
 {}
 
-/// No limit is exceeded: the last free place may be filled, and no more.
+/// No limit is exceeded: as many as the limit allows are accepted, and one more is refused.
 pub fn limits_are_kept()
     ensures objects { placed (draft_of 16 0) (line.Object (codes "c")) ≡ Err TooMany }
     ensures last_object { placed (draft_of 15 0) (line.Object (codes "c"))

@@ -5,20 +5,20 @@ use std::alloc::{AllocError, AllocFailed};
 use std::{error, fmt};
 use thiserror::Error;
 
-/// What is wrong with a line of a catalog's text. The numbers are this project's own, and don't change, since
-/// scripts may ask for them.
+/// What is wrong with a line of a catalog's text. The numbers are this project's own, and don't change, since scripts
+/// may test for them.
 ///
 /// If a line has several faults, the first of these is reported: `NotAscii`, `LineTooLong`, `UnknownWord`,
 /// `WrongCount`, then the words from left to right (`BadNumber` to `BadEdit`), then `OutOfPlace`, `UnknownObject`,
 /// `Twice` and `TooMany`.
 #[derive(Clone, Copy, Debug, PartialEq, Eq)]
 pub enum TextFaultKind {
-    /// A line that isn't a comment has a byte that isn't ASCII. This is checked first, so that every word is text
-    /// from then on.
+    /// A line that isn't a comment has a byte that isn't ASCII. This is checked first, so that afterwards every word is
+    /// text.
     NotAscii = 1,
     /// The line has more than [`MAX_LINE`](klp_types::MAX_LINE) bytes. A comment may have any number.
     LineTooLong = 2,
-    /// The line begins with an unknown word, or the name of a patch is followed by another word than `replace`.
+    /// The line begins with an unknown word, or the name of a patch is followed by a word other than `replace`.
     UnknownWord = 3,
     /// The line has too few words or too many, or edits follow a status other than 0.
     WrongCount = 4,
@@ -34,11 +34,12 @@ pub enum TextFaultKind {
     BadSymbol = 8,
     /// An edit of a callback is misspelled, or a number in it is out of range.
     BadEdit = 9,
-    /// The line may not be here, for example a symbol before any object, or a function while no target is open.
+    /// The line may not occur at this place: for example a symbol before any object, or a function while no target is
+    /// open.
     OutOfPlace = 10,
-    /// The line repeats what may be said once: the handler, a name, a target, a state or a kind of callback.
+    /// The line repeats what may occur once: the handler, a name, a target, a state or a kind of callback.
     Twice = 11,
-    /// A target names an object that the text doesn't have before this line, so it could have no site.
+    /// A target names an object that no line before has. So no function of the target could have a site.
     UnknownObject = 12,
     /// The line would exceed a limit (`klp_types::limits`).
     TooMany = 13,

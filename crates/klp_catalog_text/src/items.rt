@@ -1,4 +1,4 @@
-//! The parts of lines that a plan keeps unchanged: names, functions and system states.
+//! The parts of lines that a plan stores unchanged: names, functions and system states.
 
 use std::marker::Model;
 
@@ -15,7 +15,7 @@ impl Model for Name {
     ghost view = { λ n. string_bytes n.0 };
 }
 
-/// A name as a line has it, not copied.
+/// A name as a line has it, borrowed from the line.
 #[derive(Drop)]
 pub struct NameWord<'a>(pub &'a str);
 
@@ -32,8 +32,8 @@ impl<'a> Model for NameWord<'a> {
 pub struct PlanFunction {
     /// The name of the symbol that the function replaces, in the object of its target.
     pub symbol: String,
-    /// Which of the symbols of that name in the object is meant, from 1. 0 means that the name must be unique in
-    /// the object.
+    /// The position of the symbol among the object's symbols of that name, from 1. 0 means that the name must be unique
+    /// in the object.
     pub sympos: u32,
     pub new_name: String,
     pub address: u64,
@@ -53,8 +53,8 @@ impl Model for PlanFunction {
     } };
 }
 
-/// A system state that a patch names (system-state): its id, and the version with which the patch knows it.
-/// Versions decide which patches are compatible.
+/// A system state that a patch names (system-state): its id, and the version of the state that the patch uses. Versions
+/// decide which patches are compatible.
 #[derive(Clone, Copy)]
 pub struct SystemState {
     pub id: u64,

@@ -28,7 +28,8 @@ pub(crate) enum Keyword {
     State,
 }
 
-/// What a line says, wherever it is in the text. What a plan keeps of it is copied, and the rest lent.
+/// What a line says, wherever it is in the text. The parts that a plan stores are copied, the others borrowed from the
+/// line.
 #[derive(Drop)]
 pub enum CatalogLine<'a> {
     /// The address of the handler.
@@ -37,7 +38,7 @@ pub enum CatalogLine<'a> {
     Object(Name),
     /// A symbol of the last object.
     Symbol(SymbolText),
-    /// The name of a patch, and whether it replaces all older ones.
+    /// The name of a patch, and whether the patch replaces all older ones.
     Patch(Name, bool),
     /// The name of an object that the last patch changes.
     Target(NameWord<'a>),
@@ -49,7 +50,7 @@ pub enum CatalogLine<'a> {
     State(SystemState),
 }
 
-/// Returns the kind of line that begins with this word. `None` if no line does.
+/// Returns the kind of line that begins with this word. Returns `None` if no line does.
 fn keyword_of(word: &[u8]) -> Option<Keyword>
     ensures { result ≡ keyword_of word.now }
 {
@@ -152,7 +153,7 @@ fn replace_line<'a>(
     Ok(CatalogLine::Patch(words::name(alloc, name)?, true))
 }
 
-/// Reads the words of a `patch` line after its first word: a name, and perhaps `replace`.
+/// Reads the words of a `patch` line after its first word: a name, which `replace` may follow.
 fn patch_line<'a>(
     alloc: Global,
     words: &mut LineWords<'a>,
@@ -232,10 +233,10 @@ fn state_line<'a>(words: &mut LineWords<'a>) -> Result<CatalogLine<'a>, TextFaul
 impl<'a> CatalogLine<'a> {
     /// Reads one line. `text` is the whole line, `first` its first word, and `words` the words after it.
     ///
-    /// `target` is the name of the open target's object, if a target is open. The time is linear in the length of
-    /// the line. `Err` has the first of the line's faults, in the order of [`TextFaultKind`]; it is never
-    /// `OutOfPlace`, `UnknownObject`, `Twice`, `TooMany` or `Missing`. `NoMemory` may be reported in place of any
-    /// fault. No contract says how many of `words` are left.
+    /// `target` is the name of the open target's object, if a target is open. The time is linear in the length of the
+    /// line. `Err` has the first of the line's faults, in the order of [`TextFaultKind`]. It is never `OutOfPlace`,
+    /// `UnknownObject`, `Twice`, `TooMany` or `Missing`. `NoMemory` may be reported in place of any fault. No contract
+    /// says how many of `words` are left unread.
     pub fn read(
         alloc: Global,
         target: Option<&str>,

@@ -5,9 +5,9 @@ ghost use Rattle.klp_catalog_text.specs.Lines.{words_of};
 use klp_words::{LineWords, Separators, position_of};
 use std::marker::Model;
 
-/// The lines of a text that are still to be read. They are cut off one by one, so no list of them is made.
+/// The lines of a text that are still to be read. Lines are cut off one by one, so no list of them is made.
 ///
-/// A line ends at a line feed, or at the end of the text if that has bytes left. A carriage return right before the
+/// A line ends at a line feed. The last line may also end at the end of the text. A carriage return right before the
 /// line feed isn't part of the line.
 #[derive(Drop)]
 pub struct Lines<'a> {
@@ -31,8 +31,8 @@ impl<'a> Lines<'a> {
         Lines { rest: text }
     }
 
-    /// Returns the next line, without the bytes that end it, in time linear in its length. `None` at the end of the
-    /// text.
+    /// Returns the next line, without the bytes that end it, in time linear in its length. Returns `None` at the end of
+    /// the text.
     pub fn next(&mut self) -> Option<&'a [u8]>
         ensures { MatchOption result (self.old ≡ []) (λ line. self.old ≡ line.now ∷ self.new) }
     {
@@ -78,8 +78,8 @@ pub(crate) fn is_word(word: &[u8], other: &[u8]) -> bool
 /// Three words of a line, in their order.
 pub(crate) type ThreeWords<'a> = (&'a [u8], &'a [u8], &'a [u8]);
 
-/// Returns the words that are left if there are exactly three, else `None`. All three are taken at once, since a
-/// wrong number of words is reported before a fault of any word.
+/// Returns the remaining words if there are exactly three. Otherwise returns `None`. All three are read at once, since
+/// a wrong number of words is reported before a fault of any word.
 pub(crate) fn three_words<'a>(words: &mut LineWords<'a>) -> Option<ThreeWords<'a>>
     ensures { MatchOption result (length words.old ≢ 3)
         (λ found. words.old ≡ found.0.now ∷ found.1.now ∷ found.2.now ∷ []) }

@@ -10,8 +10,8 @@ use std::alloc::{AllocError, Global};
 use std::marker::Model;
 use std::mem;
 
-/// A callback of a patch for an object (callbacks). In a plan it is only a script; the catalog's caller makes a
-/// callback of it.
+/// A callback of a patch for an object (callbacks). A plan has only its script, of which the catalog's caller makes a
+/// callback.
 #[derive(Drop)]
 pub struct PlanCallback {
     pub which: Which,
@@ -60,7 +60,8 @@ impl PlanTarget {
         ensures err { OnErr result (self.new ≡ self.old) }
     {
         if self.callbacks.is_empty() {
-            // room for one of each kind at once, since scripts are large to move
+            // allocates room for one callback of each kind at once: a list that grew later would move its scripts,
+            // which are large
             self.callbacks.reserve(CALLBACK_KINDS)?;
         }
         self.callbacks.push(callback)?;
@@ -75,7 +76,7 @@ pub struct PlanPatch {
     /// Whether the patch is cumulative: it replaces all older ones when its transition completes.
     pub replace: bool,
     pub targets: Vec<PlanTarget>,
-    /// The system states that the patch names, in the order of the text, each id once.
+    /// The system states that the patch names, in the order of the text. Each id occurs once.
     pub states: Vec<SystemState>,
 }
 
@@ -159,16 +160,16 @@ impl Model for Plan {
 }
 
 impl Plan {
-    /// Returns the address that a hooked entry site calls. It must be in reach of each symbol.
+    /// Returns the address that a hooked entry site calls. A call from each symbol must be able to reach it.
     pub fn handler(&self) -> u64
         ensures { result ≡ self.now.handler }
     {
         self.handler
     }
 
-    /// Returns the script of a callback. `number` counts the callbacks of all patches, in the order of the text,
-    /// from 0, so that a caller can make one callback after another. `None` if there are fewer. The cost is one
-    /// step for each object before it.
+    /// Returns the script of a callback. `number` counts the callbacks of all patches, in the order of the text, from
+    /// 0, so that a caller can make one callback after another. Returns `None` if there are fewer callbacks. The cost
+    /// is one step for each of the patches' objects before the callback's.
     pub fn script(&self, number: usize) -> Option<&Script>
         ensures { option_map (λ script. script.now) result ≡ slice_get (scripts_of self.now.patches) number }
     {
@@ -184,8 +185,8 @@ impl Plan {
         None
     }
 
-    /// Moves the objects with their symbols out of the plan, for the image, so that no body is copied. The plan has
-    /// none afterwards.
+    /// Moves the objects with their symbols out of the plan, for the image, so that no body is copied. The plan has no
+    /// objects afterwards.
     pub fn take_objects(&mut self) -> Vec<ObjectText>
         ensures objects { result.items ≡ self.old.objects }
         ensures rest { self.new ≡ record self.old { objects = [] } }

@@ -1,5 +1,5 @@
-//! Reads the words of a catalog's line, each by the rule of its kind. A word is checked before it is copied, so
-//! after the check only memory can be wanting.
+//! Reads the words of a catalog's line, each by the rule of its kind. A word is checked before it is copied. So after
+//! the check, only memory can be missing.
 
 ghost use Rattle.std.specs.Prelude.{◌≡◌, Some, None, Ok, Err, option_copied};
 ghost use Rattle.klp_words.specs.Words.{spelling_of};
@@ -42,8 +42,8 @@ pub(crate) fn symbol_name(alloc: Global, word: &[u8]) -> Result<Name, TextFaultK
     Ok(Name(String::from_str(alloc, text(word))?))
 }
 
-/// Reads the bytes of a symbol from hexadecimal digits. An odd number of digits is a `BadHex`. A body that is too
-/// long is found when the line is added to the plan, and one that is too short by the image (docs/DECISIONS.md,
+/// Reads the bytes of a symbol from hexadecimal digits. An odd number of digits is a `BadHex`. If the body is too long,
+/// this is reported when the line is added to the plan. If it is too short, the image reports this (docs/DECISIONS.md,
 /// "Bodies of odd or great length").
 pub(crate) fn body(alloc: Global, word: &[u8]) -> Result<Vec<u8>, TextFaultKind>
     ensures { Gives (λ b. b.items) result (body_of word.now) }
@@ -55,8 +55,8 @@ pub(crate) fn body(alloc: Global, word: &[u8]) -> Result<Vec<u8>, TextFaultKind>
     }
 }
 
-/// Reads the symbol of a `func` line. If a target is open, the symbol must be in its object. Every fault of the
-/// spelling is `BadSymbol`, since it is one word (docs/DECISIONS.md, "The spelling of a symbol").
+/// Reads the symbol of a `func` line. If a target is open, the symbol must be in the target's object. Every fault of
+/// the spelling is `BadSymbol`, since the spelling is one word (docs/DECISIONS.md, "The spelling of a symbol").
 pub(crate) fn symbol<'a>(
     target: Option<&str>,
     word: &'a [u8],

@@ -1,4 +1,4 @@
-//! Doing one line and answering it. What the line asks for is read first, since reading borrows the manager.
+//! Does one line and answers it. What the line asks for is read first, since reading borrows the manager.
 ghost use Rattle.std.specs.Prelude.{◌≡◌, ℕ, ◌+◌, ◌<◌, ◌≤◌, ◌^◌, ◌⊎◌, true, false, cond, List, [], ◌∷◌, ◌++◌, length};
 ghost use Rattle.std.specs.Prelude.{is_err};
 ghost use Rattle.klp_types.specs.declared.limits.TheConstants.{MAX_CONSOLE_LINE};
@@ -22,8 +22,8 @@ use klp_console_io::{Answers, Failed, Marks, Sink};
 use klp_core::Manager;
 use klp_model::{Event, Refusal, Reply};
 
-/// Undoes all events but the first `mark`, and says whether that was done. Returns true if the journal has fewer
-/// events; then nothing was undone.
+/// Undoes all events but the first `mark`, and answers `ok`. Returns whether the line was refused: if the journal has
+/// fewer than `mark` events, nothing is undone, the answer is `BadMark`, and the result is true.
 fn rewind<W: Sink>(manager: &mut Manager, mark: u32, answers: &mut Answers, writer: &mut W) -> bool
     requires { answers.old.has_failed ≡ false }
     ensures { IsSaid (IsRewoundAs manager.old manager.new mark) (answers.old, W.written writer.old)
@@ -41,8 +41,8 @@ fn rewind<W: Sink>(manager: &mut Manager, mark: u32, answers: &mut Answers, writ
     }
 }
 
-/// Takes an event, says its reply or refusal, and returns the same. Inlined, so that callers who drop the reply don't
-/// pay for a copy.
+/// Passes an event to the manager, says its reply or refusal, and returns that too. The function is inlined, so that
+/// callers who drop the reply don't pay for a copy of it.
 #[inline(always)]
 fn answer_event<W: Sink>(
     manager: &mut Manager,
@@ -61,7 +61,7 @@ fn answer_event<W: Sink>(
     reply
 }
 
-/// Takes an event, says its reply or refusal, and returns the outcome.
+/// Passes an event to the manager, says its reply or refusal, and returns the outcome.
 fn take<W: Sink>(
     manager: &mut Manager,
     event: &Event,
@@ -76,9 +76,9 @@ fn take<W: Sink>(
     Outcome::Answered(*event, answer_event(manager, event, answers, writer))
 }
 
-/// Does what a line asks for and says the answer. Returns whether the line was refused, so that it can be counted; a
-/// refused line changed nothing. A line without words does nothing and has no answer, so that a script may have empty
-/// lines. A line at fault is refused.
+/// Does what a line asks for, and says the answer. Returns whether the line was refused, so that it can be counted. A
+/// refused line changes nothing. A line without words does nothing and has no answer, so scripts may have empty lines.
+/// A line at fault is refused.
 fn done<W: Sink>(
     manager: &mut Manager,
     asked: &Option<Result<Asked, LineFault>>,
@@ -149,11 +149,11 @@ fn take_line<W: Sink>(
     outcome
 }
 
-/// Does one line, without its line feed, and writes its answer. Returns the outcome of the line. It does the line by
-/// the same function as `serve`. An `Err` means that the sink failed or took nothing: the line is done all the same,
-/// but the end of its answer is missing.
+/// Does one line, without its line feed, by the same function as `serve`, and writes its answer. Returns the outcome of
+/// the line. `Err` means that the sink failed or accepted no byte. Even then the line is done, but the end of its
+/// answer is missing.
 ///
-/// The line may have any length. It costs as much as its words and what it asks for. Allocates nothing.
+/// The line may have any length. The cost grows with its words and with what it asks for. No memory is allocated.
 pub fn answer_line<W: Sink>(
     manager: &mut Manager,
     line: &[u8],
@@ -171,7 +171,7 @@ pub fn answer_line<W: Sink>(
     Ok(outcome)
 }
 
-/// Counts a line, and whether it was refused.
+/// Counts a line, and also counts it as refused if `is_refused`.
 fn count(served: &mut Served, is_refused: bool)
     requires room { served.old.lines + 1 < 2 ^ 64 }
     requires few { served.old.refused ≤ served.old.lines }
@@ -185,8 +185,8 @@ fn count(served: &mut Served, is_refused: bool)
     }
 }
 
-/// Does what a line asks for and gathers its answer. If the sink fails at an earlier answer, takes the line back. So
-/// the line must be one that can be taken back, unless no answer is gathered before it.
+/// Does what a line asks for, and gathers its answer. If the sink fails to write an earlier answer, this line is undone
+/// again. So it must be a line that can be undone, unless no earlier answer is gathered.
 fn gather<W: Sink>(
     manager: &mut Manager,
     asked: &Option<Result<Asked, LineFault>>,
@@ -220,8 +220,8 @@ fn gather<W: Sink>(
     }
 }
 
-/// Answers a line and counts it. A line that can be taken back is done ahead: its answer is gathered after the answers
-/// that aren't written yet. Before any other line, all gathered answers are written.
+/// Answers a line and counts it. A line that can be undone is done at once, and its answer is gathered behind the
+/// answers that aren't written yet. Before any other line is done, all gathered answers are written.
 pub(crate) fn serve_line<W: Sink>(
     manager: &mut Manager,
     line: &[u8],

@@ -1,5 +1,5 @@
-//! What a line or a word asks for, for callers that don't do it at once. Only the manager's names are used, so its
-//! state makes no difference.
+//! What a line or a word asks for, for callers that don't do it at once. Only the manager's names are used. Its state
+//! makes no difference.
 ghost use Rattle.std.specs.Prelude.{◌≡◌};
 ghost use Rattle.klp_console.specs.Asked.{event_of, site_of};
 
@@ -9,9 +9,9 @@ use klp_model::Event;
 use klp_types::Site;
 use klp_words::spelling_of;
 
-/// Returns the event that a line asks for, whether the manager would accept or refuse it. `line` has no line feed. None
-/// if the line has no words or is at fault, or if it asks for something else than an event. The cost is that of reading
-/// the line.
+/// Returns the event that a line asks for, even if the manager would refuse it. `line` has no line feed. Returns `None`
+/// if the line has no words, is at fault, or asks for something other than an event. The cost is that of reading the
+/// line.
 pub fn event_of(line: &[u8], manager: &Manager) -> Option<Event>
     ensures { result ≡ event_of manager.now line.now }
 {
@@ -22,9 +22,9 @@ pub fn event_of(line: &[u8], manager: &Manager) -> Option<Event>
     }
 }
 
-/// Returns the site of the symbol that a word spells. Its object needn't be loaded, since sites keep their numbers
-/// while modules are loaded and unloaded. None if the word isn't a spelling, or there is no such symbol. The cost is a
-/// look-up for each of its two names.
+/// Returns the site of the symbol that a word spells. The symbol's object needn't be loaded, since a site keeps its
+/// number when a module is loaded or unloaded. Returns `None` if the word isn't the spelling of a symbol, or if there
+/// is no such symbol. The cost is a look-up of the object's name and one of the symbol's name.
 pub fn site_of(symbol: &[u8], manager: &Manager) -> Option<Site>
     ensures { result ≡ site_of manager.now symbol.now }
 {

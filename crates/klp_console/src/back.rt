@@ -1,6 +1,6 @@
-//! Taking lines back. Answers are gathered, so lines may be done ahead of the answers that are written. If a write
-//! fails, the journal takes back the events after the line whose answer was cut off (docs/DECISIONS.md, "Lines ahead of
-//! their answers").
+//! Undoing lines whose answers weren't written. Answers are gathered, so a line may be done before earlier answers are
+//! written. If a write fails, the events of all lines behind the one whose answer was cut off are undone
+//! (docs/DECISIONS.md, "Lines ahead of their answers").
 ghost use Rattle.std.specs.Prelude.{◌≡◌, ℕ, ◌-◌, ◌<◌, ◌≤◌, ◌⊎◌, true, false, List, [], ◌∷◌, ◌++◌, length};
 ghost use Rattle.klp_console.specs.Back as back;
 ghost use Rattle.klp_console.specs.Back.{IsTakenBack};
@@ -15,8 +15,8 @@ use klp_console_io::{Answers, Mark, Marks, Sink};
 use klp_core::Manager;
 use klp_model::Event;
 
-/// Whether a line may be done ahead of the answers before it, so that it can still be taken back. False for an event
-/// that may run a callback, since counts of runs can't be taken back, and for `seal` and `rewind`, which remove events
+/// Whether a line can be undone, so that it may be done before earlier answers are written. False for an event that may
+/// run a callback, since the count of its runs can't be undone. False also for `seal` and `rewind`, which remove events
 /// from the journal.
 pub(crate) fn can_be_taken_back(
     manager: &Manager,
@@ -32,19 +32,21 @@ pub(crate) fn can_be_taken_back(
     }
 }
 
-/// Takes back the events after the line whose answer was cut off. `gathered` is how many bytes were gathered before the
-/// last line. If all of these are written, the last line's own answer was cut off, and nothing is taken back.
+/// Undoes the events of all lines behind the one whose answer was cut off. `gathered` is how many bytes were gathered
+/// before the last line. If all of these are written, it is the last line's own answer that was cut off, and nothing is
+/// undone.
 pub(crate) fn take_back(manager: &mut Manager, marks: &Marks, answers: &Answers, gathered: usize)
     requires { answers.now.held ≤ gathered }
     ensures { IsTakenBack manager.old manager.new (events_at_cut (gathered - answers.now.held) marks.now) }
 {
     if let Some(events) = marks.events_at_cut(gathered - answers.held()) {
-        // the journal has so many events: no line after the mark removed any
+        // the journal has at least this many events: no line after the mark removed any
         let _ = manager.rewind(events);
     }
 }
 
-/// Marks the line that was answered last. First drops all earlier marks, if all answers before this line's are written.
+/// Marks the line that was answered last. If all answers before its own are written, the earlier marks are dropped
+/// first.
 pub(crate) fn mark_line(marks: &mut Marks, answers: &Answers, events: u32)
     requires { length marks.old < MARKS_ROOM }
     ensures { marks.new ≡ back.marks_on answers.now.held marks.old
@@ -59,7 +61,7 @@ pub(crate) fn mark_line(marks: &mut Marks, answers: &Answers, events: u32)
     });
 }
 
-/// Writes all gathered answers. If that fails, takes back the lines after the one whose answer was cut off.
+/// Writes all gathered answers. If a write fails, undoes the lines behind the one whose answer was cut off.
 pub(crate) fn write_out<W: Sink>(
     manager: &mut Manager,
     answers: &mut Answers,
@@ -82,8 +84,8 @@ pub(crate) fn write_out<W: Sink>(
     }
 }
 
-/// Writes all gathered answers if the next line can't be taken back, or if there is no room for another mark. So all
-/// earlier answers are written before a line is done that can't be taken back.
+/// Writes all gathered answers if the next line can't be undone, or if there is no room for another mark. So a line
+/// that can't be undone is done only after all earlier answers are written.
 pub(crate) fn make_ready<W: Sink>(
     manager: &mut Manager,
     is_ahead: bool,

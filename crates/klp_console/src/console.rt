@@ -1,4 +1,4 @@
-//! Serving a whole input until its end, by reads into a buffer of a fixed size.
+//! Serving an input until its end. It is read into a buffer of a fixed size.
 ghost use Rattle.std.specs.Prelude.{◌≡◌, ◌+◌, ◌<◌, ◌≤◌, ◌^◌, false, [], ◌∷◌, ◌++◌, length, IfOk, IfErr};
 ghost use Rattle.klp_types.specs.declared.limits.TheConstants.{MAX_CONSOLE_LINE};
 ghost use Rattle.klp_console_io.specs.Lines.{lines_and_rest};
@@ -15,8 +15,8 @@ use klp_console_io::{Answers, Failed, LineBuffer, Marks, Sink, Source};
 use klp_core::Manager;
 use klp_types::{MAX_READS, READ_ROOM};
 
-/// Does the lines of a piece, and writes all their answers. One write has the answers of a whole read, so a file of
-/// many lines doesn't cost a write for each line (docs/DECISIONS.md, "Gathered answers").
+/// Does the lines of a piece of the input, and writes all their answers. The answers to one read are written together,
+/// so a file of many lines doesn't cost a write for each line (docs/DECISIONS.md, "Gathered answers").
 fn hear<W: Sink>(
     manager: &mut Manager,
     line: &mut LineBuffer,
@@ -51,8 +51,7 @@ fn hear<W: Sink>(
     heard
 }
 
-/// Does the last line, if no line feed ended it, and writes its answer. If no bytes are behind the last line feed,
-/// there is no such line.
+/// Does the last line and writes its answer, if bytes follow the last line feed. Otherwise there is no such line.
 fn end<W: Sink>(
     manager: &mut Manager,
     line: &LineBuffer,
@@ -94,12 +93,12 @@ fn end<W: Sink>(
 
 /// Serves lines from `reader` until it ends, and writes their answers to `writer`.
 ///
-/// A line ends with a line feed, or with the input, and has at most [`MAX_CONSOLE_LINE`](klp_types::MAX_CONSOLE_LINE)
+/// A line ends with a line feed or with the input. It has at most [`MAX_CONSOLE_LINE`](klp_types::MAX_CONSOLE_LINE)
 /// bytes. Each answer is written before the next read, so that someone who types sees it at once. The contract implies
 /// this, since any read may be the one that fails (docs/DECISIONS.md, "Answers before the next read"). A patch that was
-/// withdrawn leaves no trace, as after `Manager::run`. Compared with the state before any one line, this holds if no
-/// later line is a `seal`, or a `rewind` to before that line. A line costs as much as its words and what it asks for.
-/// Allocates nothing.
+/// withdrawn leaves no trace, as after `Manager::run`. This holds against the state before any line that is followed by
+/// no `seal`, and by no `rewind` to a mark before that line. The cost of a line grows with its words and with what it
+/// asks for. No memory is allocated.
 pub fn serve<R: Source, W: Sink>(
     reader: &mut R,
     writer: &mut W,
@@ -150,6 +149,7 @@ pub fn serve<R: Source, W: Sink>(
             return Err(fault);
         }
     }
-    // All `MAX_READS` reads were made, and none was the end. Serving must stop somewhere if an input never ends.
+    // All `MAX_READS` reads were made, and none of them told the end. Serving must stop at some point even if an input
+    // never ends.
     Err(ServeFault::Read)
 }

@@ -61,7 +61,7 @@ pub fn refusals_have_these_numbers()
     ensures bad_mark { bad_mark_text ≡ codes "error 22 BadMark\n" }
 {}
 
-/// The answers to queries of the files of patches and tasks.
+/// The answers to queries about the files of patches and tasks.
 pub fn files_read_like_this()
     ensures enabled { shown_text (query_text manager (query.Enabled 0)) ≡ codes "1\n" }
     ensures at_rest { shown_text (query_text manager (query.Transition 0)) ≡ codes "0\n" }
@@ -84,7 +84,7 @@ pub fn files_read_like_this()
     ensures variable { variable_text (Some (5 ∷ 0 ∷ 0 ∷ 0 ∷ 0 ∷ 0 ∷ 0 ∷ 0 ∷ [])) ≡ codes "value 5\n" }
 {}
 
-/// The answers to queries of the text, of function stacks, of what a task runs, and of how often callbacks ran.
+/// The answers to queries about the text, function stacks, what a task runs, and how often callbacks ran.
 pub fn the_kernel_looks_like_this()
     ensures text { shown_text (query_text manager (query.Text 0))
         ≡ codes "f ffffffff81001000 e8fbefffff90c3\nh ffffffff81002000 e8fbdfffffc3\nd ffffffff81003000 0f1f440000c3\nd ffffffff81004000 0f1f440000c3\n" }

@@ -1,4 +1,4 @@
-//! The files of patches and of tasks. As in a kernel, a patch has a directory while it is installed.
+//! The files of patches and of tasks. As in the kernel, a patch has a directory only while it is installed.
 ghost use Rattle.std.specs.Prelude.{◌≡◌, ◌==◌, ◌++◌, [], codes, filter, Ok};
 ghost use Rattle.std.specs.Fmt.{decimal};
 ghost use Rattle.std.specs.Result.{result_and, result_unwrap_or};
@@ -19,14 +19,14 @@ use klp_core::Manager;
 use klp_model::Refusal;
 use klp_types::{ObjId, PatchId, TaskId};
 
-/// Whether a patch is installed, since it has files only then.
+/// Whether a patch is installed. Only installed patches have files.
 pub(crate) fn is_installed(manager: &Manager, patch: PatchId) -> bool
     ensures { result ≡ is_installed manager.now.managed.state patch }
 {
     manager.enabled(patch).is_some()
 }
 
-/// Whether a patch changes an object, loaded or not, since it has a directory for the object in both cases.
+/// Whether a patch changes an object. The patch then has a directory for the object, even if the object isn't loaded.
 pub(crate) fn has_object(catalog: &Catalog, patch: PatchId, object: ObjId) -> bool
     ensures { result ≡ has_object catalog.now patch object }
 {
@@ -53,7 +53,7 @@ fn say_flag<W: Sink>(answers: &mut Answers, writer: &mut W, value: bool)
     }
 }
 
-/// Says what the `enabled` file of a patch reads. Returns `NotFound`, and says nothing, if the patch isn't installed.
+/// Says what the `enabled` file of a patch reads. If the patch isn't installed, returns `NotFound` and says nothing.
 pub(crate) fn say_enabled<W: Sink>(
     answers: &mut Answers,
     writer: &mut W,
@@ -70,8 +70,7 @@ pub(crate) fn say_enabled<W: Sink>(
     Ok(())
 }
 
-/// Says what the `transition` file of a patch reads. Returns `NotFound`, and says nothing, if the patch isn't
-/// installed.
+/// Says what the `transition` file of a patch reads. If the patch isn't installed, returns `NotFound` and says nothing.
 pub(crate) fn say_transition<W: Sink>(
     answers: &mut Answers,
     writer: &mut W,
@@ -88,8 +87,8 @@ pub(crate) fn say_transition<W: Sink>(
     Ok(())
 }
 
-/// Says what the `patch_state` file of a task reads: -1 outside of transitions, so it is signed. Returns `NoTask`, and
-/// says nothing, if there is no such task.
+/// Says what the `patch_state` file of a task reads. The number is signed, since it is -1 when there is no transition.
+/// If there is no such task, returns `NoTask` and says nothing.
 pub(crate) fn say_patch_state<W: Sink>(
     answers: &mut Answers,
     writer: &mut W,
@@ -123,7 +122,7 @@ fn say_patch_lines<W: Sink>(
     }
 }
 
-/// Says the names of the installed patches, oldest first: in the order in which they were enabled.
+/// Says the names of the installed patches in the order in which they were enabled, oldest first.
 pub(crate) fn say_patches<W: Sink>(answers: &mut Answers, writer: &mut W, manager: &Manager)
     ensures { Says (answers.old, W.written writer.old) (answers.new, W.written writer.new)
         (lines_of (patch_line manager.now.managed.catalog) (installed_patches manager.now.managed.state)) }
@@ -151,7 +150,8 @@ fn say_object_lines<W: Sink>(
     }
 }
 
-/// Says the contents of a patch's directory: its files, and a directory for each object that it changes, loaded or not.
+/// Says the contents of a patch's directory: its files, and a directory for each object that the patch changes, even if
+/// the object isn't loaded.
 fn say_files<W: Sink>(answers: &mut Answers, writer: &mut W, manager: &Manager, patch: PatchId)
     ensures { Says (answers.old, W.written writer.old) (answers.new, W.written writer.new)
         (directory_text manager.now.managed.catalog patch) }
@@ -161,7 +161,7 @@ fn say_files<W: Sink>(answers: &mut Answers, writer: &mut W, manager: &Manager, 
     say_object_lines(answers, writer, manager, patch);
 }
 
-/// Says the contents of a patch's directory. Returns `NotFound`, and says nothing, if the patch isn't installed.
+/// Says the contents of a patch's directory. If the patch isn't installed, returns `NotFound` and says nothing.
 pub(crate) fn say_directory<W: Sink>(
     answers: &mut Answers,
     writer: &mut W,
@@ -180,7 +180,7 @@ pub(crate) fn say_directory<W: Sink>(
     Ok(())
 }
 
-/// Says a symbol and its position among the symbols of its name, with a comma between, as in the kernel.
+/// Says a symbol's name and its position among the symbols of that name, with a comma between, as the kernel does.
 fn say_position<W: Sink>(answers: &mut Answers, writer: &mut W, symbol: &str, position: u64)
     ensures { Says (answers.old, W.written writer.old) (answers.new, W.written writer.new)
         (symbol.now ++ codes "," ++ decimal position ++ codes "\n") }
@@ -192,18 +192,18 @@ fn say_position<W: Sink>(answers: &mut Answers, writer: &mut W, symbol: &str, po
     answers.say(writer, b"\n");
 }
 
-/// Says a function that a patch changes, with its position, as the kernel names the function's directory.
+/// Says a function that a patch changes, with its position. The kernel's directory of the function has the same name.
 fn say_function<W: Sink>(answers: &mut Answers, writer: &mut W, function: &CatalogFunction)
     ensures { Says (answers.old, W.written writer.old) (answers.new, W.written writer.new)
         (position_text function.now) }
 {
-    // position 0 means the only symbol of its name: it is the first, and the kernel's directory is `name,1`
+    // position 0 means that the symbol is the only one of its name; the kernel then writes position 1
     let position = u64::from(function.sympos().max(1));
     say_position(answers, writer, function.symbol(), position);
 }
 
-/// Says the functions in the list that are in this object, with their positions. The list has all functions of a patch,
-/// so each is looked at.
+/// Says those functions in the list that are in this object, with their positions. The list has all functions of a
+/// patch, so each is looked at.
 fn say_positions<W: Sink>(
     answers: &mut Answers,
     writer: &mut W,
@@ -221,8 +221,8 @@ fn say_positions<W: Sink>(
     }
 }
 
-/// Says the functions that a patch changes in an object, with their positions. Returns `NotFound`, and says nothing, if
-/// the patch isn't installed or doesn't change the object.
+/// Says the functions that a patch changes in an object, with their positions. If the patch isn't installed, or doesn't
+/// change the object, returns `NotFound` and says nothing.
 pub(crate) fn say_functions<W: Sink>(
     answers: &mut Answers,
     writer: &mut W,

@@ -1,5 +1,5 @@
-//! Cutting pieces of the input into lines, and answering these. The function borrows all that it changes, so that its
-//! ways out are cheap to prove (docs/DECISIONS.md, "One way out for an owner").
+//! Cuts pieces of the input into lines, and answers the lines. The function borrows all that it changes, so its early
+//! returns are cheap to prove (docs/DECISIONS.md, "One way out for an owner").
 ghost use Rattle.std.specs.Prelude.{◌≡◌, ◌+◌, ◌<◌, ◌≤◌, ◌^◌, false, [], ◌∷◌, ◌++◌, length, IfOk};
 ghost use Rattle.klp_types.specs.declared.limits.TheConstants.{MAX_CONSOLE_LINE};
 ghost use Rattle.klp_console_io.specs.Lines.{lines_and_rest};
@@ -10,7 +10,8 @@ use crate::served::{ServeFault, Served};
 use klp_console_io::{Answers, LineBuffer, Marks, Sink, TooLong};
 use klp_core::Manager;
 
-/// Hears a piece, and answers each line that ends in it. After a failure of the sink no further line is done.
+/// Reads a piece of the input, and answers each line that ends in it. Once the sink has failed, no further line is
+/// done.
 pub(crate) fn hear_lines<W: Sink>(
     manager: &mut Manager,
     line: &mut LineBuffer,
@@ -36,8 +37,8 @@ pub(crate) fn hear_lines<W: Sink>(
     let mut rest = piece;
     while !rest.is_empty() {
         match line.hear(rest) {
-            // The clause identifies a long line by the bytes of the source, which aren't known for standard input; but
-            // this is one function for all sources (docs/DECISIONS.md, "Long lines of standard input").
+            // The clause identifies a long line by the bytes of the source. For standard input these aren't known, but
+            // this function serves all sources (docs/DECISIONS.md, "Long lines of standard input").
             Err(TooLong) => return Err(ServeFault::LineTooLong),
             Ok(None) => return Ok(()),
             Ok(Some(after)) => {
@@ -46,7 +47,7 @@ pub(crate) fn hear_lines<W: Sink>(
                 rest = after;
             }
         }
-        // checked after each line, since no line may be done after the one whose answer was cut off
+        // checked after each line, since no line may be done behind the one whose answer was cut off
         if answers.has_failed() {
             return Err(ServeFault::Write);
         }

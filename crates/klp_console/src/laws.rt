@@ -1,13 +1,14 @@
-//! A law about what serving leaves. A function here does nothing: its contract is the law.
+//! A law about the manager after serving. A function here does nothing: its contract is the law.
 ghost use Rattle.std.specs.Prelude.{◌≡◌, ℕ, List, Some};
 ghost use mathlib.Core.List.{IsPrefix};
 ghost use Rattle.klp_console.specs.Alike.{AreAlike, NoneIsFull};
 ghost use Rattle.klp_console.specs.Served.{Console, HasWriteFailed};
 
-/// The bytes that were written determine which lines are done after a failed write. Take two servings of the same lines
-/// by one manager, whose sinks took the same bytes. They have done the same lines, and leave the same manager except
-/// for its undo records, however reads cut the input and whichever lines were done ahead of their answers. This holds
-/// for lines that the journal has room for: an event's records are only promised to be few and to undo the event.
+/// After a failed write, the bytes that were written determine which lines are done. Take two servings of the same
+/// lines by one manager whose sinks accepted the same bytes. Then both have done the same lines, and both leave the
+/// same manager except for its undo records. It makes no difference how reads cut the input, or which lines were done
+/// before earlier answers were written. This holds as long as the journal has room for the lines, since contracts say
+/// little of an event's records: only that they are few and undo the event.
 pub fn what_stands_is_sent_by_what_was_written()
     ensures { (before after other : Console) (all : List (List ℕ)) (taken : List ℕ)
         → (one : HasWriteFailed before after) → (two : HasWriteFailed before other)

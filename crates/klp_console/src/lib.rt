@@ -1,25 +1,26 @@
 //! The console of a live patching manager: lines in, answers out, and nothing else.
 //!
-//! [`serve`] reads lines from a source until it ends, passes each to the manager, and writes the answers in order. An
-//! input means the same however reads cut it. One contract holds for every source and sink, `ComesTo` (`specs/Served`).
-//! It has four outcomes: the input was served, a read failed, a write failed, or a line was too long. Each says which
-//! lines were done, what the manager is then, and what was written. `specs/Answered` says what one line does, and
-//! `specs/Lines` what the lines of an input do; both depend only on the bytes of all reads together.
+//! [`serve`] reads lines from a source until it ends, does each with the manager, and writes the answers in order. It
+//! makes no difference how reads cut the input. One contract holds for every source and sink, `ComesTo`
+//! (`specs/Served`). It has four outcomes: the input was served, a read failed, a write failed, or a line was too long.
+//! For each it says which lines were done, how the manager is afterwards, and what was written. `specs/Answered`
+//! defines what one line does, and `specs/Lines` what the lines of an input do. Both depend only on the bytes of all
+//! reads together.
 //!
 //! An answer is one or more whole lines, and each call writes exactly the defined text. A refusal is answered with its
-//! number and its name (`specs/Refusals`). A reply says what the event did, with the names of patch and object, and
-//! with a task's functions outermost first, by symbol and position or by patch and index (`specs/Replies`, `Names`). A
-//! query is refused, or answered with the text that the definition gives for the manager, line by line: the files of
-//! patches and tasks, the text and the entries of sites, and what callbacks did (`specs/Queries`). Nothing here
-//! allocates.
+//! number and its name (`specs/Refusals`). A reply says what the event did, with the names of patch and object. A
+//! task's functions are named outermost first: an original by symbol and position, a new function by patch and index
+//! (`specs/Replies`, `Names`). A query is refused, or answered line by line with the text that the definition gives for
+//! the manager: the files of patches and tasks, the text and the entries of sites, and what callbacks did
+//! (`specs/Queries`). Nothing here allocates.
 //!
-//! `examples` has every reply and refusal, and the answers to queries of a small kernel.
+//! `examples` has every reply and refusal, and the answers to queries about a small kernel.
 //!
-//! [`answer_line`] answers one line by itself, for callers that cut lines themselves. It does the line as [`serve`]
-//! does (`specs/Answered`, and `IsSaid` of `specs/Said`).
+//! [`answer_line`] answers a single line, for callers that cut lines themselves. It does the line as [`serve`] does
+//! (`specs/Answered`, and `IsSaid` of `specs/Said`).
 //!
-//! [`event_of`] and [`site_of`] return what a line and a word ask for, for callers that don't do it at once
-//! (`specs/Asked`).
+//! [`event_of`] returns the event that a line asks for, and [`site_of`] the site that a word names. Neither does
+//! anything (`specs/Asked`).
 #![tactic(auto)]
 
 mod answer;

@@ -1,4 +1,4 @@
-//! The names in answers. Replies have numbers; nobody should have to look these up.
+//! The names in answers. Replies have numbers, which nobody should have to look up.
 ghost use Rattle.std.specs.Prelude.{◌≡◌, ◌++◌, codes};
 ghost use Rattle.klp_console_io.specs.Says.{Says};
 ghost use Rattle.klp_console_io.specs.Texts.{address_text};
@@ -10,22 +10,22 @@ use klp_modules::Modules;
 use klp_types::{ObjId, PatchId};
 
 /// Returns the name of a patch of a catalog. The name is empty if there is no such patch, which never happens for a
-/// manager's own patches. Needs no look-up by name.
+/// manager's own patches. The patch is found by its number.
 pub(crate) fn patch_name(catalog: &Catalog, patch: PatchId) -> &str
     ensures { result.now ≡ patch_name catalog.now patch }
 {
     catalog.patch_name(patch).unwrap_or("")
 }
 
-/// Returns the name of an object, loaded or not. The name is empty if there is no such object, so that no caller needs
-/// a case for it. Needs no look-up by name.
+/// Returns the name of an object, even if the object isn't loaded. The name is empty if there is no such object, so no
+/// caller needs a case for that. The object is found by its number.
 pub(crate) fn object_name(modules: &Modules, object: ObjId) -> &str
     ensures { result.now ≡ object_name modules.now.names object }
 {
     modules.object_name(object).unwrap_or("")
 }
 
-/// Says a name as it was spelled, byte by byte.
+/// Says a name as it was spelled in the catalog, byte by byte.
 pub(crate) fn say_name<W: Sink>(answers: &mut Answers, writer: &mut W, name: &str)
     ensures { Says (answers.old, W.written writer.old) (answers.new, W.written writer.new) name.now }
 {
@@ -53,7 +53,7 @@ fn say_function<W: Sink>(
 }
 
 /// Says a new function of a patch: the patch, the function's name, and its address in 16 hexadecimal digits. `number`
-/// counts the patch's functions over its objects from 0. Says nothing if there is no such patch or function.
+/// counts from 0 over the functions of all the patch's objects. Says nothing if there is no such patch or function.
 pub(crate) fn say_new_function<W: Sink>(
     answers: &mut Answers,
     writer: &mut W,

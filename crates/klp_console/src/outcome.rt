@@ -1,4 +1,4 @@
-//! The outcome of a line, for callers that need more of it than its answer.
+//! The outcome of a line, for callers that need to know more than its answer.
 ghost use Rattle.std.specs.Prelude.{◌≡◌};
 ghost use Rattle.klp_console_commands.specs.Asked.{asked_with};
 ghost use Rattle.klp_model.specs.declared.event.Event as events;
@@ -10,18 +10,18 @@ use klp_model::{Event, Refusal, Reply};
 /// The outcome of a line: what it did, or that it was refused.
 #[derive(Clone, Copy)]
 pub enum Outcome {
-    /// The line asks for this event, which was accepted with this reply, or refused for this reason.
+    /// The line asked for this event. The event was accepted with this reply, or refused for this reason.
     Answered(Event, Result<Reply, Refusal>),
-    /// The line asks for no event, and was refused. It changed nothing.
+    /// The line asked for no event, and was refused. It changed nothing.
     Refused,
     /// Events were undone, and the journal still has this many.
     Rewound(u32),
-    /// The line was done, and asks for no event: it shows something, seals, or has no words.
+    /// The line was done, and asked for no event: it shows something, seals the journal, or has no words.
     Done,
 }
 
 impl Outcome {
-    /// Whether the line was refused, and counts as refused.
+    /// Whether the line was refused. Such a line is counted as refused.
     pub fn is_refusal(&self) -> bool
         ensures { result ≡ is_refusal self.now }
     {

@@ -1,4 +1,4 @@
-//! Answering queries: each kind is said by a function in a file of its own, and refusals are said here.
+//! Answers queries. Each kind of query is answered by a function in a file of its own. Refusals are said here.
 ghost use Rattle.std.specs.Prelude.{◌≡◌, [], Ok};
 ghost use Rattle.std.specs.Result.{result_and, result_unwrap_or};
 ghost use Rattle.klp_console_io.specs.Says.{Says};
@@ -18,7 +18,8 @@ use klp_core::Manager;
 use klp_model::Refusal;
 use klp_types::PatchId;
 
-/// Says what a query shows. Returns the refusal, and says nothing, if it is refused; the caller then says the refusal.
+/// Says what a query shows. If the query is refused, returns the refusal and says nothing; the caller then says the
+/// refusal.
 fn show<W: Sink>(
     answers: &mut Answers,
     writer: &mut W,
@@ -58,10 +59,9 @@ fn show<W: Sink>(
 }
 
 /// Says what a query shows, or why it is refused: `NotFound` for a file that doesn't exist, `NoTask` for a task that
-/// doesn't exist, and `NoModule` for an object that isn't loaded. A refusal is also returned, so that it can be
-/// counted.
+/// doesn't exist, `NoModule` for an object that isn't loaded. A refusal is also returned, so that it can be counted.
 ///
-/// The files are those of the kernel (livepatch, Sysfs). A switch is 1 or 0, an address has 16 hexadecimal digits, a
+/// The files are those of the kernel (livepatch, Sysfs). A flag is 1 or 0, an address has 16 hexadecimal digits, a
 /// position counts from 1, and a count of runs stops at the greatest number. The cost grows with the length of the
 /// answer.
 pub(crate) fn say_query<W: Sink>(
@@ -82,8 +82,8 @@ pub(crate) fn say_query<W: Sink>(
     result
 }
 
-/// Answers a write of 0 to the `force` file of a patch. Says `ok`, though the write does nothing, as in the kernel
-/// (`force_store`). If the patch isn't installed, says `NotFound` and returns it.
+/// Answers a write of 0 to the `force` file of a patch. The write does nothing, as in the kernel (`force_store`), so
+/// the answer is `ok`. If the patch isn't installed, says `NotFound` and returns it.
 pub(crate) fn say_force_nothing<W: Sink>(
     answers: &mut Answers,
     writer: &mut W,

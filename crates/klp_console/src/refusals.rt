@@ -1,4 +1,4 @@
-//! The answers to lines that weren't done: one line that begins with `error`, so that scripts find it.
+//! The answers to lines that weren't done. Each is one line that begins with `error`, so that scripts find it.
 ghost use Rattle.std.specs.Prelude.{◌≡◌};
 ghost use Rattle.klp_console_io.specs.Says.{Says};
 ghost use Rattle.klp_console.specs.Refusals.{refusal_text, fault_text, bad_mark_text};
@@ -7,8 +7,8 @@ use klp_console_commands::LineFault;
 use klp_console_io::{Answers, Sink};
 use klp_model::Refusal;
 
-/// Returns the whole line of a refusal. For programs that read it, it has the number of a Linux error with a similar
-/// meaning (docs/DECISIONS.md, "Error numbers").
+/// Returns the whole line of a refusal. Its number is that of a Linux error with a similar meaning, for programs that
+/// read it (docs/DECISIONS.md, "Error numbers").
 fn refusal_line(refusal: Refusal) -> &'static [u8]
     ensures { result.now ≡ refusal_text refusal }
 {
@@ -35,15 +35,15 @@ fn refusal_line(refusal: Refusal) -> &'static [u8]
 }
 
 /// Says why an event was refused, as `error NUMBER NAME`. The number is that of a Linux error with a similar meaning: 2
-/// is `ENOENT`, 12 `ENOMEM`, 16 `EBUSY` and 22 `EINVAL`. This project itself chose the number of each refusal. Says one
-/// text of at most 22 bytes, so it is gathered at once.
+/// is `ENOENT`, 12 `ENOMEM`, 16 `EBUSY` and 22 `EINVAL`. Which refusal has which number is this project's own choice.
+/// The text has at most 22 bytes, so it is gathered in one piece.
 pub(crate) fn say_refusal<W: Sink>(answers: &mut Answers, writer: &mut W, refusal: Refusal)
     ensures { Says (answers.old, W.written writer.old) (answers.new, W.written writer.new) (refusal_text refusal) }
 {
     answers.say(writer, refusal_line(refusal));
 }
 
-/// Says why a line asks for nothing: `error 22 BadLine`, `error 22 BadValue`, or the refusal of an unknown name.
+/// Says why a line asks for nothing: `error 22 BadLine`, `error 22 BadValue`, or the refusal that an unknown name gets.
 pub(crate) fn say_fault<W: Sink>(answers: &mut Answers, writer: &mut W, fault: &LineFault)
     ensures { Says (answers.old, W.written writer.old) (answers.new, W.written writer.new) (fault_text fault.now) }
 {
@@ -54,7 +54,7 @@ pub(crate) fn say_fault<W: Sink>(answers: &mut Answers, writer: &mut W, fault: &
     }
 }
 
-/// Says that the journal has fewer events than the mark, as `error 22 BadMark`.
+/// Says `error 22 BadMark`: the journal has fewer events than the mark.
 pub(crate) fn say_bad_mark<W: Sink>(answers: &mut Answers, writer: &mut W)
     ensures { Says (answers.old, W.written writer.old) (answers.new, W.written writer.new) bad_mark_text }
 {

@@ -1,4 +1,4 @@
-//! The answers to events, in words and names as lines have them.
+//! The answers to events, in the words and names that lines use.
 ghost use Rattle.std.specs.Prelude.{◌≡◌, ◌++◌, codes};
 ghost use Rattle.std.specs.Fmt.{decimal, signed_decimal};
 ghost use Rattle.klp_modules.specs.Names.{symbol_at_site};
@@ -14,14 +14,14 @@ use klp_model::{Refusal, Reply};
 use klp_modules::Modules;
 use klp_types::{Frames, ObjId, PatchId, Site, Version};
 
-/// Says `ok`: the line was done, and has no more to report. So each line with words has an answer.
+/// Says `ok`: the line was done, and there is no more to report. So each line with words has an answer.
 pub(crate) fn say_done<W: Sink>(answers: &mut Answers, writer: &mut W)
     ensures { Says (answers.old, W.written writer.old) (answers.new, W.written writer.new) done_text }
 {
     answers.say(writer, b"ok\n");
 }
 
-/// Says a word, which ends with a space, and a number on one line.
+/// Says a word and a number on one line. The word ends with a space.
 fn say_number<W: Sink>(answers: &mut Answers, writer: &mut W, word: &[u8], number: u64)
     ensures { Says (answers.old, W.written writer.old) (answers.new, W.written writer.new)
         (word.now ++ decimal number ++ codes "\n") }
@@ -55,7 +55,8 @@ fn say_pre_failed<W: Sink>(
     answers.say(writer, b"\n");
 }
 
-/// Says a symbol of an object and its position among those of its name, from 1, in a form in which a line can name it.
+/// Says a symbol of an object, with its position among the symbols of that name, from 1. A line may name the symbol by
+/// this text.
 fn say_symbol<W: Sink>(
     answers: &mut Answers,
     writer: &mut W,
@@ -92,7 +93,7 @@ fn say_original<W: Sink>(answers: &mut Answers, writer: &mut W, modules: &Module
     }
 }
 
-/// Says a new function by its patch and its index among the patch's functions. Its name would not do, since other
+/// Says a new function by its patch and its index among the patch's functions. Its name isn't enough, since other
 /// functions may have the same name.
 fn say_new<W: Sink>(answers: &mut Answers, writer: &mut W, patch: &str, function: u64)
     ensures { Says (answers.old, W.written writer.old) (answers.new, W.written writer.new)
@@ -105,7 +106,7 @@ fn say_new<W: Sink>(answers: &mut Answers, writer: &mut W, patch: &str, function
     answers.number(writer, function);
 }
 
-/// Says a function that a task was inside of, in a form in which a line can name it.
+/// Says a function that a task was inside of. A line may name the function by this text.
 fn say_frame<W: Sink>(
     answers: &mut Answers,
     writer: &mut W,
@@ -126,7 +127,7 @@ fn say_frame<W: Sink>(
     }
 }
 
-/// Says the functions that a task was inside of, outermost first, as a `task sleep` line has them.
+/// Says the functions that a task was inside of, outermost first, in the form of a `task sleep` line.
 fn say_frames<W: Sink>(
     answers: &mut Answers,
     writer: &mut W,
@@ -145,7 +146,7 @@ fn say_frames<W: Sink>(
     }
 }
 
-/// Says on one line the functions that a woken task was inside of, or the word alone if there were none.
+/// Says on one line the functions that a woken task was inside of. If there were none, says the word `woken` alone.
 fn say_woken<W: Sink>(
     answers: &mut Answers,
     writer: &mut W,
@@ -163,11 +164,11 @@ fn say_woken<W: Sink>(
     answers.say(writer, b"\n");
 }
 
-/// Says the reply to an event, as its word followed by its names and numbers, or says why the event was refused.
+/// Says the reply to an event: its word, and then its names and numbers. For a refused event, says why it was refused.
 ///
-/// A function that a task was inside of is spelled as a livepatch symbol, with the position from 1 (livepatch module
-/// ELF format, livepatch symbols), or as `PATCH:INDEX`, where `INDEX` counts the patch's functions over its objects
-/// from 0. The time is linear in the length of the answer. Needs no look-up by name.
+/// A function that a task was inside of is spelled as a livepatch symbol, with its position from 1 (livepatch module
+/// ELF format, livepatch symbols). A new function is spelled as `PATCH:INDEX`, where `INDEX` counts from 0 over the
+/// functions of all the patch's objects. The time is linear in the length of the answer. No name is looked up.
 pub(crate) fn say_answer<W: Sink>(
     answers: &mut Answers,
     writer: &mut W,
@@ -175,7 +176,7 @@ pub(crate) fn say_answer<W: Sink>(
     modules: &Modules,
     answer: &Result<Reply, Refusal>,
 )
-    // a manager's catalog has the names of its objects, so the names agree
+    // a manager's catalog was made with the names of the manager's objects, so the names agree
     requires { catalog.now.names ≡ modules.now.names }
     ensures { Says (answers.old, W.written writer.old) (answers.new, W.written writer.new)
         (answer_text catalog.now answer.now) }

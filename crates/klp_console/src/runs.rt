@@ -1,5 +1,5 @@
-//! Queries that are answered with values and numbers: shadow variables, runs of callbacks, and the number of events in
-//! the journal.
+//! Queries whose answers are values and numbers: shadow variables, runs of callbacks, and the number of events in the
+//! journal.
 ghost use Rattle.std.specs.Prelude.{◌≡◌, ◌++◌, [], codes, length, Option, Ok};
 ghost use Rattle.std.specs.Fmt.{decimal};
 ghost use Rattle.std.specs.Result.{result_and, result_unwrap_or};
@@ -17,10 +17,10 @@ use klp_core::Manager;
 use klp_model::Refusal;
 use klp_types::{ObjId, PatchId, ShadowKey, Which};
 
-/// The kinds of callbacks, in the order in which their counts are said: the order in which a patch runs them.
+/// The kinds of callbacks, in the order in which a patch runs them. Their counts are said in this order.
 const KINDS: [Which; 4] = [Which::Pre, Which::Post, Which::PreUn, Which::PostUn];
 
-/// Says the value of a shadow variable, or `none` if it doesn't exist, which is no refusal.
+/// Says the value of a shadow variable, or `none` if it doesn't exist. The latter is no refusal.
 pub(crate) fn say_variable<W: Sink>(
     answers: &mut Answers,
     writer: &mut W,
@@ -36,7 +36,7 @@ pub(crate) fn say_variable<W: Sink>(
     }
 }
 
-/// Says how often a callback ran, or a dash if there is no such callback, so that each kind has its place in the line.
+/// Says how often a callback ran, or a dash if there is no such callback. So each kind has its place in the line.
 fn say_count<W: Sink>(answers: &mut Answers, writer: &mut W, count: Option<u64>)
     ensures { Says (answers.old, W.written writer.old) (answers.new, W.written writer.new) (count_text count) }
 {
@@ -89,8 +89,8 @@ fn say_all_counts<W: Sink>(
     answers.say(writer, b"\n");
 }
 
-/// Says how often the callbacks of a patch for an object ran. The patch needn't be installed, since counts stay when it
-/// leaves. Returns `NotFound`, and says nothing, if the patch doesn't change the object.
+/// Says how often each callback of a patch for an object ran. The patch needn't be installed, since its counts stay
+/// when it leaves. If the patch doesn't change the object, returns `NotFound` and says nothing.
 pub(crate) fn say_runs<W: Sink>(
     answers: &mut Answers,
     writer: &mut W,
@@ -110,7 +110,7 @@ pub(crate) fn say_runs<W: Sink>(
     Ok(())
 }
 
-/// Says how many accepted events the journal has, the number that `rewind` takes.
+/// Says how many accepted events the journal has. `rewind` accepts this number.
 pub(crate) fn say_mark<W: Sink>(answers: &mut Answers, writer: &mut W, manager: &Manager)
     ensures { Says (answers.old, W.written writer.old) (answers.new, W.written writer.new)
         (decimal (length manager.now.groups) ++ codes "\n") }

@@ -1,24 +1,24 @@
-//! The results of serving: counts if the input ended, and a fault if serving ended before.
+//! The results of serving: the counts if the input ended, or why serving ended before the input did.
 
 use thiserror::Error;
 
-/// How many lines were served, and how many of them were refused. A caller can know these without reading the answers.
+/// How many lines were served, and how many of these were refused. So a caller needn't read the answers to count.
 #[derive(Clone, Copy, Default, PartialEq, Eq)]
 pub struct Served {
-    /// All lines, also empty ones, so that the count is the number of the last line.
+    /// All lines, including empty ones. So this is also the number of the last line.
     pub lines: u64,
-    /// The lines that were answered with an error. A caller whose script should have none checks that this is 0.
+    /// The lines that were answered with an error. It is 0 if no line of a script failed.
     pub refused: u64,
 }
 
-/// Why serving ended before the input did. The lines that were done stay done. After a failed write the last of them is
-/// the line whose answer was cut off.
+/// Why serving ended before the input did. The lines that were done stay done. After a failed write, the last of these
+/// is the line whose answer was cut off.
 #[derive(Clone, Copy, Debug, PartialEq, Eq, Error)]
 pub enum ServeFault {
-    /// A read failed, or [`MAX_READS`](klp_types::MAX_READS) reads were made and none was the end.
+    /// A read failed, or [`MAX_READS`](klp_types::MAX_READS) reads were made and none of them told the end.
     #[error("Read")]
     Read,
-    /// A write failed or took nothing, so further answers would be lost.
+    /// A write failed or accepted no byte, so further answers would be lost.
     #[error("Write")]
     Write,
     /// A line is longer than [`MAX_CONSOLE_LINE`](klp_types::MAX_CONSOLE_LINE) bytes. Serving ends,

@@ -14,7 +14,7 @@ use klp_core::{Manager, TextView};
 use klp_model::Refusal;
 use klp_types::{Entry, ObjId, Site, Target, TaskId, Version};
 
-/// Says a symbol's name, address and present bytes on one line. The bytes show a hook.
+/// Says a symbol's name, its address and its present bytes on one line. The bytes show whether the symbol is hooked.
 fn say_symbol<W: Sink>(answers: &mut Answers, writer: &mut W, name: &str, address: u64, body: &[u8])
     ensures { Says (answers.old, W.written writer.old) (answers.new, W.written writer.new)
         (symbol_text (record { name = name.now; address = address; body = body.now })) }
@@ -28,7 +28,7 @@ fn say_symbol<W: Sink>(answers: &mut Answers, writer: &mut W, name: &str, addres
     answers.say(writer, b"\n");
 }
 
-/// Says the symbols of an object in the image's order, so that the n-th line is the n-th symbol.
+/// Says the symbols of an object in the image's order, each on its own line.
 fn say_symbols<W: Sink>(answers: &mut Answers, writer: &mut W, text: &TextView<'_>)
     ensures { Says (answers.old, W.written writer.old) (answers.new, W.written writer.new)
         (lines_of symbol_text text.now) }
@@ -41,7 +41,7 @@ fn say_symbols<W: Sink>(answers: &mut Answers, writer: &mut W, text: &TextView<'
     }
 }
 
-/// Says the text of an object. Returns `NoModule`, and says nothing, if it isn't loaded.
+/// Says the text of an object. If the object isn't loaded, returns `NoModule` and says nothing.
 pub(crate) fn say_text<W: Sink>(
     answers: &mut Answers,
     writer: &mut W,
@@ -84,7 +84,8 @@ fn say_entries<W: Sink>(answers: &mut Answers, writer: &mut W, catalog: &Catalog
     }
 }
 
-/// Says the entries of a site's function stack, newest first, or `empty`, so that there is always a line.
+/// Says the entries of a site's function stack, newest first. If there are none, says `empty`, so there is always a
+/// line.
 pub(crate) fn say_stack<W: Sink>(
     answers: &mut Answers,
     writer: &mut W,
@@ -103,7 +104,7 @@ pub(crate) fn say_stack<W: Sink>(
     }
 }
 
-/// Says a version and its address. Says no name for an original: it has the name of the site that was asked for.
+/// Says a version and its address. Says no name for an original, since the query already named its site.
 fn say_version<W: Sink>(answers: &mut Answers, writer: &mut W, catalog: &Catalog, target: &Target)
     ensures { Says (answers.old, W.written writer.old) (answers.new, W.written writer.new)
         (version_text catalog.now target.now.version target.now.address) }
@@ -121,8 +122,8 @@ fn say_version<W: Sink>(answers: &mut Answers, writer: &mut W, catalog: &Catalog
     }
 }
 
-/// Says what a task runs at a site. Returns `NoTask` or `NoModule`, and says nothing, if there is no such task or the
-/// site's object isn't loaded. The task is checked first, since it is named first.
+/// Says what a task runs at a site. If there is no such task, returns `NoTask`; if the site's object isn't loaded,
+/// returns `NoModule`. Both say nothing. The task is checked first, since the query names it first.
 pub(crate) fn say_pick<W: Sink>(
     answers: &mut Answers,
     writer: &mut W,

@@ -1,4 +1,4 @@
-//! The lines with paths of files. The paths are a kernel's, so that its users find them here too.
+//! The lines that have paths of files. The paths are those of a kernel, so that its users find them here too.
 
 ghost use Rattle.std.specs.Prelude.{◌≡◌};
 ghost use Rattle.klp_console_commands.specs.Lines.{switch, enabled_line, force_line, echo_file, echo_line, proc_query};
@@ -18,14 +18,14 @@ use klp_words::{LineWords, cut};
 /// The directory that has the patches' directories (livepatch, Sysfs). Listing it shows the installed patches.
 const PATCHES: &[u8] = b"/sys/kernel/livepatch";
 
-/// The prefix of the paths of patches' files. Behind it comes the patch's name.
+/// The prefix of the paths of patches' files. The patch's name follows it.
 const BELOW_PATCHES: &[u8] = b"/sys/kernel/livepatch/";
 
-/// The prefix of the paths of tasks' files. Behind it comes the task's number, as in a kernel's `/proc`.
+/// The prefix of the paths of tasks' files. The task's number follows it, as in a kernel's `/proc`.
 const PROC: &[u8] = b"/proc/";
 
-/// Returns the value of the word `0` or `1`, and `BadValue` for any other word. The word is compared and not read as a
-/// number, so no other spelling of the two is taken.
+/// Returns the value of the word `0` or `1`. Returns `BadValue` for any other word. The word is compared and not read
+/// as a number, so no other spelling of the two is accepted.
 fn switch(value: &[u8]) -> Result<bool, LineFault>
     ensures { result ≡ switch value.now }
 {
@@ -70,7 +70,7 @@ fn force_line(
     Ok(Asked::Take)
 }
 
-/// Reads a write of a value to the file of a patch. Whether there is such a file is checked before the value.
+/// Reads a write of a value to a patch's file. Whether a file of this name can be written is checked before the value.
 fn echo_file(
     value: &[u8],
     file: &[u8],
@@ -114,8 +114,7 @@ pub(crate) fn echo_line(
     }
 }
 
-/// Reads the path of a task's file, below `/proc/`. The file must be `patch_state`: no other file of a task means
-/// something here.
+/// Reads the path of a task's file, below `/proc/`. The file must be `patch_state`: tasks have no other file here.
 fn proc_query(file: &[u8]) -> Result<Query, LineFault>
     ensures { shown result ≡ proc_query file.now }
 {
@@ -157,7 +156,7 @@ fn cat_file(file: &[u8], names: &NameResolver<'_>) -> Result<Query, LineFault>
     }
 }
 
-/// Reads the word after `cat`: the path of a file below a patch or a task.
+/// Reads the word after `cat`: the path of a patch's file or of a task's.
 pub(crate) fn cat_line(
     words: &mut LineWords<'_>,
     names: &NameResolver<'_>,
@@ -168,7 +167,7 @@ pub(crate) fn cat_line(
     Ok(Asked::Ask(cat_file(file, names)?))
 }
 
-/// Reads the directory of a patch, or of an object in it. A name has no `/`, so the two can't be confused.
+/// Reads the directory of a patch, or of an object inside of it. A name has no `/`, so the two can't be confused.
 fn directory_query(directory: &[u8], names: &NameResolver<'_>) -> Result<Query, LineFault>
     ensures { shown result ≡ directory_query names.now directory.now }
 {
@@ -183,7 +182,7 @@ fn directory_query(directory: &[u8], names: &NameResolver<'_>) -> Result<Query, 
     Ok(Query::Object(patch, names.object(object)?))
 }
 
-/// Reads the path of a directory: that of all patches, of one patch, or of an object in one.
+/// Reads the path of a directory: that of all patches, of one patch, or of an object inside of a patch's directory.
 fn list_query(directory: &[u8], names: &NameResolver<'_>) -> Result<Query, LineFault>
     ensures { shown result ≡ list_query names.now directory.now }
 {
@@ -196,7 +195,8 @@ fn list_query(directory: &[u8], names: &NameResolver<'_>) -> Result<Query, LineF
     }
 }
 
-/// Reads the word after `ls`: the directory of all patches, of one, or of an object in one.
+/// Reads the word after `ls`: the directory of all patches, of one patch, or of an object inside of a patch's
+/// directory.
 pub(crate) fn list_line(
     words: &mut LineWords<'_>,
     names: &NameResolver<'_>,

@@ -43,7 +43,8 @@ pub(crate) enum Keyword {
     Seal,
 }
 
-/// Returns the keyword that a word spells, or None. The most frequent ones are compared first.
+/// Returns the keyword that a word spells. Returns `None` if it spells none. The most frequent keywords are compared
+/// first.
 fn keyword_of(word: &[u8]) -> Option<Keyword>
     ensures { result ≡ keyword_of word.now }
 {
@@ -123,7 +124,7 @@ fn rmmod_line(
     Ok(Asked::Take)
 }
 
-/// Returns what a line asks for whose first word is its only one, or `BadLine` if another word follows.
+/// For a line that must have only one word: returns `asked`, or `BadLine` if another word follows.
 fn alone(asked: Asked, words: &mut LineWords<'_>) -> Result<Asked, LineFault>
     ensures { (event : Event) → line_with result event ≡ alone (request_with asked event) words.old }
 {
@@ -188,7 +189,7 @@ fn rewind_line(words: &mut LineWords<'_>) -> Result<Asked, LineFault>
     Ok(Asked::Rewind(number_to(MAX_MARK, mark)? as u32))
 }
 
-/// Reads the words after the first one, in the form of the keyword. Without a keyword the line is bad.
+/// Reads the words after the first one, in the form of the keyword. If `keyword` is `None`, returns `BadLine`.
 fn line_of(
     keyword: Option<Keyword>,
     words: &mut LineWords<'_>,
@@ -218,9 +219,10 @@ fn line_of(
     }
 }
 
-/// Reads what a line asks for. `line` has no line feed. None if the line has no words; such a line has no answer. If
-/// the line asks for an event, the result is `Take`, and the event is written to `event`. For any other line, `event`
-/// afterwards means nothing. The time is linear in the length of the line, with one look-up for each name.
+/// Reads what a line asks for. `line` has no line feed. Returns `None` if the line has no words; such a line gets no
+/// answer. If the line asks for an event, the result is `Take`, and the event is written to `event`. For any other
+/// line, `event` means nothing afterwards. The time is linear in the length of the line, with one look-up for each
+/// name.
 pub fn read_request(
     line: &[u8],
     catalog: &Catalog,

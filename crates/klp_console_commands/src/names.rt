@@ -1,4 +1,4 @@
-//! Looking up the names of a line. This happens only after the shape of the line is checked, since a bad line has no
+//! Looking up the names of a line. This happens only after the form of the line is checked, since a bad line has no
 //! names.
 
 ghost use Rattle.std.specs.Prelude.{◌≡◌, true, false, MatchOption};
@@ -17,8 +17,8 @@ use std::marker::Model;
 use std::str;
 
 /// The names that a line may use: those of a catalog's patches, and of the objects and symbols of a kernel. The manager
-/// isn't part of it, so that a line means the same whatever the manager's state (docs/DECISIONS.md, "Names outside of
-/// the manager").
+/// isn't used here, so a line means the same whatever the manager's state is (docs/DECISIONS.md, "Names outside of the
+/// manager").
 #[derive(Drop)]
 pub(crate) struct NameResolver<'a> {
     pub(crate) catalog: &'a Catalog,
@@ -33,8 +33,8 @@ impl<'a> Model for NameResolver<'a> {
     ghost view = { λ k. names_of k.catalog.now k.modules.now };
 }
 
-/// Returns the word as text, or None if it isn't UTF-8; names are UTF-8, so such a word names nothing. Most words are
-/// ASCII, which is checked sixteen bytes at a time.
+/// Returns the word as text. Returns `None` if it isn't UTF-8; names are UTF-8, so such a word is no name. Most words
+/// are ASCII, which is checked sixteen bytes at a time.
 #[tactic(auto, using(crate::proofs::WordLemmas::is_text, crate::proofs::WordLemmas::no_text, crate::proofs::WordLemmas::ascii, crate::proofs::WordLemmas::ascii_text))]
 fn text_of(word: &[u8]) -> Option<&str>
     ensures { MatchOption result (is_utf8 word.now ≡ false)
@@ -47,7 +47,7 @@ fn text_of(word: &[u8]) -> Option<&str>
 }
 
 impl<'a> NameResolver<'a> {
-    /// Returns the patch of this name, or `NoPatch`.
+    /// Returns the patch with this name, or `NoPatch` if there is none.
     pub(crate) fn patch(&self, word: &[u8]) -> Result<PatchId, LineFault>
         ensures { result ≡ patch_of self.now word.now }
     {
@@ -60,7 +60,7 @@ impl<'a> NameResolver<'a> {
         }
     }
 
-    /// Returns the object of this name, loaded or not, or `NoModule`.
+    /// Returns the object with this name, loaded or not, or `NoModule` if there is none.
     pub(crate) fn object(&self, word: &[u8]) -> Result<ObjId, LineFault>
         ensures { result ≡ object_of self.now word.now }
     {
@@ -73,8 +73,8 @@ impl<'a> NameResolver<'a> {
         }
     }
 
-    /// Returns the site of the symbol of a spelling, or `NoModule` or `NoSymbol`. Its object needn't be loaded, since
-    /// sites keep their numbers while modules are loaded and unloaded.
+    /// Returns the site of the symbol that is spelled, or else `NoModule` or `NoSymbol`. The symbol's object needn't be
+    /// loaded, since sites keep their numbers while modules are loaded and unloaded.
     pub(crate) fn site(&self, spelling: &Spelling<'_>) -> Result<Site, LineFault>
         ensures { result ≡ site_of self.now spelling.now }
     {
@@ -91,8 +91,8 @@ impl<'a> NameResolver<'a> {
         }
     }
 
-    /// Returns the new function that `PATCH:INDEX` spells, whether the patch has it or not. If not, the event is
-    /// refused with `BadFrame`; it is no fault of the line.
+    /// Returns the new function that `PATCH:INDEX` spells, whether the patch has it or not. If it doesn't, the manager
+    /// refuses the event with `BadFrame`; the line isn't at fault.
     fn new_function(&self, word: &[u8]) -> Result<Version, LineFault>
         ensures { result ≡ new_function_of self.now word.now }
     {
@@ -116,8 +116,8 @@ impl<'a> NameResolver<'a> {
     }
 }
 
-/// Returns the task of a number, whether it exists or not, or `NoTask` if no task can have the number. Numbers above
-/// 65,535 never get here: the line is bad then.
+/// Returns the task with a number, whether it exists or not. Returns `NoTask` if no task can have the number. Numbers
+/// above 65,535 never get here, since they make the line bad.
 pub(crate) fn task(number: u64) -> Result<TaskId, LineFault>
     ensures { result ≡ task_of number }
 {

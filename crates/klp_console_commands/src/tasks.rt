@@ -1,4 +1,4 @@
-//! The lines of what tasks do. In a kernel nobody types these: here they replace its scheduler.
+//! The lines that say what tasks do. In a kernel nobody types such lines: here they replace the scheduler.
 
 ghost use Rattle.std.specs.Prelude.{◌≡◌, ◌≤◌, length};
 ghost use Rattle.klp_console_commands.specs.Words.{words_of};
@@ -14,8 +14,8 @@ use klp_model::Event;
 use klp_types::{Frames, MAX_FRAMES, MAX_INDEX, MAX_TASK_NUMBER};
 use klp_words::{LineWords, cut, spelling_of};
 
-/// Whether a word spells a function that a task may be inside of. The function needn't exist: shapes are checked before
-/// names.
+/// Whether a word spells a function that a task may be inside of. The function needn't exist: the form of a line is
+/// checked before its names.
 fn is_frame(word: &[u8]) -> bool
     ensures { result ≡ is_frame word.now }
 {
@@ -27,7 +27,7 @@ fn is_frame(word: &[u8]) -> bool
 }
 
 /// Whether each word spells a function, and there are at most as many as a task can be inside of. The words are read
-/// again later for their names, so that no list of half-read frames is kept (docs/DECISIONS.md, "Frames read twice").
+/// again later for their names, so that no list of half-read frames is needed (docs/DECISIONS.md, "Frames read twice").
 fn are_frames(words: &LineWords<'_>) -> bool
     ensures { result ≡ are_frames words.now }
 {
@@ -43,7 +43,7 @@ fn are_frames(words: &LineWords<'_>) -> bool
 }
 
 /// Returns the functions that the words spell, or the fault of the first name that can't be found. The caller has
-/// checked that there are at most `MAX_FRAMES` words. So each `push` succeeds, and its result is dropped.
+/// checked that there are at most `MAX_FRAMES` words. So each `push` succeeds, and its result is ignored.
 fn frames(words: &LineWords<'_>, names: &NameResolver<'_>) -> Result<Frames, LineFault>
     requires { length words.now ≤ MAX_FRAMES }
     ensures { result ≡ versions_of names.now words.now }
@@ -74,8 +74,8 @@ fn sleep_line(
     Ok(Asked::Take)
 }
 
-/// Reads the word after `task fork TASK`: the number of the new task. Its shape is checked before either task is looked
-/// up.
+/// Reads the word after `task fork TASK`: the number of the new task. This word's form is checked before either task is
+/// looked up.
 fn fork_line(number: u64, words: &mut LineWords<'_>, event: &mut Event) -> Result<Asked, LineFault>
     ensures { line_with result event.new ≡ fork_line number words.old }
 {
@@ -86,7 +86,8 @@ fn fork_line(number: u64, words: &mut LineWords<'_>, event: &mut Event) -> Resul
     Ok(Asked::Take)
 }
 
-/// Sets the event of a verb that needs no more words than the task. An unknown verb is a bad line, whatever the task.
+/// Sets the event of a verb that needs no more words than the task. An unknown verb makes the line bad, whatever the
+/// task.
 fn plain_event(verb: &[u8], number: u64, event: &mut Event) -> Result<Asked, LineFault>
     ensures { line_with result event.new ≡ plain_event verb.now number }
 {

@@ -1,4 +1,4 @@
-//! The words of a line, and what can be read from a word without names.
+//! The words of a line, and what can be read from a word without looking up names.
 
 ghost use Rattle.std.specs.Prelude.{◌≡◌, ℕ, ◌≤◌, true, false, List, ◌∷◌, [], length, drop, nat_eq, bytes_eq, Ok, Err};
 ghost use Rattle.std.specs.Prelude.{IfOk, MatchOption, MatchResult};
@@ -29,7 +29,7 @@ pub(crate) fn end(words: &mut LineWords<'_>) -> Result<(), LineFault>
     }
 }
 
-/// Returns the one word that is left, or `BadLine` if there are none or several.
+/// Returns the remaining word if there is exactly one. Otherwise returns `BadLine`.
 pub(crate) fn only_word<'a>(words: &mut LineWords<'a>) -> Result<&'a [u8], LineFault>
     ensures { MatchResult result (λ word. only_word words.old ≡ Ok word.now)
         (λ fault. only_word words.old ≡ Err fault) }
@@ -40,7 +40,8 @@ pub(crate) fn only_word<'a>(words: &mut LineWords<'a>) -> Result<&'a [u8], LineF
     Ok(word)
 }
 
-/// Returns the one word that is left, if it may name a patch or an object. Else returns `BadLine`.
+/// Returns the remaining word if there is exactly one, and it may name a patch or an object. Otherwise returns
+/// `BadLine`.
 pub(crate) fn only_name<'a>(words: &mut LineWords<'a>) -> Result<&'a [u8], LineFault>
     ensures { MatchResult result (λ word. only_name words.old ≡ Ok word.now)
         (λ fault. only_name words.old ≡ Err fault) }
@@ -53,7 +54,7 @@ pub(crate) fn only_name<'a>(words: &mut LineWords<'a>) -> Result<&'a [u8], LineF
     }
 }
 
-/// Returns the two words that are left, or `BadLine` if there aren't exactly two.
+/// Returns the remaining words if there are exactly two. Otherwise returns `BadLine`.
 pub(crate) fn two_words<'a>(words: &mut LineWords<'a>) -> Result<(&'a [u8], &'a [u8]), LineFault>
     ensures { MatchResult result (λ found. two_words words.old ≡ Ok (found.0.now, found.1.now))
         (λ fault. two_words words.old ≡ Err fault) }
@@ -79,7 +80,7 @@ pub(crate) fn is_console_name(word: &[u8]) -> bool
     !word.is_empty() && word.iter().all(|b| *b != b'/' && *b != b':')
 }
 
-/// Returns the rest of the word behind this prefix, or None if the word doesn't begin with it. The rest may be empty.
+/// Returns the rest of the word behind this prefix, or `None` if the word doesn't begin with it. The rest may be empty.
 pub(crate) fn after_prefix<'a>(word: &'a [u8], prefix: &[u8]) -> Option<&'a [u8]>
     ensures { MatchOption result (starts_with nat_eq word.now prefix.now ≡ false)
         (λ rest. (starts_with nat_eq word.now prefix.now ≡ true) × (rest.now ≡ drop (length prefix.now) word.now)) }
@@ -94,16 +95,16 @@ pub(crate) fn number(word: &[u8]) -> Result<u64, LineFault>
     number64(word).ok_or(LineFault::BadLine)
 }
 
-/// Returns the value of a shadow variable that the word spells, as in a catalog's text, or `BadLine` if it spells none
-/// or one of too many bytes.
+/// Returns the value of a shadow variable that the word spells, as in a catalog's text. Returns `BadLine` if it spells
+/// no value, or a value of too many bytes.
 pub(crate) fn value(word: &[u8]) -> Result<ShadowValue, LineFault>
     ensures { result ≡ value_of word.now }
 {
     shadow_value(word).ok_or(LineFault::BadLine)
 }
 
-/// Returns the decimal number that the word spells, or `BadLine` if it spells none, or one above `most`, which wouldn't
-/// fit into an event.
+/// Returns the decimal number that the word spells. Returns `BadLine` if it spells none, or one above `most`, which
+/// wouldn't fit into an event.
 pub(crate) fn number_to(most: u64, word: &[u8]) -> Result<u64, LineFault>
     ensures number { result ≡ number_to most word.now }
     ensures limit { IfOk result (λ number. number ≤ most) }

@@ -1,5 +1,5 @@
-//! Texts on their way to a sink. They are gathered first, and written when the buffer is full: a write for each word
-//! would be a system call for each.
+//! Texts on their way to a sink. They are gathered first, and written when the buffer is full. A write for each word
+//! would be a system call for each word.
 ghost use Rattle.std.specs.Prelude.{◌≡◌, ℕ, ◌+◌, ◌<◌, ◌≤◌, ◌⊎◌, false, List, [], length, OnOk, IfErr};
 ghost use Rattle.std.specs.Fmt.{decimal, signed_decimal};
 ghost use Rattle.std.specs.Io.KnownBytes.{Appends};
@@ -17,15 +17,15 @@ use std::marker::Model;
 /// is.
 const PIECE: usize = 32;
 
-/// The texts that were said and aren't written yet. All texts go to the same sink, which is passed to each call and not
-/// kept here, so that a console may lend it to others in between.
+/// The texts that were said and aren't written yet. All texts go to the same sink. It is passed to each call and not
+/// stored here, so that a console can pass it to others in between.
 #[derive(Drop)]
 pub struct Answers {
     bytes: ArrayVec<u8, ANSWER_ROOM>,
-    /// How many of the first bytes are held: they were gathered at the last call of `hold`, and aren't written yet.
+    /// How many of the first bytes are held: they were gathered at the last call of `hold`, and still aren't written.
     held: usize,
-    /// Whether the sink has failed. It is kept here, so that a caller who says ten words needs to ask only once
-    /// (docs/DECISIONS.md, "A failed sink").
+    /// Whether the sink has failed. This is stored here, so that a caller who says ten words needs to check it only
+    /// once (docs/DECISIONS.md, "A failed sink").
     has_failed: bool,
 }
 
@@ -41,8 +41,8 @@ impl Model for Answers {
     ghost invariant = { λ a. a.held ≤ length a.bytes.items };
 }
 
-/// Writes all bytes, in as many writes as it takes. A write that takes no byte is a failure, since retrying might never
-/// end. After a failure, returns how many bytes were taken before it.
+/// Writes all bytes, in as many writes as are needed. A write that takes no byte is a failure, since retrying might
+/// never end. If a write fails, returns as `Err` how many bytes were written before.
 fn write_all<W: Sink>(writer: &mut W, bytes: &[u8]) -> Result<(), usize>
     ensures ok { OnOk result
         (Appends (W.written writer.old).taken (W.written writer.new).taken bytes.now
@@ -89,8 +89,8 @@ impl Answers {
         }
     }
 
-    /// Whether the sink has failed. From then on nothing is said, so the lost bytes are the end of all answers, and
-    /// none in between.
+    /// Whether the sink has failed. After a failure nothing more is said. So the lost bytes are the end of all answers,
+    /// and no byte is lost in between.
     pub fn has_failed(&self) -> bool
         ensures { result ≡ self.now.has_failed }
     {
@@ -104,7 +104,7 @@ impl Answers {
         self.bytes.len()
     }
 
-    /// Marks all bytes that are gathered now as held, and returns their number. From then on `held` returns how many of
+    /// Marks as held all bytes that are gathered now, and returns their number. From then on `held` returns how many of
     /// them aren't written yet.
     pub fn hold(&mut self) -> usize
         ensures held { self.new ≡ record self.old { held = length self.old.bytes } }
@@ -114,7 +114,7 @@ impl Answers {
         self.held
     }
 
-    /// Returns how many of the held bytes aren't written: 0 once all of them are. After a failure it shows where the
+    /// Returns how many of the held bytes aren't written: 0 once all of them are. After a failure this shows where the
     /// sink stopped.
     pub fn held(&self) -> usize
         ensures { result ≡ self.now.held }
@@ -122,7 +122,7 @@ impl Answers {
         self.held
     }
 
-    /// Writes all gathered bytes. Does nothing after a failure, so callers needn't ask first.
+    /// Writes all gathered bytes. Does nothing after a failure, so callers needn't check first.
     #[tactic(auto, unfolding(crate::specs::Says::Speaks))]
     pub fn flush<W: Sink>(&mut self, writer: &mut W)
         ensures says { Says (self.old, W.written writer.old) (self.new, W.written writer.new) [] }
@@ -143,7 +143,8 @@ impl Answers {
         }
     }
 
-    /// Writes the gathered bytes if there is no room for `len` more behind them. So texts are written in their order.
+    /// If there is no room for `len` more bytes behind the gathered ones, writes these. So texts are written in their
+    /// order.
     #[tactic(auto, unfolding(crate::specs::Says::Speaks))]
     fn make_room<W: Sink>(&mut self, writer: &mut W, len: usize)
         ensures says { Says (self.old, W.written writer.old) (self.new, W.written writer.new) [] }
@@ -155,7 +156,7 @@ impl Answers {
         }
     }
 
-    /// Says a text. It must fit behind the gathered bytes, or nothing may be gathered. A text that is longer than the
+    /// Says a text. It must fit behind the gathered bytes, unless nothing is gathered. A text that is longer than the
     /// whole buffer is written at once.
     #[tactic(auto, unfolding(crate::specs::Says::Speaks))]
     fn take<W: Sink>(&mut self, writer: &mut W, text: &[u8])
@@ -168,8 +169,9 @@ impl Answers {
         }
     }
 
-    /// Says a text: gathers it, and first writes the gathered bytes if there is no room for both. A text that is longer
-    /// than the room is written at once, so a text may have any length. Does nothing after a failure of the sink.
+    /// Says a text. If there is no room for it behind the gathered bytes, first writes these. Then gathers the text. If
+    /// it is longer than the whole buffer, writes it at once, so a text may have any length. After a failure of the
+    /// sink, does nothing.
     pub fn say<W: Sink>(&mut self, writer: &mut W, text: &[u8])
         ensures { Says (self.old, W.written writer.old) (self.new, W.written writer.new) text.now }
     {

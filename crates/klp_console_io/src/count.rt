@@ -6,7 +6,7 @@ use std::sync::ledger::{Blank, Book, Ledger, Share};
 
 /// A whole number without a greatest value, for contracts alone. It takes no bytes, and increasing it does nothing at
 /// run time. A number of 64 bits would have a greatest value, at which no clause could say "one more"
-/// (docs/DECISIONS.md, "Counts in a ledger"). What is counted is in the ledger's book beside it.
+/// (docs/DECISIONS.md, "Counts in a ledger"). What is counted is in the ledger's book, which is a separate value.
 #[derive(Drop)]
 pub struct Count<L: Ledger> {
     share: Share<L>,
@@ -31,8 +31,7 @@ impl<L: Ledger> Count<L> {
     }
 }
 
-/// Makes two counts in one book, both 0: those of a sink. Whoever makes a stream passes one blank for all of its
-/// counts.
+/// Makes two counts in one book, both 0, for a sink. Whoever makes a stream passes one blank for all of its counts.
 pub fn two_counts<L: Ledger>(blank: Blank) -> (Book<L>, Count<L>, Count<L>)
     requires name { blank.name ≡ L.name }
     requires parts { blank.parts ≡ L.parts }
@@ -45,7 +44,7 @@ pub fn two_counts<L: Ledger>(blank: Blank) -> (Book<L>, Count<L>, Count<L>)
     (book, Count { share }, Count { share: other })
 }
 
-/// Makes three counts in one book, all 0: those of a source.
+/// Makes three counts in one book, all 0, for a source.
 pub fn three_counts<L: Ledger>(blank: Blank) -> (Book<L>, Count<L>, Count<L>, Count<L>)
     requires name { blank.name ≡ L.name }
     requires parts { blank.parts ≡ L.parts }

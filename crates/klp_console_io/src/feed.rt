@@ -8,13 +8,13 @@ use crate::source::Source;
 use std::marker::Model;
 use std::sync::ledger::{Blank, Book, Ledger};
 
-/// Bytes in memory as a source. One read returns at most `most` of them, so that an input can be cut as finely as one
-/// wants. One read, chosen by its number, may fail. A feed ends only when no byte is left.
+/// Bytes in memory as a source. One read returns at most `most` of them, so that a test can cut an input as finely as
+/// it wants. One read, chosen by its number, may fail. A feed ends only when no byte is left.
 #[derive(Drop)]
 pub struct Feed<'a, L: Ledger> {
     left: &'a [u8],
     most: usize,
-    /// How many reads come before the one that fails. None if no read fails.
+    /// How many reads come before the one that fails. `None` if no read fails.
     fails_in: Option<u32>,
     has_ended: bool,
     book: Book<L>,
@@ -74,7 +74,7 @@ impl<'a, L: Ledger> Feed<'a, L> {
         }
     }
 
-    /// Returns the bytes that are still to be read. They show a test how much was read.
+    /// Returns the bytes that are still to be read. From these a test sees how much was read.
     pub fn left(&self) -> &'a [u8]
         ensures { result.now ≡ self.now.left }
     {
@@ -89,8 +89,8 @@ impl<'a, L: Ledger> Source for Feed<'a, L> {
 
     ghost supply = { supply_of };
 
-    /// Reads as many bytes as `most`, the bytes left and the room allow. The read that is to fail returns none. A read
-    /// into an empty buffer doesn't count as the end.
+    /// Reads as many bytes as `most`, the bytes left and the room allow. The read that is to fail returns no byte. A
+    /// read into an empty buffer doesn't count as the end.
     fn read(&mut self, buf: &mut [u8]) -> Result<usize, Failed>
         ensures ok { IfOk result (λ n. Gives (supply_of self.old) (supply_of self.new) buf.new n) }
         ensures err { OnErr result (Fails (supply_of self.old) (supply_of self.new) buf.new) }

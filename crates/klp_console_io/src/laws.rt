@@ -1,4 +1,4 @@
-//! Laws about lines, about saying, and about what is said. A function here does nothing: its contract is the law.
+//! Laws about lines, about saying texts, and about the texts. A function here does nothing: its contract is the law.
 ghost use Rattle.std.specs.Prelude.{◌≡◌, ℕ, List, [], ◌∷◌, ◌++◌, length};
 ghost use Rattle.klp_console_io.specs.Gathered.{Gathered};
 ghost use Rattle.klp_console_io.specs.Lines.{lines_and_rest};
@@ -6,7 +6,7 @@ ghost use Rattle.klp_console_io.specs.Says.{Says};
 ghost use Rattle.klp_console_io.specs.Texts.{address_text};
 ghost use Rattle.klp_console_io.specs.Written.{Written};
 
-/// Bytes that are heard next leave the finished lines as they are, and continue the unfinished one. With no bytes heard
+/// Bytes that are heard later don't change the finished lines, and continue the unfinished one. If no byte was heard,
 /// there is one unfinished line, which is empty. So an input has the same lines however reads cut it.
 pub fn lines_add_up()
     ensures next { (a b : List ℕ) (done : List (List ℕ)) (rest : List ℕ) → lines_and_rest a ≡ done ++ rest ∷ []
@@ -14,14 +14,14 @@ pub fn lines_add_up()
     ensures none { lines_and_rest [] ≡ [] ∷ [] }
 {}
 
-/// Texts that are said one after the other are one text that is said, and doing nothing says the empty text. So a
-/// caller who says ten words has one fact to prove.
+/// Saying texts one after the other is the same as saying one text, and doing nothing says the empty text. So a caller
+/// who says ten words has one fact to prove.
 pub fn what_is_said_adds_up()
     ensures adds_up { (a b c : Gathered × Written) (t u : List ℕ) → Says a b t → Says b c u → Says a c (t ++ u) }
     ensures nothing { (a : Gathered × Written) → Says a a [] }
 {}
 
-/// An address has 16 digits whatever it is, since the definition of its text pads it.
+/// An address has 16 digits whatever its value, since the definition of its text pads it.
 pub fn addresses_have_16_digits()
     ensures { (n : ℕ) → length (address_text n) ≡ 16 }
 {}

@@ -8,7 +8,7 @@ use klp_types::MAX_CONSOLE_LINE;
 use klp_words::position_of;
 use std::marker::Model;
 
-/// The error that a line is longer than [`MAX_CONSOLE_LINE`]. It has no more to report, since the line isn't kept.
+/// The error that a line is longer than [`MAX_CONSOLE_LINE`]. It reports nothing more, since the line isn't stored.
 #[derive(Clone, Copy)]
 pub struct TooLong;
 
@@ -31,15 +31,15 @@ impl Model for LineBuffer {
     ghost invariant = { λ l. lines_and_rest l.bytes.items ≡ l.bytes.items ∷ [] };
 }
 
-/// Returns the place of the first line feed, counted from 0, or None if the piece has none.
+/// Returns the place of the first line feed, counted from 0, or `None` if the piece has none.
 fn line_feed(bytes: &[u8]) -> Option<usize>
     ensures { result ≡ position is_line_feed bytes.now }
 {
     position_of(bytes, b'\n')
 }
 
-/// Returns the bytes before the first line feed, and those behind it. The latter are None if the piece has no line
-/// feed; they are empty if the piece ends with one, and then the line is finished.
+/// Returns the bytes before the first line feed, and those behind it. If the piece has no line feed, returns the whole
+/// piece and `None`. If the piece ends with its first line feed, the second part is empty, but the line is finished.
 fn cut(piece: &[u8]) -> (&[u8], Option<&[u8]>)
     ensures front { lines_and_rest result.0.now ≡ result.0.now ∷ [] }
     ensures whole { IfNone result.1 (result.0.now ≡ piece.now) }
@@ -53,7 +53,7 @@ fn cut(piece: &[u8]) -> (&[u8], Option<&[u8]>)
 }
 
 impl LineBuffer {
-    /// Makes a buffer in which nothing of a line was heard.
+    /// Makes a buffer for a line of which no byte was heard.
     pub fn new() -> LineBuffer
         ensures { result ≡ [] }
     {
@@ -79,8 +79,9 @@ impl LineBuffer {
     }
 
     /// Returns the first line of a piece, without its line feed, and the bytes behind it. Both are borrowed from the
-    /// piece, so a line that arrives whole in one read isn't copied. None if bytes of the line were heard before, if
-    /// the piece has no line feed, or if the line is longer than [`MAX_CONSOLE_LINE`]: `hear` tells these cases apart.
+    /// piece, so a line that arrives whole in one read isn't copied. Returns `None` if bytes of the line were heard
+    /// before, if the piece has no line feed, or if the line is longer than [`MAX_CONSOLE_LINE`]; `hear` distinguishes
+    /// these cases.
     pub fn whole_line<'a>(&self, piece: &'a [u8]) -> Option<(&'a [u8], &'a [u8])>
         ensures begins { IfSome result (λ _. self.now ≡ []) }
         ensures finished { IfSome result
@@ -103,9 +104,9 @@ impl LineBuffer {
 
     /// Hears a piece up to its first line feed.
     ///
-    /// `Ok(Some(rest))`: the line is finished, and `rest` is what comes behind its line feed. `Ok(None)`: the piece has
-    /// no line feed, and all of it belongs to the line. `Err`: the line is longer than [`MAX_CONSOLE_LINE`], finished
-    /// or not, and the buffer is as it was before the piece.
+    /// Returns `Ok(Some(rest))` if this finishes the line; `rest` is what comes behind the line feed. Returns
+    /// `Ok(None)` if the piece has no line feed: then all of it belongs to the line. Returns `Err` if the line is
+    /// longer than [`MAX_CONSOLE_LINE`], finished or not; then the buffer is as it was before the piece.
     ///
     /// Looks at the piece up to its first line feed, and copies that part at once.
     pub fn hear<'a>(&mut self, piece: &'a [u8]) -> Result<Option<&'a [u8]>, TooLong>

@@ -14,7 +14,7 @@ pub const MARKS_ROOM: usize = 512;
 pub struct Mark {
     /// How many bytes were gathered when the line was answered. The line's answer ends there.
     pub end: usize,
-    /// How many events the journal had when the line was done, so that later ones can be taken back.
+    /// How many events the journal had when the line was done, so that later events can be taken back.
     pub events: u32,
 }
 
@@ -51,7 +51,7 @@ impl Marks {
         self.marks.is_full()
     }
 
-    /// Drops all marks. Their answers are written, so no event before them will be taken back.
+    /// Drops all marks. The answers to their lines are written, so the events of these lines won't be taken back.
     pub fn clear(&mut self)
         ensures { self.new ≡ [] }
     {
@@ -66,9 +66,9 @@ impl Marks {
         self.marks.push(mark);
     }
 
-    /// Finds the line whose answer was cut off, if only `written` of the gathered bytes were written: the first one
-    /// whose answer ends behind these bytes. Returns how many events the journal had once that line was done. None if
-    /// all these answers were written.
+    /// Returns how many events the journal had when a certain line was done: the line whose answer was cut off, if only
+    /// `written` of the gathered bytes were written. It is the first line whose answer ends behind these bytes. Returns
+    /// `None` if all answers were written.
     pub fn events_at_cut(&self, written: usize) -> Option<u32>
         ensures { result ≡ events_at_cut written self.now }
     {

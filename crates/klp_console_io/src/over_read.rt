@@ -8,8 +8,8 @@ use std::io::Read;
 use std::marker::Model;
 use std::sync::ledger::{Blank, Book, Ledger};
 
-/// A reader of std as a source. Contracts know which bytes it has left if they know this of the reader: they do for a
-/// slice, and don't for standard input.
+/// A reader of std as a source. Contracts know which bytes it has left if they know this of the reader. They know it of
+/// a slice, but not of standard input.
 #[derive(Drop)]
 pub struct OverRead<R: Read, L: Ledger> {
     reader: R,
@@ -53,7 +53,7 @@ impl<R: Read, L: Ledger> OverRead<R, L> {
         }
     }
 
-    /// Returns the reader with what it has left, so that its owner may read on.
+    /// Returns the reader with the bytes that it has left, so that its owner can read on.
     pub fn into_inner(self) -> R
         ensures { R.remaining result ≡ self.left }
     {
@@ -84,8 +84,8 @@ impl<R: Read, L: Ledger> Source for OverRead<R, L> {
                 }
                 Ok(count)
             }
-            // No clause says that this was a failure of the reader, since std's readers count none (docs/DECISIONS.md,
-            // "Failures of std").
+            // No clause says that this was a failure of the reader, since std's readers don't count failures
+            // (docs/DECISIONS.md, "Failures of std").
             Err(_) => {
                 self.reads.add(&mut self.book, 1);
                 self.failures.add(&mut self.book, 1);

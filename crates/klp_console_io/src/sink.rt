@@ -1,4 +1,4 @@
-//! A sink for answers. It is a trait of its own and not std's `Write`, since its contract counts failures.
+//! A sink for answers. It is a separate trait and not std's `Write`, since its contract counts failures.
 ghost use Rattle.std.specs.Prelude.{◌≡◌, ◌+◌, ◌<◌, ◌≤◌, length, take, IfOk, OnErr};
 ghost use Rattle.std.specs.Io.KnownBytes.{Appends, Keeps};
 ghost use Rattle.klp_console_io.specs.Written.{Written};

@@ -15,7 +15,7 @@ use std::sync::ledger::{Blank, Book, Ledger};
 pub struct Taken<const ROOM: usize, L: Ledger> {
     bytes: ArrayVec<u8, ROOM>,
     most: usize,
-    /// How many writes come before the one that fails. None if no write fails.
+    /// How many writes come before the one that fails. `None` if no write fails.
     fails_in: Option<u32>,
     book: Book<L>,
     failures: Count<L>,
@@ -75,7 +75,7 @@ impl<const ROOM: usize, L: Ledger> Sink for Taken<ROOM, L> {
 
     ghost written = { written_of };
 
-    /// Takes as many of the bytes as `most` and the room allow. The write that is to fail takes none.
+    /// Takes as many of the bytes as `most` and the room allow. The write that is to fail takes no byte.
     fn write(&mut self, bytes: &[u8]) -> Result<usize, Failed>
         ensures bound { IfOk result (λ n. n ≤ length bytes.now) }
         ensures ok { IfOk result

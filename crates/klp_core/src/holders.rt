@@ -21,12 +21,12 @@ pub enum Lag {
     /// The task sleeps inside of this blocked version, and so blocks the transition: no poll switches the task. If it
     /// is inside of several blocked versions, this is the innermost.
     Holds(Version),
-    /// Nothing blocks the task, which is in this mode: the next poll switches a sleeper, and any other task switches
-    /// when it next leaves the kernel.
+    /// Nothing blocks the task, which is in this mode. If it is asleep, the next poll switches it. Otherwise it
+    /// switches when it next leaves the kernel.
     Waits(Mode),
 }
 
-/// Returns the versions that a transition blocks, by the same function that a poll calls.
+/// Returns the versions that a transition blocks. They are computed by the function that a poll calls.
 fn blocked(state: &ManagerState, catalog: &Catalog, moving: Transition) -> VersionSet
     requires { Invariant state.now catalog.now }
     ensures { IsSetOf result (blocked (setting_in state.now catalog.now) (state_in state.now catalog.now) moving) }
@@ -40,7 +40,7 @@ fn blocked(state: &ManagerState, catalog: &Catalog, moving: Transition) -> Versi
     blocked
 }
 
-/// Returns the versions that are blocked now: none without a transition.
+/// Returns the versions that are blocked now. There are none without a transition.
 fn blocked_now(state: &ManagerState, catalog: &Catalog) -> VersionSet
     requires { Invariant state.now catalog.now }
     ensures { IsSetOf result (blocked_now (setting_in state.now catalog.now) (state_in state.now catalog.now)) }
@@ -51,7 +51,7 @@ fn blocked_now(state: &ManagerState, catalog: &Catalog) -> VersionSet
     }
 }
 
-/// Returns the innermost of these frames that is in the set, or None. Frames are outermost first.
+/// Returns the innermost of these frames that is in the set, or `None`. Frames are outermost first.
 fn innermost_blocked_in(frames: &[Version], blocked: &VersionSet) -> Option<Version>
     ensures { result ≡ innermost_blocked_in (has blocked.now) frames.now }
 {
@@ -74,7 +74,7 @@ fn lag_of(task: &Task, blocked: &VersionSet) -> Lag
     }
 }
 
-/// Returns why a task lags, or None if it is at the target, if it doesn't exist, or if there is no transition.
+/// Returns why a task lags, or `None` if it is at the target, if it doesn't exist, or if there is no transition.
 fn lag_at(
     tasks: &Tasks,
     task: TaskId,
@@ -93,7 +93,7 @@ fn lag_at(
     Some(lag_of(task, blocked))
 }
 
-/// Returns for each task number why the task lags, or None.
+/// Returns for each task number why the task lags, or `None`.
 fn lags(
     tasks: &Tasks,
     moving: &Option<Transition>,
@@ -111,7 +111,7 @@ fn lags(
 }
 
 impl Manager {
-    /// Whether the current transition blocks a version, so that no task that sleeps inside of it is switched. False
+    /// Whether the current transition blocks a version, so that no task sleeping inside of it is switched. False
     /// without a transition. Each call computes the set of blocked versions, as a poll does.
     pub fn blocks(&self, version: Version) -> bool
         ensures { result ≡ is_blocked (setting_of self.now.managed) self.now.managed.state version }
@@ -119,10 +119,10 @@ impl Manager {
         blocked_now(&self.state, &self.catalog).contains(version)
     }
 
-    /// Returns, by task number, the tasks that aren't at the target of the current transition. A task that blocks the
-    /// transition comes with the version that it sleeps inside of, a task that waits with its mode. None for a task
-    /// that is at the target, and for a number without a task. Without a transition all are None. A poll decides in the
-    /// same way (`laws::a_poll_tells_how_many_are_left`).
+    /// Returns for each task number why the task isn't at the target of the current transition. For a task that blocks
+    /// the transition, this is the version that it sleeps inside of; for a task that waits, its mode. The element is
+    /// `None` for a task that is at the target, and for a number without a task. Without a transition all are `None`. A
+    /// poll decides in the same way (`laws::a_poll_tells_how_many_are_left`).
     ///
     /// The cost is that of a poll that switches nobody. No memory is allocated.
     pub fn holders(&self) -> [Option<Lag>; MAX_TASKS]

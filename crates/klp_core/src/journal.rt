@@ -17,8 +17,8 @@ use klp_model::{Event, Refusal, Reply};
 use std::marker::Model;
 use std::snapshot::Snapshot;
 
-/// Appends an accepted event with its reply and its records. The records stay in the log where they are, and count as
-/// kept from then on (docs/DECISIONS.md, "Which records an event leaves").
+/// Appends an accepted event with its reply and its records. The records aren't moved in the log; from then on they
+/// count as records of earlier events (docs/DECISIONS.md, "Which records an event leaves").
 #[inline(always)]
 fn append(state: &mut ManagerState, journal: &mut Journal, event: &Event, reply: &Reply)
     requires all { counted journal.old ≡ length state.old.log.older }
@@ -53,9 +53,9 @@ impl Model for DroppedReply {
     ghost view = { λ u. u.reply.value };
 }
 
-/// Refuses the event if the journal has no room for another: with the refusal that the event would get anyway, or else
-/// with `JournalFull`. Room is checked first, so that an event usually costs one comparison here, and only a full
-/// journal has to find out whether something else refuses the event (docs/DECISIONS.md, "Room in the journal").
+/// Refuses the event if the journal has no room for another. If something else refuses the event too, returns that
+/// refusal, otherwise `JournalFull`. Room is checked first. So an event usually costs one comparison here, and other
+/// refusals are looked for only if the journal is full (docs/DECISIONS.md, "Room in the journal").
 #[inline(always)]
 fn ask_for_room(
     state: &ManagerState,
@@ -74,8 +74,8 @@ fn ask_for_room(
     Ok(())
 }
 
-/// Takes an event, and appends it if it is accepted. If nothing else refuses the event, a journal without room refuses
-/// it with `JournalFull`.
+/// Does an event, and appends it to the journal if it is accepted. If the journal has no room and nothing else refuses
+/// the event, it is refused with `JournalFull`.
 pub(crate) fn take_and_append(
     state: &mut ManagerState,
     catalog: &mut Catalog,
@@ -120,7 +120,7 @@ pub(crate) fn take_without_reply(
     })
 }
 
-/// Takes an event that has a brief reply, and appends it if it is accepted. The journal must have room.
+/// Does an event that has a brief reply, and appends it to the journal if it is accepted. The journal must have room.
 fn append_brief(
     state: &mut ManagerState,
     catalog: &mut Catalog,
@@ -139,9 +139,9 @@ fn append_brief(
     Ok(brief)
 }
 
-/// Takes an event whose reply has frames or a value, and appends it if it is accepted. The journal must have room. This
-/// is a separate function, since a function that may hold such a reply clears memory for it on entry, which brief
-/// events don't need.
+/// Does an event whose reply has frames or a value, and appends it to the journal if it is accepted. The journal must
+/// have room. This is a separate function, since a function that may have such a reply clears memory for it on entry,
+/// which brief events don't need.
 fn append_long(
     state: &mut ManagerState,
     catalog: &mut Catalog,
@@ -160,7 +160,7 @@ fn append_long(
     Ok(reply)
 }
 
-/// Takes the newest event back: takes its group out of the journal, and then puts its records back, newest first.
+/// Undoes the newest event: takes its group out of the journal, and then puts its records back, newest first.
 fn take_newest_back(state: &mut ManagerState, catalog: &Catalog, journal: &mut Journal)
     requires kept { AreInStep state.old catalog.now journal.old }
     requires some { 0 < length (groups_in state.old journal.old) }
@@ -175,7 +175,7 @@ fn take_newest_back(state: &mut ManagerState, catalog: &Catalog, journal: &mut J
     state.undo();
 }
 
-/// Takes back all events but the first `mark`, newest first, so that each is undone in the state that it led to.
+/// Undoes all events but the first `mark`, newest first. So each event is undone in the state to which it led.
 pub(crate) fn rewind_to(
     state: &mut ManagerState,
     catalog: &Catalog,

@@ -1,5 +1,5 @@
-//! A trait for the calls of a manager, for owners that don't name the type. A manager owns boxes. A struct that owns a
-//! `Manager` by name can't also have a bound of its own, so such structs own a `Machine`.
+//! A trait with the calls of a manager, for structs that own a manager without naming its type. A manager owns boxes,
+//! and a struct that owns a `Manager` by name can't have a trait bound of its own. So such structs own a `Machine`.
 ghost use Rattle.std.specs.Prelude.{◌≡◌, ◌<◌, ◌≤◌, length, option_map, option_and_then, slice_get, IfOk, IfErr};
 ghost use Rattle.klp_types.specs.declared.limits.TheConstants.{MAX_GROUPS, MAX_SITES};
 ghost use Rattle.klp_types.specs.declared.task.Task.{Task as AnyTask};
@@ -19,14 +19,14 @@ use crate::manager::Manager;
 use klp_model::{Event, Refusal, Reply};
 use klp_types::{ObjId, PatchId, Site, SiteRow, TaskId};
 
-/// Takes events and takes them back, as [`Manager`] does, and shows what a call of a function needs.
+/// Does events and takes them back, as [`Manager`] does, and shows what a call of a function needs.
 pub trait Machine {
     ghost use Rattle.klp_core.specs.Journaled.{Journaled};
 
     /// The machine as contracts see it.
     ghost journaled: { Self → Journaled };
 
-    /// Takes one event, as [`Manager::apply`] does.
+    /// Does one event, as [`Manager::apply`] does.
     fn apply(&mut self, event: Event) -> Result<Reply, Refusal>
         requires room { length (journaled self.old).groups ≤ MAX_GROUPS }
         ensures taken { IsTaken (journaled self.old) (journaled self.new) event result }
@@ -62,7 +62,7 @@ pub trait Machine {
         ensures { result ≡ option_map (λ (t : AnyTask). t.state)
             (task_at (journaled self.now).managed.state.tasks task) };
 
-    /// Returns the patch in transition, or None, as [`Manager::in_transition`] does.
+    /// Returns the patch in transition, or `None`, as [`Manager::in_transition`] does.
     fn in_transition(&self) -> Option<PatchId>
         ensures { result ≡ moving_patch (journaled self.now).managed.state.moving };
 

@@ -52,10 +52,10 @@ impl Model for Manager {
 }
 
 impl Manager {
-    /// Boots a manager over an image, its modules and a catalog, all unchanged since they were made. Then `vmlinux`
-    /// alone is loaded, no patch is installed, and there are no tasks, no shadow variables and no event to take back.
-    /// Allocates all memory that events need, so no later call can fail for want of memory (docs/DECISIONS.md, "Memory
-    /// after boot").
+    /// Boots a manager from an image, its modules and a catalog, all unchanged since they were made. Then only
+    /// `vmlinux` is loaded, no patch is installed, and there are no tasks, no shadow variables and no event to take
+    /// back. Allocates all memory that events need, so no later call can fail for lack of memory (docs/DECISIONS.md,
+    /// "Memory after boot").
     ///
     /// Returns `Mismatch` if the three don't have the same number of objects, or of symbols in each. The caller must
     /// know that their names are the same. The three are dropped on a fault.
@@ -81,28 +81,30 @@ impl Manager {
         })
     }
 
-    /// Takes one event, as one atomic step. The cost grows with the functions and callbacks of the event's patch and
-    /// the tasks that the event looks at, or with a change of the shadow variables. Loading or unloading a module costs
-    /// what the installed patches have for it, and a look at all of their functions or at the frames of all sleepers. A
-    /// cumulative patch looks at every site with entries, when its transition starts and when it completes, and takes
-    /// out all older patches.
+    /// Does one event, as one atomic step. Its cost:
+    /// - an event looks at the functions and callbacks of its patch, if it has one, and at the tasks that it concerns;
+    /// - loading or unloading a module costs what the installed patches have for it; in addition, loading looks at all
+    ///   of their functions, and unloading at the frames of all sleepers;
+    /// - an event of a cumulative patch looks at every site with entries, when its transition starts and when it
+    ///   completes, and takes out all older patches;
+    /// - an event of shadow variables costs a change of these.
     ///
-    /// An accepted event is appended to the journal, at the cost of the rows that it changed. A journal without room
-    /// for another event refuses each event: with `JournalFull` unless something else refuses it.
+    /// An accepted event is appended to the journal, at the cost of the rows that it changed. If the journal has no
+    /// room for another event, each event is refused: with `JournalFull` unless something else refuses it.
     pub fn apply(&mut self, event: Event) -> Result<Reply, Refusal>
         ensures taken { IsTaken self.old self.new event result }
         ensures counts { IfOk result
             (λ reply. AreCounted self.old.managed.catalog self.new.managed.catalog
             (callbacks_of (setting_of self.old.managed) self.old.managed.state event)) }
-        // of the catalog, callbacks change only their counts, so what is proved of the setting still holds
+        // callbacks change nothing of the catalog but their counts, so what is proved of the setting still holds
         ensures setting { setting_of self.new.managed ≡ setting_of self.old.managed }
         ensures well_formed { IsWellFormed self.new }
     {
         self.apply_lent(&event)
     }
 
-    /// Like [`Manager::apply`], for an event that is borrowed. This saves copying the event, which is large, since it
-    /// has room for the frames of a sleeper.
+    /// Like [`Manager::apply`], but borrows the event. This saves a copy: an event is large, since it has room for the
+    /// frames of a sleeper.
     #[inline(always)]
     pub fn apply_lent(&mut self, event: &Event) -> Result<Reply, Refusal>
         ensures taken { IsTaken self.old self.new event.now result }
@@ -130,8 +132,8 @@ impl Manager {
         take_without_reply(&mut self.state, &mut self.catalog, &mut self.journal, event)
     }
 
-    /// Takes events in order. Returns how many were accepted and how many refused. A refused event changes nothing, and
-    /// the next one is taken. A loop over `apply` would not have the clauses over the whole list.
+    /// Does events in order. Returns how many were accepted and how many refused. A refused event changes nothing, and
+    /// the next one is done. A loop that calls `apply` would lack the clauses about the whole list.
     pub fn run(&mut self, events: &[Event]) -> (u64, u64)
         ensures taken { AreTaken self.old self.new events.now result }
         ensures withdrawn { LeavesNoTrace self.old self.new }
@@ -153,8 +155,8 @@ impl Manager {
         (accepted, refused)
     }
 
-    /// Returns how many accepted events the journal has: those since the manager was booted or sealed that weren't
-    /// taken back. Pass it to `rewind` to bring this state back. The cost is constant.
+    /// Returns how many accepted events the journal has: those since the manager was booted or sealed, without the ones
+    /// that were taken back. Pass this number to `rewind` to return to the present state. The cost is constant.
     pub fn mark(&self) -> u32
         ensures mark { result ≡ length self.now.groups }
         ensures limit { result ≤ MAX_GROUPS }
@@ -163,10 +165,10 @@ impl Manager {
         self.journal.mark()
     }
 
-    /// Takes back all events but the first `mark`, newest first. Text, hooks, function stacks, system states, shadow
+    /// Undoes all events but the first `mark`, newest first. Text, hooks, function stacks, system states, shadow
     /// variables and tasks are then as they were after those `mark` events. No callback runs, since the rows that
-    /// callbacks changed are put back like all others. The counts of their runs stay. The cost grows with the number of
-    /// rows that are put back. Returns `BadMark` if the journal has fewer than `mark` events.
+    /// callbacks changed are put back like all others. The counts of callback runs don't change. The cost grows with
+    /// the number of rows that are put back. Returns `BadMark` if the journal has fewer than `mark` events.
     pub fn rewind(&mut self, mark: u32) -> Result<(), BadMark>
         ensures rewound { IfOk result (λ _. (mark ≤ length self.old.groups) × IsRewound self.old self.new mark) }
         ensures bad_mark { IfErr result (λ _. length self.old.groups < mark) }
@@ -181,8 +183,8 @@ impl Manager {
         Ok(())
     }
 
-    /// Empties the journal, so that no earlier event can be taken back, and the present state is the base. Use it to go
-    /// on when the journal is full. The cost grows at most with the number of dropped records.
+    /// Empties the journal. Then no earlier event can be taken back, and the present state is the base. Call this to
+    /// continue when the journal is full. The cost grows at most with the number of dropped records.
     pub fn seal(&mut self)
         ensures sealed { self.new ≡ record { managed = self.old.managed; base = self.old.managed.state; groups = [] } }
         ensures well_formed { IsWellFormed self.new }

@@ -34,7 +34,7 @@ use klp_types::{
 };
 
 impl Manager {
-    /// Returns the text of an object as a processor would run it, or None if the object isn't loaded. The text is
+    /// Returns the text of an object as a processor would run it, or `None` if the object isn't loaded. The text is
     /// borrowed, since it may have 64 KiB.
     pub fn text(&self, object: ObjId) -> Option<TextView<'_>>
         ensures { result ≡ text_of (setting_of self.now.managed) self.now.managed.state object }
@@ -62,8 +62,8 @@ impl Manager {
         self.state.world.installed_list()
     }
 
-    /// Returns what the `enabled` file of a patch reads: false from the moment when the patch begins to leave. None if
-    /// the patch isn't installed, since it has no such file then.
+    /// Returns what the `enabled` file of a patch reads: false while the patch is in transition to target 0, otherwise
+    /// true. Returns `None` if the patch isn't installed, since it has no such file then.
     pub fn enabled(&self, patch: PatchId) -> Option<bool>
         ensures { result ≡ (if is_installed self.now.managed.state patch then Some
             (enabled_value self.now.managed.state patch) else None) }
@@ -74,7 +74,8 @@ impl Manager {
         Some(self.state.enabled_value(patch))
     }
 
-    /// Whether the patch is in transition, as its `transition` file reads. None if the patch isn't installed.
+    /// Returns whether the patch is in transition, as its `transition` file reads. Returns `None` if the patch isn't
+    /// installed.
     pub fn transition(&self, patch: PatchId) -> Option<bool>
         ensures { result ≡ (if is_installed self.now.managed.state patch then Some
             (moves self.now.managed.state.moving patch) else None) }
@@ -88,8 +89,8 @@ impl Manager {
         }
     }
 
-    /// Returns the patch state of a task, -1 without a transition (`/proc/<pid>/patch_state`). None if there is no such
-    /// task.
+    /// Returns the patch state of a task, -1 without a transition (`/proc/<pid>/patch_state`). Returns `None` if there
+    /// is no such task.
     pub fn patch_state(&self, task: TaskId) -> Option<i8>
         ensures { result ≡ option_map (λ (t : AnyTask). t.state) (task_at self.now.managed.state.tasks task) }
     {
@@ -97,7 +98,7 @@ impl Manager {
         Some(row.state.number())
     }
 
-    /// Returns the mode of a task: in user space, in the kernel, or asleep. None if there is no such task.
+    /// Returns the mode of a task: in user space, in the kernel, or asleep. Returns `None` if there is no such task.
     pub fn mode(&self, task: TaskId) -> Option<Mode>
         ensures mode { result ≡ option_map (λ (t : AnyTask). t.mode) (task_at self.now.managed.state.tasks task) }
         ensures rows { length self.now.managed.state.tasks ≡ MAX_TASKS }
@@ -106,8 +107,8 @@ impl Manager {
         Some(row.mode)
     }
 
-    /// Returns the versions that a sleeping task is inside of, outermost first. Empty for any other task, since what it
-    /// runs isn't known, and for a number without a task.
+    /// Returns the versions that a sleeping task is inside of, outermost first. For any other task the result is empty,
+    /// since what the task runs isn't known. It is empty too for a number without a task.
     pub fn frames(&self, task: TaskId) -> Frames
         ensures { result ≡ frames_of (task_at self.now.managed.state.tasks task) }
     {
@@ -117,40 +118,40 @@ impl Manager {
         }
     }
 
-    /// Returns the patch in transition with its target, or None.
+    /// Returns the patch in transition with its target, or `None`.
     pub fn moving(&self) -> Option<Transition>
         ensures { result ≡ self.now.managed.state.moving }
     {
         self.state.moving
     }
 
-    /// Returns the object that a version is in: the object of its site, or of the patch's function. None if neither the
-    /// image nor the catalog has the version.
+    /// Returns the object that a version is in: the object of its site, or of the patch's function. Returns `None` if
+    /// neither the image nor the catalog has the version.
     pub fn object_of(&self, version: Version) -> Option<ObjId>
         ensures { result ≡ object_of_version (setting_of self.now.managed) version }
     {
         self.state.object_of(&self.catalog, version)
     }
 
-    /// Returns the value of a shadow variable, or None if it doesn't exist (`klp_shadow_get`). This is no event, since
-    /// nothing changes.
+    /// Returns the value of a shadow variable, or `None` if it doesn't exist (`klp_shadow_get`). This is no event,
+    /// since nothing changes.
     pub fn shadow_get(&self, key: ShadowKey) -> Option<ShadowValue>
         ensures { result ≡ variable self.now.managed.state.world key }
     {
         self.state.world.get(key)
     }
 
-    /// Returns the lowest address above `after` of a parent object that has a shadow variable of this id, or the lowest
-    /// of all without `after`. None if there is no such parent object. To go over all variables of an id, pass each
-    /// answer to the next call.
+    /// Returns the lowest address of a parent object that is above `after` and has a shadow variable of this id. If
+    /// `after` is `None`, returns the lowest of all that have one. Returns `None` if there is no such parent object. To
+    /// go over all variables of an id, pass each answer to the next call.
     pub fn next_parent(&self, id: u64, after: Option<u64>) -> Option<u64>
         ensures { IsNextParent self.now.managed.state.world.shadow id (lowest_above after) result }
     {
         self.state.world.next_parent(id, after)
     }
 
-    /// Returns the value of a system state of an installed patch. None if the patch isn't installed or doesn't name the
-    /// state, as a kernel returns no data then (`klp_get_state`).
+    /// Returns the value of a system state of an installed patch. Returns `None` if the patch isn't installed or
+    /// doesn't name the state, as a kernel returns no data then (`klp_get_state`).
     pub fn state_of(&self, patch: PatchId, id: u64) -> Option<u64>
         ensures value { result ≡ state_value self.now.managed.state.world patch id }
         // the existing states are exactly those that the catalog gives installed patches
@@ -162,7 +163,7 @@ impl Manager {
         self.state.world.value(patch, id)
     }
 
-    /// Returns how often a callback of a patch ran, by its object and its kind, or None if the patch has no such
+    /// Returns how often a callback of a patch ran, by its object and its kind, or `None` if the patch has no such
     /// callback. The count stops at the greatest number of 64 bits. `rewind` doesn't change it, since those runs did
     /// happen.
     pub fn callback_runs(&self, patch: PatchId, object: ObjId, which: Which) -> Option<u64>
@@ -185,8 +186,8 @@ impl Manager {
             && refused(&self.state, &self.catalog, event).is_none()
     }
 
-    /// Returns the catalog that the manager was booted with, with the present counts of runs. It is borrowed for
-    /// reading only, since a callback that ran outside of an event couldn't be undone.
+    /// Returns the catalog with which the manager was booted, with the present counts of runs. It is borrowed only for
+    /// reading: a callback that ran outside of an event couldn't be undone.
     pub fn catalog(&self) -> &Catalog
         ensures catalog { result.now ≡ self.now.managed.catalog }
         // so its sites are those of the image
@@ -195,8 +196,8 @@ impl Manager {
         &self.catalog
     }
 
-    /// Returns the names of the image's objects and symbols, and which objects are loaded. It resolves the names in
-    /// console lines.
+    /// Returns the names of the image's objects and symbols, and which objects are loaded. The names in console lines
+    /// are resolved with this.
     pub fn modules(&self) -> &Modules
         ensures { result.now
             ≡ record { names = names_of self.now.managed.image.objects; loaded = self.now.managed.state.loaded } }

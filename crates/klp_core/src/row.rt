@@ -22,7 +22,7 @@ use klp_types::{
 };
 
 /// Returns the patch in transition without its target. A call needs only the patch: the task's patch state decides
-/// whether the call passes over the patch's entry.
+/// whether the call skips the patch's entry.
 fn patch_of(moving: Option<Transition>) -> Option<PatchId>
     ensures { result ≡ moving_patch moving }
 {
@@ -32,7 +32,7 @@ fn patch_of(moving: Option<Transition>) -> Option<PatchId>
     }
 }
 
-/// Returns how many symbols an object of an image has, 0 if there is no such object.
+/// Returns how many symbols an object of an image has. Returns 0 if there is no such object.
 fn symbols_of(image: &Image, object: ObjId) -> usize
     ensures count { result ≡ sites_in image.now.image.objects object }
     ensures limit { result ≤ MAX_SITES }
@@ -63,8 +63,8 @@ impl Manager {
         self.state.sites.sites()
     }
 
-    /// Returns the two newest entries of a site with their addresses: what a handler needs, so that a call doesn't walk
-    /// the stack. None if the site isn't one of a loaded object.
+    /// Returns the two newest entries of a site with their addresses. A handler needs just these, so a call doesn't
+    /// walk the stack. Returns `None` if the site isn't one of a loaded object.
     pub fn row(&self, site: Site) -> Option<SiteRow>
         ensures { result ≡ row_of (setting_of self.now.managed) self.now.managed.state site }
     {
@@ -80,14 +80,14 @@ impl Manager {
         })
     }
 
-    /// Returns the patch in transition, or None.
+    /// Returns the patch in transition, or `None`.
     pub fn in_transition(&self) -> Option<PatchId>
         ensures { result ≡ moving_patch self.now.managed.state.moving }
     {
         patch_of(self.state.moving)
     }
 
-    /// Returns how many functions a patch has, over all of its objects. 0 if there is no such patch.
+    /// Returns how many functions a patch has, over all of its objects. Returns 0 if there is no such patch.
     pub fn functions(&self, patch: PatchId) -> usize
         ensures { result ≡ length (functions_of (setting_of self.now.managed) patch) }
     {
@@ -95,7 +95,7 @@ impl Manager {
     }
 
     /// Returns the site that a patch's function replaces. `number` counts the patch's functions over all of its
-    /// objects. None if the object has no such symbol, or the patch no such function.
+    /// objects. Returns `None` if the object has no such symbol, or the patch no such function.
     pub fn site_of(&self, patch: PatchId, number: usize) -> Option<Site>
         ensures { result ≡ option_and_then (λ (f : Function). f.site) (slice_get
             (functions_of (setting_of self.now.managed) patch) number) }
@@ -112,7 +112,7 @@ impl Manager {
         first_site_of(self.state.sites.image(), object)
     }
 
-    /// Returns how many sites an object has, loaded or not: one for each symbol. 0 if there is no such object.
+    /// Returns how many sites an object has, loaded or not: one for each symbol. Returns 0 if there is no such object.
     pub fn sites_in(&self, object: ObjId) -> usize
         ensures count { result ≡ sites_in self.now.managed.image.objects object }
         ensures limit { result ≤ MAX_SITES }
@@ -120,8 +120,8 @@ impl Manager {
         symbols_of(self.state.sites.image(), object)
     }
 
-    /// Returns what a task runs when it calls a site's function: the version and the address where it begins. None if
-    /// there is no such task, or if the site isn't one of a loaded object, since nothing can be called there.
+    /// Returns what a task runs when it calls a site's function: the version and the address where it begins. Returns
+    /// `None` if there is no such task, or if the site isn't one of a loaded object, since nothing can be called there.
     pub fn pick(&self, task: TaskId, site: Site) -> Option<Target>
         ensures { result ≡ pick (setting_of self.now.managed) self.now.managed.state task site }
     {
@@ -154,7 +154,7 @@ impl Manager {
         self.state.sites.stacks().word(site, moving)
     }
 
-    /// Returns the address where a version begins, or None if there is no such version. An original begins behind its
+    /// Returns the address where a version begins, or `None` if there is no such version. An original begins behind its
     /// entry site, so that running it doesn't call the handler again.
     fn begins_at(&self, version: &Version) -> Option<u64>
         ensures { result ≡ address_of (setting_of self.now.managed) version.now }

@@ -48,7 +48,7 @@ impl<'a> TextView<'a> {
         }
     }
 
-    /// Returns a symbol's name, address and bytes, or None. `number` counts from 0: symbols aren't looked up by name,
+    /// Returns a symbol's name, address and bytes, or `None`. `number` counts from 0: symbols aren't looked up by name,
     /// since several may share a name.
     pub fn get(&self, number: u16) -> Option<(&str, u64, &[u8])>
         ensures name { option_map (λ found. found.0.now) result

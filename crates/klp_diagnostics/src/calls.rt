@@ -1,27 +1,27 @@
-//! What tasks are inside of, by the calls of a trace.
+//! The functions that tasks are inside of, as far as the calls of a trace tell.
 
 use klp_catalog_text::Lines;
 use klp_faulty_words::item::Item;
 use std::alloc::{AllocError, Global};
 
-/// What stands before the object in a symbol's spelling.
+/// What stands in front of the object's name in a symbol's spelling.
 const SPELLING: &[u8] = b".klp.sym.";
 
-/// A call that wasn't returned from.
+/// A call from which its task hasn't returned.
 #[derive(Clone, Copy)]
 struct Call<'a> {
     task: u64,
     symbol: &'a [u8],
 }
 
-/// All calls that weren't returned from, oldest first.
+/// All calls from which their tasks haven't returned, oldest first.
 #[derive(Drop)]
 pub(crate) struct Calls<'a> {
     open: Vec<Call<'a>>,
 }
 
 impl<'a> Call<'a> {
-    /// Whether the symbol is one of this module, by its spelling.
+    /// Whether the called symbol belongs to this module, going by its spelling.
     fn is_in(&self, module: &[u8]) -> bool {
         match self.symbol.strip_prefix(SPELLING) {
             Some(rest) => match rest.strip_prefix(module) {
@@ -34,7 +34,7 @@ impl<'a> Call<'a> {
 }
 
 impl<'a> Calls<'a> {
-    /// Adds the call that a line makes, or removes the call that the line returns from: the task's last. `Err` if
+    /// Adds the call that a line makes. If the line returns instead, removes the last open call of its task. `Err` if
     /// memory runs out.
     fn add(&mut self, item: Option<Item<'a>>) -> Result<(), AllocError> {
         match item {
@@ -49,8 +49,8 @@ impl<'a> Calls<'a> {
         Ok(())
     }
 
-    /// Returns the calls that are open after so many lines of a trace. These lines must be honest items: then a task
-    /// that ended had returned from all its calls, and none of them is open. `Err` if memory runs out.
+    /// Returns the calls that are open after the first `lines_before` lines of a trace. These lines must be honest
+    /// items: only then has each task that ended also returned from its calls. `Err` if memory runs out.
     pub(crate) fn behind(
         alloc: Global,
         trace: &'a [u8],
@@ -66,14 +66,15 @@ impl<'a> Calls<'a> {
         Ok(calls)
     }
 
-    /// Returns the symbol that the task called last. `None` if it is inside of no function.
+    /// Returns the symbol that the task called last and is still inside of. Returns `None` if it is inside of no
+    /// function.
     pub(crate) fn last_of(&self, task: u64) -> Option<&'a [u8]> {
         let call = self.open.iter().rfind(|call| call.task == task)?;
         Some(call.symbol)
     }
 
-    /// Returns the task with the lowest number among those inside of a module, and the symbol of the module that the
-    /// task called last. `None` if there is none.
+    /// Returns, of the tasks inside of a module, the one with the lowest number, and the module's symbol that it called
+    /// last. Returns `None` if no task is inside of the module.
     pub(crate) fn first_in(&self, module: &[u8]) -> Option<(u64, &'a [u8])> {
         let mut first: Option<Call<'a>> = None;
         for call in &self.open {

@@ -1,4 +1,4 @@
-//! Describing what the rules have at a line of a trace where the kernel differs from them, and why.
+//! Says what the rules have, and why, at a line of a trace where the kernel differs from them.
 ghost use Rattle.klp_core.specs.Journaled.{IsWellFormed};
 
 use crate::replay::make_room;
@@ -10,7 +10,7 @@ use klp_trace::{Trace, answer_text};
 use klp_watch::Observed;
 use std::alloc::{AllocError, Global};
 
-/// Describes an answer of the rules, and why they answer so.
+/// Describes the rules' answer to an event, and why it is this one.
 fn answer_and_why(
     alloc: Global,
     manager: &Manager,
@@ -32,7 +32,7 @@ fn answer_and_why(
     }
 }
 
-/// Does an event that the kernel answered, and describes what the rules answer.
+/// Does an event that the kernel answered, and describes the rules' answer to it.
 fn answered(alloc: Global, manager: &mut Manager, event: &Event) -> Result<String, AllocError>
     requires { IsWellFormed manager.old }
 {
@@ -41,8 +41,8 @@ fn answered(alloc: Global, manager: &mut Manager, event: &Event) -> Result<Strin
     answer_and_why(alloc, manager, &answer)
 }
 
-/// Describes what the rules have at the first of these items. `None` if it has neither an answer nor a sight: the rules
-/// can't differ there. `None` also if memory runs out.
+/// Describes what the rules have at the first of these items. Returns `None` if the item has neither an answer nor a
+/// sight, since the rules can't differ from it then. Returns `None` also if memory runs out.
 fn rules_of(alloc: Global, manager: &mut Manager, items: &[Observed]) -> Option<String>
     requires { IsWellFormed manager.old }
 {
@@ -53,8 +53,8 @@ fn rules_of(alloc: Global, manager: &mut Manager, items: &[Observed]) -> Option<
     }
 }
 
-/// Describes what the rules have at a line, once the manager has done all lines before it. `None` if the rules can't
-/// differ there, or if memory runs out.
+/// Describes what the rules have at a line. The manager must have done all lines before it. Returns `None` if the rules
+/// can't differ from this line, or if memory runs out.
 pub(crate) fn rules_at(alloc: Global, manager: &mut Manager, line: &[u8]) -> Option<String>
     requires { IsWellFormed manager.old }
 {

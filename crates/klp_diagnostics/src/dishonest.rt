@@ -8,11 +8,11 @@ use std::fmt;
 
 #[derive(Clone, Copy)]
 pub(crate) enum Act<'a> {
-    /// No task does it.
+    /// What is wrong is no task's act.
     Nobody(&'static str),
-    /// A task does this inside of a function, or of none.
+    /// This task does this, and is inside of this function, or of none.
     Inside(u64, &'static str, Option<&'a [u8]>),
-    /// A module goes while a task is inside of its function.
+    /// This module is unloaded while this task is inside of this function of the module.
     Going(&'a [u8], u64, &'a [u8]),
 }
 
@@ -34,7 +34,7 @@ impl<'a> fmt::Display for Act<'a> {
     }
 }
 
-/// Returns what is wrong with a task that returns: it is inside of no function, or asleep.
+/// Returns what is wrong with a task's return: the task is inside of no function, or it sleeps.
 fn returns<'a>(task: u64, calls: &Calls<'a>) -> Act<'a> {
     match calls.last_of(task) {
         None => Act::Inside(task, "returns, and is", None),
@@ -42,15 +42,15 @@ fn returns<'a>(task: u64, calls: &Calls<'a>) -> Act<'a> {
     }
 }
 
-/// Returns that a module goes while a task is inside of it: the first such task, with the symbol of the module that the
-/// task called last. `None` if no task is inside of it.
+/// Returns the act of a module that is unloaded while a task is inside of it. Names the task with the lowest number,
+/// and the symbol of the module that it called last. Returns `None` if no task is inside of the module.
 fn goes<'a>(module: &'a [u8], calls: &Calls<'a>) -> Option<Act<'a>> {
     let (task, symbol) = calls.first_in(module)?;
     Some(Act::Going(module, task, symbol))
 }
 
-/// Returns what a task does in an item, or which task is in the item's way. `calls` are open before the item. `None` if
-/// no task is at fault.
+/// Returns what a task does in an item, or which task keeps a module from being unloaded. `calls` are those open before
+/// the item. Returns `None` if no task is at fault.
 fn act_in<'a>(cause: Cause, item: Item<'a>, calls: &Calls<'a>) -> Option<Act<'a>> {
     let (task, does) = match (cause, item) {
         (Cause::FramesLeft, Item::Exit(task)) => (task, "leaves the kernel"),
@@ -63,7 +63,7 @@ fn act_in<'a>(cause: Cause, item: Item<'a>, calls: &Calls<'a>) -> Option<Act<'a>
     Some(Act::Inside(task, does, calls.last_of(task)))
 }
 
-/// Returns what to say of an item that breaks the premise of this cause. `calls` are open before the item.
+/// Returns what to say of an item that breaks a premise, which `cause` names. `calls` are those open before the item.
 pub(crate) fn act_of<'a>(cause: Cause, item: Option<Item<'a>>, calls: &Calls<'a>) -> Act<'a> {
     let act = match item {
         Some(item) => act_in(cause, item, calls),

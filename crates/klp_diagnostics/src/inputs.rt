@@ -1,4 +1,4 @@
-//! The files of a program, and the lines about them on standard error.
+//! The two files of a program, and what it writes to standard error about their lines.
 ghost use Rattle.std.specs.Prelude.{◌≡◌, IfErr};
 
 use crate::calls::Calls;
@@ -31,20 +31,20 @@ use std::rt::Files;
 /// The exit status of a fault.
 const FAULT: u8 = 1;
 
-/// What is wanted of a task that falls asleep.
+/// What is wanted in a line in which a task falls asleep.
 const SLEEP: &str = "is each function that the task is inside of";
 
-/// A file that a program was given: what it is called, and its bytes.
+/// A file that a program was given: its name and its bytes.
 #[derive(Clone, Copy)]
 pub struct FileText<'a> {
     pub name: &'a str,
     pub bytes: &'a [u8],
 }
 
-/// The two files of a program. If a line can't be written to standard error, it is left out.
+/// The two files of a program. What can't be written to standard error is left out.
 #[derive(Clone, Copy)]
 pub struct Inputs<'a> {
-    /// The name that the program gives itself.
+    /// The name by which the program calls itself.
     pub program: &'a str,
     pub catalog: FileText<'a>,
     pub second: FileText<'a>,
@@ -71,7 +71,8 @@ pub fn file_in<R: Files + AllocGlobal, E: Write>(
     }
 }
 
-/// Returns what is wrong with a line of a trace that is no item. `plan` is the catalog's.
+/// Returns what is wrong with a line of a trace that isn't an item. `plan` and `catalog` are the plan and the text of
+/// the same catalog.
 fn wrong_item<'a>(mut plan: Plan, line: &'a [u8], catalog: &'a [u8]) -> Wrong<'a> {
     let objects = plan.take_objects();
     let patches = plan.into_patches();
@@ -88,7 +89,7 @@ impl<'a> FileText<'a> {
         Escaped(self.name.as_bytes())
     }
 
-    /// Writes the program, the file and the number of a line of a trace, with the line's time if it has one.
+    /// Writes the program, the file and the number of a line of a trace. If the line has a time, writes that too.
     fn write_item_place<E: Write>(&self, program: &str, line: u64, err: &mut E) -> io::Result<()> {
         match LineParts::of(line_at(self.bytes, line)).time {
             Some(time) if microseconds(time).is_some() => {
@@ -106,9 +107,9 @@ impl<'a> FileText<'a> {
 }
 
 impl<'a> Inputs<'a> {
-    /// Writes hints to `err`. One points at a function of the catalog whose symbol isn't picked. The others point at
-    /// the first line of each kind that means something in other files, but not in the file beside the catalog. Writes
-    /// nothing if the files are swapped, since then the fault says enough.
+    /// Writes hints to `err`. One hint points at a function of the catalog whose symbol can't be picked. The others
+    /// point into the file beside the catalog: for each [`Stray`] that isn't part of such a file, at the first line
+    /// that has it. If the files are swapped, writes nothing, since the fault says enough.
     pub fn hint<E: Write>(&self, err: &mut E) {
         if self.are_swapped() {
             return;
@@ -119,8 +120,8 @@ impl<'a> Inputs<'a> {
         }
     }
 
-    /// Writes a hint to `err` at the first line of a script that may be misspelled. The console refuses such a line,
-    /// but a script may also mean a line to be refused.
+    /// Writes a hint to `err` at the first line of a script that may be misspelled. It is only a hint, since a script
+    /// may have a line in order that the console refuses it.
     pub fn hint_line<E: Write>(&self, alloc: Global, err: &mut E) {
         let text = self.second.bytes;
         if begins_as_catalog(text) || begins_as_utf16(text) {
@@ -131,9 +132,9 @@ impl<'a> Inputs<'a> {
         }
     }
 
-    /// Writes to `err` why a verdict is so. If the trace isn't honest, names the task, and the function that it is
-    /// inside of. If the kernel differs from the rules, says what the rules have there, and why. If neither, hints at
-    /// the events that are refused, if any are.
+    /// Writes to `err` what is behind a verdict. If the trace isn't honest, names the task, and the function that the
+    /// task is inside of. If the kernel differs from the rules, says what the rules have at that line, and why.
+    /// Otherwise hints at the events that are refused, if there are any.
     pub fn print_verdict<E: Write>(&self, alloc: Global, verdict: Verdict, err: &mut E) {
         let _ = match verdict {
             Verdict::Honest(_) => self.write_refused(alloc, err),
@@ -142,7 +143,7 @@ impl<'a> Inputs<'a> {
         };
     }
 
-    /// Writes a fault to `err`: where it is, and what is wanted there. Returns its exit status, 1.
+    /// Writes to `err` where a fault is, and what is wanted there. Returns the exit status of a fault, 1.
     pub fn print_fault<E: Write>(&self, alloc: Global, fault: Fault, err: &mut E) -> u8
         ensures { result ≡ 1 }
     {
@@ -150,7 +151,7 @@ impl<'a> Inputs<'a> {
         FAULT
     }
 
-    /// Hints at the first function of the catalog whose symbol isn't picked, if it is worth a hint.
+    /// Hints at the first function of the catalog whose symbol can't be picked, unless that isn't worth a hint.
     fn write_unloadable<E: Write>(&self, err: &mut E) -> io::Result<()> {
         match first_unloadable(self.catalog.bytes, self.second.bytes) {
             Some(found) => {
@@ -162,7 +163,7 @@ impl<'a> Inputs<'a> {
         }
     }
 
-    /// Hints at the first line of a script that may be misspelled, over the plan of the catalog.
+    /// Hints at the first line of a script that may be misspelled. Takes the names from the catalog's plan.
     fn write_misspelled<E: Write>(&self, mut plan: Plan, err: &mut E) -> io::Result<()> {
         let objects = plan.take_objects();
         let patches = plan.into_patches();
@@ -173,7 +174,7 @@ impl<'a> Inputs<'a> {
         self.write_first_misspelled(&names, err)
     }
 
-    /// Hints at the first line of a script that may be misspelled, by the names of the catalog.
+    /// Hints at the first line of a script that may be misspelled. `names` are those of the catalog.
     fn write_first_misspelled<E: Write>(&self, names: &Names<'_>, err: &mut E) -> io::Result<()> {
         let mut number = 0u64;
         for line in self.second.bytes.split(|b| *b == b'\n') {
@@ -186,8 +187,8 @@ impl<'a> Inputs<'a> {
         Ok(())
     }
 
-    /// Hints at the first line of this kind. If the file is UTF-16, hints only at that: its lines aren't what they
-    /// seem.
+    /// Hints at the first line of the second file that has this stray. If the file is UTF-16, writes only the hint that
+    /// says so, since its bytes aren't those that were meant.
     fn write_stray<E: Write>(&self, stray: Stray, err: &mut E) -> io::Result<()> {
         let text = self.second.bytes;
         let is_reported = matches!(stray, Stray::Utf16) || !begins_as_utf16(text);
@@ -200,7 +201,8 @@ impl<'a> Inputs<'a> {
         }
     }
 
-    /// Hints at the events of an honest trace that are refused, if any are and there is memory to find them.
+    /// Hints at the events of an honest trace that are refused. Writes nothing if there are none, or no memory to find
+    /// them.
     fn write_refused<E: Write>(&self, alloc: Global, err: &mut E) -> io::Result<()> {
         let trace = self.second.bytes;
         match replay_of(alloc, self.catalog.bytes, trace, trace.len() as u64) {
@@ -209,7 +211,7 @@ impl<'a> Inputs<'a> {
         }
     }
 
-    /// Hints at the first event that is refused, and says how many are.
+    /// Hints at the first event that is refused, and says how many events are.
     fn write_first_refused<E: Write>(&self, replay: &Replay, err: &mut E) -> io::Result<()> {
         let Some(first) = replay.first else {
             return Ok(());
@@ -224,7 +226,7 @@ impl<'a> Inputs<'a> {
         )
     }
 
-    /// Writes the line that breaks a premise: its cause, and who does what.
+    /// Writes about the line that breaks a premise: the cause, and who does what in the line.
     fn write_item<E: Write>(&self, alloc: Global, fault: NotHonest, err: &mut E) -> io::Result<()> {
         let (line, trace) = (fault.item as u64, self.second.bytes);
         self.second.write_item_place(self.program, line, err)?;
@@ -235,7 +237,7 @@ impl<'a> Inputs<'a> {
         }
     }
 
-    /// Writes the line at which the kernel differs from the rules: what was seen, what the rules have, and why.
+    /// Writes about the line at which the kernel differs from the rules: what was seen, what the rules have, and why.
     fn write_difference<E: Write>(
         &self,
         alloc: Global,
@@ -255,8 +257,8 @@ impl<'a> Inputs<'a> {
         }
     }
 
-    /// Ends a line of `err` with who does what in the line of a trace that breaks a premise. `calls` are open before
-    /// it.
+    /// Ends a line of `err` by saying who does what in the line of the trace that breaks a premise. `calls` are those
+    /// open before that line.
     fn write_act<E: Write>(
         &self,
         alloc: Global,
@@ -279,7 +281,7 @@ impl<'a> Inputs<'a> {
         }
     }
 
-    /// Ends a line of `err` with the versions that a task is inside of after so many lines of the trace.
+    /// Ends a line of `err` with the versions that a task is inside of after the first `lines` lines of the trace.
     fn write_versions<E: Write>(
         &self,
         alloc: Global,
@@ -310,12 +312,12 @@ impl<'a> Inputs<'a> {
         }
     }
 
-    /// Whether each file is what the other should be.
+    /// Whether the two files are swapped: the second begins as a catalog, and the first doesn't.
     fn are_swapped(&self) -> bool {
         begins_as_catalog(self.second.bytes) && !begins_as_catalog(self.catalog.bytes)
     }
 
-    /// Writes a faulty line of the catalog: the word, and what is wanted there.
+    /// Writes about a faulty line of the catalog: the word at fault, and what is wanted in its place.
     fn write_line<E: Write>(&self, alloc: Global, fault: TextFault, err: &mut E) -> io::Result<()> {
         let wrong = if self.are_swapped() {
             Wrong::Swapped(self.second.name)
@@ -326,7 +328,7 @@ impl<'a> Inputs<'a> {
         writeln!(err, "{}: {wrong}", fault.kind)
     }
 
-    /// Writes a fault of the whole catalog. Each of its lines is good.
+    /// Writes about a fault that the catalog has as a whole. None of its lines is faulty by itself.
     fn write_whole<E: Write>(&self, alloc: Global, fault: Fault, err: &mut E) -> io::Result<()> {
         match Catalog::read(alloc, self.catalog.bytes) {
             Ok(plan) => self.write_in_plan(plan, fault, err),
@@ -334,7 +336,8 @@ impl<'a> Inputs<'a> {
         }
     }
 
-    /// Writes a fault of the whole catalog by its plan, with the symbols or functions at fault.
+    /// Writes about a fault that the catalog has as a whole, with the symbols or functions at fault. Finds them in its
+    /// plan.
     fn write_in_plan<E: Write>(&self, mut plan: Plan, fault: Fault, err: &mut E) -> io::Result<()> {
         let (objects, handler) = (plan.take_objects(), plan.handler());
         let patches = plan.into_patches();
@@ -345,7 +348,7 @@ impl<'a> Inputs<'a> {
         self.write_catalog_fault(fault, wrong, err)
     }
 
-    /// Writes a fault of the whole catalog, and what is wrong, if that is known.
+    /// Writes about a fault that the catalog has as a whole. Says what is wrong if that is known.
     fn write_catalog_fault<E: Write>(
         &self,
         fault: Fault,
@@ -359,7 +362,7 @@ impl<'a> Inputs<'a> {
         }
     }
 
-    /// Writes a faulty line of the trace: the word, and what is wanted there.
+    /// Writes about a faulty line of the trace: the word at fault, and what is wanted in its place.
     fn write_trace_fault<E: Write>(
         &self,
         alloc: Global,
@@ -392,7 +395,7 @@ impl<'a> Inputs<'a> {
         }
     }
 
-    /// Writes the line of the script that is too long.
+    /// Writes about the first line of the script that is too long.
     fn write_long_line<E: Write>(&self, err: &mut E) -> io::Result<()> {
         let bytes = self.second.bytes;
         let mut lines = bytes.split(|b| *b == b'\n');

@@ -1,4 +1,4 @@
-//! What an impossible call lacks.
+//! Finds out what makes a call impossible.
 
 use crate::inputs::Inputs;
 use klp_catalog_text::Lines;
@@ -8,11 +8,12 @@ use std::alloc::Global;
 use std::io;
 use std::io::Write;
 
-/// What is written if there is no memory to find out.
+/// What is written if there is no memory to find out which of the two it is.
 const EITHER: &str = "and isn't running in the kernel, or its object isn't loaded";
 
-/// Adds the lines of a trace to `text`, up to this one. Before that line, adds three that bring the task into the
-/// kernel, wherever it is: those that don't apply are refused. `Err` if memory runs out.
+/// Copies the lines of a trace to `text`, up to the line with this number. In front of this last line, adds three that
+/// bring the task into the kernel from any state; those of the three that don't apply are refused. `Err` if memory runs
+/// out.
 fn load_line(text: &mut Vec<u8>, trace: &[u8], line: u64, task: u64) -> io::Result<()> {
     let mut lines = Lines::new(trace);
     for _ in 1..line {
@@ -23,8 +24,8 @@ fn load_line(text: &mut Vec<u8>, trace: &[u8], line: u64, task: u64) -> io::Resu
     text.write_all(lines.next().unwrap_or(&[]))
 }
 
-/// Returns what the impossible call in this line lacks. The line is the first that isn't honest. Judges the trace once
-/// more, with the task brought into the kernel before the call: if the call is still impossible, its object isn't
+/// Returns what makes the call in this line impossible. The line is the first that isn't honest. The trace is judged
+/// once more, with the task brought into the kernel before the call. If the call is still impossible, its object isn't
 /// loaded.
 pub(crate) fn lack_of(alloc: Global, inputs: &Inputs<'_>, line: u64, task: u64) -> &'static str {
     let mut text = Vec::new(alloc);

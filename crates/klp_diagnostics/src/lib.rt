@@ -1,14 +1,14 @@
-//! Where a fault is, for whoever wrote the files: which file, line and word, and what is wanted there.
+//! Where a fault is, for the people who wrote the files: which file, line and word, and what is wanted there.
 //!
-//! `klpwatch` and `klppage` know a fault by its kind and its line. [`Inputs`] looks at the files once more, as text,
-//! for what is at fault in them; `klp_faulty_words` finds the word. If a trace isn't honest, the sentence says which
-//! task does what (`dishonest.rt`), which function the task is inside of (`calls.rt`), or what its call lacks
-//! (`lack.rt`). For what a trace doesn't show, a manager takes its events once more (`replay.rt`): which versions a
-//! task is inside of, and which events are refused. If a kernel differs from the rules, the sentence says what the
-//! rules have there, and why (`differing.rt`, `rules.rt`).
+//! `klpwatch` and `klppage` know only the kind of a fault and its line. [`Inputs`] reads the files again, as text, to
+//! find what is at fault; `klp_faulty_words` finds the word. If a trace isn't honest, the sentence says which task does
+//! what (`dishonest.rt`), which function the task is inside of (`calls.rt`), or what its call lacks (`lack.rt`). Some
+//! things can't be seen in the trace: which versions a task is inside of, and which events are refused. For these, a
+//! manager does the trace's events again (`replay.rt`). If a kernel differs from the rules, the sentence says what the
+//! rules have at that line, and why (`differing.rt`, `rules.rt`).
 //!
-//! All of it is for people, and has no contract. No file can drive a terminal through it, and each call works with any
-//! files.
+//! All of this is for people, and has no contract. No bytes of a file can drive a terminal through it. Each call works
+//! with any files.
 #![tactic(auto)]
 
 mod calls;

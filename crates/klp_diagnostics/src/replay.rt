@@ -1,4 +1,4 @@
-//! Replaying a trace: a manager takes its events once more. This shows which are refused, which versions a task is
+//! Replaying a trace: a manager does its events again. This shows which events are refused, which versions a task is
 //! inside of, and what the rules have at a line.
 ghost use Rattle.std.specs.Prelude.{◌≤◌, length};
 ghost use Rattle.klp_catalog_text.specs.Within.{AreTargetsWithin};
@@ -22,34 +22,34 @@ use std::alloc::{AllocError, Global};
 use std::io;
 use std::io::Write;
 
-/// How many of a task's versions are written.
+/// How many of the versions that a task is inside of are written.
 const REPORTED: usize = 4;
 
-/// A version that a task called and hasn't returned from.
+/// A version that a task called, and from which it hasn't returned.
 #[derive(Clone, Copy)]
 struct Entered {
     task: u64,
     /// The line of the call.
     line: u64,
-    /// The position of its symbol.
+    /// The position of the called symbol.
     position: u32,
     version: Version,
 }
 
-/// The first event that is refused.
+/// An event that is refused: its line, and why.
 #[derive(Clone, Copy)]
 pub(crate) struct Refused {
     pub(crate) line: u64,
     pub(crate) refusal: Refusal,
 }
 
-/// What came of the lines of a trace, so far.
+/// What has come of the lines of a trace so far.
 #[derive(Drop)]
 pub(crate) struct Replay {
     pub(crate) events: usize,
     pub(crate) refused: usize,
     pub(crate) first: Option<Refused>,
-    /// What the rules have at the next line, if that is asked and known.
+    /// What the rules have at the line that the question is about. `None` if that isn't asked or isn't known.
     rules: Option<String>,
     entered: Vec<Entered>,
 }
@@ -57,13 +57,14 @@ pub(crate) struct Replay {
 /// What a manager is to find out from a trace.
 #[derive(Clone, Copy)]
 enum Question {
-    /// What comes of so many lines.
+    /// What comes of this many lines, from the first.
     Lines(u64),
-    /// What the rules have at the line of this number, counted from 1.
+    /// What the rules have at the line with this number, counted from 1.
     Rules(u64),
 }
 
-/// Returns the function of this number, counted over all targets of a patch. `None` if the patch has fewer.
+/// Returns the function with this number, counted from 0 over all targets of a patch. Returns `None` if the patch has
+/// fewer.
 fn function_at(patch: &PlanPatch, number: u16) -> Option<&PlanFunction> {
     let mut left = usize::from(number);
     for target in &patch.targets {
@@ -75,7 +76,7 @@ fn function_at(patch: &PlanPatch, number: u16) -> Option<&PlanFunction> {
     None
 }
 
-/// Returns the symbol that a line calls, as the line spells it, without its position.
+/// Returns the symbol that a line calls. It is spelled as in the line, but without its position.
 fn symbol_in(line: &[u8]) -> &[u8] {
     let words = LineWords::new(LineParts::of(line).item, Separators::Spaces);
     let (symbol, _) = cut(word_at(words, 3), b',');
@@ -83,7 +84,7 @@ fn symbol_in(line: &[u8]) -> &[u8] {
 }
 
 impl Entered {
-    /// Writes the version behind a blank, as a line of the console names it. A new function is followed by its name.
+    /// Writes a blank and the version, as a console line names it. If the version is a new function, adds its name.
     fn write<E: Write>(&self, trace: &[u8], patches: &[PlanPatch], err: &mut E) -> io::Result<()> {
         match self.version {
             Version::Original(_) => {
@@ -98,7 +99,7 @@ impl Entered {
     }
 }
 
-/// Writes a new function of a patch behind a blank, by its index, and its name if the patch has it.
+/// Writes a blank and a new function of a patch, by its index. Adds its name if the patch has such a function.
 fn write_new<E: Write>(patch: &PlanPatch, number: u16, err: &mut E) -> io::Result<()> {
     write!(err, " {}:{number}", patch.name)?;
     match function_at(patch, number) {
@@ -107,7 +108,7 @@ fn write_new<E: Write>(patch: &PlanPatch, number: u16, err: &mut E) -> io::Resul
     }
 }
 
-/// Makes sure that the journal has room for one more event: seals it if it might not.
+/// Makes room in the journal for one more event: seals the journal if it might be too full.
 pub(crate) fn make_room(manager: &mut Manager)
     requires { IsWellFormed manager.old }
     ensures { IsWellFormed manager.new }
@@ -117,8 +118,8 @@ pub(crate) fn make_room(manager: &mut Manager)
     }
 }
 
-/// Returns the version that a task gets if it calls a symbol now, and the symbol's position. `None` if the task can't
-/// call it.
+/// Returns the version that a task gets if it calls a symbol now, and the symbol's position. Returns `None` if the task
+/// can't call it.
 fn called(manager: &Manager, task: u64, symbol: &[u8]) -> Option<(Version, u32)> {
     let number = u8::try_from(task).ok()?;
     let site = site_of(symbol, manager)?;
@@ -129,7 +130,7 @@ fn called(manager: &Manager, task: u64, symbol: &[u8]) -> Option<(Version, u32)>
     }
 }
 
-/// Whether a line has what the kernel answered to its event.
+/// Whether a line of a trace says what the kernel answered to its event.
 fn is_answered(parts: LineParts<'_>) -> bool {
     match parts.answer {
         Some(answer) => answer != b"?".as_slice(),
@@ -138,7 +139,7 @@ fn is_answered(parts: LineParts<'_>) -> bool {
 }
 
 impl Replay {
-    /// Returns what came of no lines.
+    /// Returns what has come of a trace before its first line.
     fn new(alloc: Global) -> Self {
         Self {
             events: 0,
@@ -149,7 +150,8 @@ impl Replay {
         }
     }
 
-    /// Does the event that a line asks for, and counts it, and whether it is refused. Skips a line that asks for none.
+    /// Does the event that a line asks for. Counts the event, and also counts it as refused if it is. Skips a line that
+    /// asks for no event.
     fn take(&mut self, manager: &mut Manager, line: u64, text: &[u8])
         requires { IsWellFormed manager.old }
         ensures { IsWellFormed manager.new }
@@ -160,7 +162,7 @@ impl Replay {
         };
         make_room(manager);
         self.events = self.events.saturating_add(1);
-        // If the line has an answer, the kernel refused this too.
+        // If the line has an answer, the kernel refused the event too, so it isn't counted.
         if let Err(refusal) = manager.apply(event)
             && !is_answered(parts)
         {
@@ -171,7 +173,8 @@ impl Replay {
         }
     }
 
-    /// Notes which version a task enters in a line that calls a symbol. `Err` if memory runs out.
+    /// Notes the version that a task enters by calling a symbol in this line. Notes nothing if the task can't call it.
+    /// `Err` if memory runs out.
     fn enter(
         &mut self,
         manager: &Manager,
@@ -197,7 +200,7 @@ impl Replay {
         }
     }
 
-    /// Does one line. `Err` if memory runs out.
+    /// Does one line of a trace. `Err` if memory runs out.
     fn see(&mut self, manager: &mut Manager, line: u64, text: &[u8]) -> Result<(), AllocError>
         requires { IsWellFormed manager.old }
         ensures { IsWellFormed manager.new }
@@ -210,7 +213,7 @@ impl Replay {
         Ok(())
     }
 
-    /// Does the first so many lines of a trace. `Err` if memory runs out.
+    /// Does the first `lines` lines of a trace. `Err` if memory runs out.
     fn see_all(&mut self, manager: &mut Manager, trace: &[u8], lines: u64) -> Result<(), AllocError>
         requires { IsWellFormed manager.old }
     {
@@ -225,7 +228,7 @@ impl Replay {
         Ok(())
     }
 
-    /// Does the lines of a trace that a question needs, and finds out what it asks. `Err` if memory runs out.
+    /// Does as many lines of a trace as a question needs, and finds its answer. `Err` if memory runs out.
     fn answer(
         &mut self,
         alloc: Global,
@@ -246,8 +249,8 @@ impl Replay {
         }
     }
 
-    /// Ends a line of `err` with the versions that the task is inside of, the outermost first: at most [`REPORTED`],
-    /// then `..`.
+    /// Ends a line of `err` with the versions that the task is inside of, outermost first. Of more than [`REPORTED`],
+    /// writes the first [`REPORTED`] and `..`.
     pub(crate) fn write_versions<E: Write>(
         &self,
         task: u64,
@@ -270,7 +273,7 @@ impl Replay {
     }
 }
 
-// Asks a manager, and drops it then. `None` if memory runs out.
+// Puts the question to a manager, and drops the manager afterwards. Returns `None` if memory runs out.
 fn replay_by(
     mut manager: Manager,
     alloc: Global,
@@ -287,7 +290,8 @@ fn replay_by(
     }
 }
 
-// Boots a manager over a plan, and asks it. The boxes of the callbacks are made here, as for watching a trace.
+// Boots a manager over a plan, and puts the question to it. The boxes of the callbacks are made here, as they are for
+// watching a trace.
 fn replay_plan(
     alloc: Global,
     plan: Plan,
@@ -304,7 +308,7 @@ fn replay_plan(
     Ok(replay_by(manager, alloc, trace, question))
 }
 
-/// Asks a manager over a catalog's text. `None` if there is no memory for it.
+/// Puts the question to a manager that is booted over a catalog's text. Returns `None` if there is no memory for that.
 fn replayed(alloc: Global, catalog: &[u8], trace: &[u8], question: Question) -> Option<Replay> {
     let Ok(plan) = Catalog::read(alloc, catalog) else {
         return None;
@@ -312,13 +316,14 @@ fn replayed(alloc: Global, catalog: &[u8], trace: &[u8], question: Question) -> 
     replay_plan(alloc, plan, trace, question).ok()?
 }
 
-/// Returns what comes of so many lines of a trace over a catalog. `None` if there is no memory to find out.
+/// Returns what comes of the first `lines` lines of a trace over a catalog. Returns `None` if there is no memory to
+/// find out.
 pub(crate) fn replay_of(alloc: Global, catalog: &[u8], trace: &[u8], lines: u64) -> Option<Replay> {
     replayed(alloc, catalog, trace, Question::Lines(lines))
 }
 
-/// Returns what the rules have at the line of this number, counted from 1, at which the kernel differs from them.
-/// `None` if there is no memory to find out.
+/// Returns what the rules have at the line with this number, counted from 1. The kernel differs from the rules there.
+/// Returns `None` if there is no memory to find out.
 pub fn rules_of(alloc: Global, catalog: &[u8], trace: &[u8], line: u64) -> Option<String> {
     let replay = replayed(alloc, catalog, trace, Question::Rules(line))?;
     replay.rules

@@ -1,14 +1,14 @@
-//! What the rules have where a kernel shows something else, and why, by the state of a manager.
+//! Finds in the state of a manager what the rules have where a kernel shows something else, and why.
 
 use klp_core::{Lag, Manager};
 use klp_types::{Mode, PatchId, Site, TaskId, Version};
 use klp_watch::{PatchFiles, Sight};
 use std::fmt;
 
-/// How many of the tasks that aren't at the target of a transition are written.
+/// How many tasks are written of those that aren't at the target of a transition.
 const REPORTED: usize = 3;
 
-/// Writes a version as a line of a trace names it, a new function with its name.
+/// Writes a version as a line of a trace names it. Adds the name of a new function.
 #[derive(Clone, Copy)]
 struct Spelled<'a> {
     manager: &'a Manager,
@@ -23,30 +23,30 @@ struct Lagging<'a> {
     lag: Lag,
 }
 
-/// Writes, behind a colon, which tasks aren't at the target of the transition, and why: first those that block it. Of
-/// many, writes the first ones and counts the others. Empty if there are none.
+/// Writes a colon, and then which tasks aren't at the target of the transition, and why. The tasks that block it come
+/// first. If there are many, writes only some, and counts the others. Writes nothing if there are none.
 #[derive(Clone, Copy)]
 pub(crate) struct Holders<'a>(pub(crate) &'a Manager);
 
-/// Writes what the rules have in place of what was seen, and why.
+/// Writes what the rules have in place of a sight, and why.
 #[derive(Clone, Copy)]
 pub(crate) struct InPlaceOf<'a> {
     pub(crate) manager: &'a Manager,
     pub(crate) sight: &'a Sight,
 }
 
-/// Returns the name of a patch. A manager has a name for each patch that it knows.
+/// Returns the name of a patch. A manager knows the names of all its patches.
 fn patch_name(manager: &Manager, patch: PatchId) -> &str {
     manager.catalog().patch_name(patch).unwrap_or("a patch")
 }
 
-/// Returns the name of the patch in transition. `None` if none is.
+/// Returns the name of the patch in transition. Returns `None` if no patch is.
 pub(crate) fn moving_name(manager: &Manager) -> Option<&str> {
     let moving = manager.moving()?;
     Some(patch_name(manager, moving.patch))
 }
 
-/// Writes the symbol whose entry a site is. Writes nothing if there is none.
+/// Writes the symbol of a site. Writes nothing if the site has none.
 fn write_symbol<W: fmt::Write>(
     f: &mut fmt::Formatter<W>,
     manager: &Manager,
@@ -60,7 +60,7 @@ fn write_symbol<W: fmt::Write>(
     write!(f, ".klp.sym.{object}.{symbol},{position}")
 }
 
-/// Writes a new function of a patch, by its number and, if the patch has it, its name.
+/// Writes a new function of a patch by its number. Adds its name if the patch has such a function.
 fn write_new<W: fmt::Write>(
     f: &mut fmt::Formatter<W>,
     manager: &Manager,
@@ -118,8 +118,8 @@ fn is_moving(manager: &Manager, patch: PatchId) -> bool {
     }
 }
 
-/// Writes the lagging tasks that are blocked, or those that aren't. `before` tasks come before these. Returns how many
-/// there are in all.
+/// Writes those lagging tasks that are blocked if `is_blocked`, and otherwise those that aren't. `before` is how many
+/// tasks were counted before. Returns the count that includes these.
 fn write_lagging<W: fmt::Write>(
     f: &mut fmt::Formatter<W>,
     manager: &Manager,
@@ -153,7 +153,7 @@ impl<'a> fmt::Display for Holders<'a> {
     }
 }
 
-/// Writes the state of a task, and why the task has that state.
+/// Writes the patch state of a task, and why it is this one.
 fn write_state<W: fmt::Write>(
     f: &mut fmt::Formatter<W>,
     manager: &Manager,
@@ -177,8 +177,8 @@ fn write_state<W: fmt::Write>(
     }
 }
 
-/// Writes what the files of a patch read. If they say that the patch is in transition and the kernel's don't, also
-/// writes which tasks aren't at the target.
+/// Writes what the rules have in the files of a patch. If by the rules the patch is in transition, and the kernel
+/// didn't show that, also writes which tasks aren't at the target.
 fn write_files<W: fmt::Write>(
     f: &mut fmt::Formatter<W>,
     manager: &Manager,
@@ -205,7 +205,7 @@ fn write_files<W: fmt::Write>(
     }
 }
 
-/// Writes which version a task gets if it calls a site now, and the task's state, which decides that.
+/// Writes which version a task gets if it calls a site now, and the task's patch state, on which the version depends.
 fn write_version<W: fmt::Write>(
     f: &mut fmt::Formatter<W>,
     manager: &Manager,
@@ -233,7 +233,7 @@ fn write_version<W: fmt::Write>(
     }
 }
 
-/// Writes whether a site is hooked, and by which patches, the newest first.
+/// Writes whether a site is hooked, and which patches hook it, newest first.
 fn write_text<W: fmt::Write>(
     f: &mut fmt::Formatter<W>,
     manager: &Manager,

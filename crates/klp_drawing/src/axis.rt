@@ -1,4 +1,4 @@
-//! The numbers of lines along the drawing, or their times.
+//! The axis along the drawing: the numbers of lines, or their times.
 
 use crate::bars::Bars;
 use crate::pen::{LETTER, add_text_start, number_width};
@@ -9,16 +9,16 @@ use klp_names::Names;
 use klp_timeline::{Said, Sentence};
 use std::alloc::{AllocError, Global};
 
-/// The lines that have a number on the axis, or a time.
+/// The lines that have their number, or their time, on the axis.
 ///
-/// Not every line has room for a number. Lines are offered in this order, and a line whose place is taken gets no
-/// number. First the lines where a sentence begins or ends, from the last sentence back to the first: a reader looks
-/// for the line of a sentence, and mostly for the end of the run. Then the lines in which something changes, from left
-/// to right.
+/// There isn't room for each line. So lines are offered in a fixed order, and a line gets no number if another one is
+/// in the way. First come the lines where a sentence begins or ends, from the last sentence back to the first. A reader
+/// looks for the line of a sentence, and most of all for the end of the run. Then come the lines in which something
+/// changes, from left to right.
 #[derive(Drop)]
 pub(crate) struct Axis<'a> {
     names: &'a Names,
-    /// For each place: whether a number covers it, or the gap behind a number.
+    /// For each place, whether it is covered by a number or by the gap behind a number.
     taken: Vec<bool>,
     lines: Vec<u64>,
 }
@@ -35,7 +35,7 @@ impl<'a> Axis<'a> {
         })
     }
 
-    /// Returns how many points wide the line's number is, or its time in a drawing to scale by time.
+    /// Returns the width in points of a line's number. In a drawing to scale by time, returns that of the line's time.
     fn width_at(&self, scale: &Scale, line: u64) -> u64 {
         if !scale.is_timed() {
             return number_width(line);
@@ -44,7 +44,8 @@ impl<'a> Axis<'a> {
         number_width(seconds).saturating_add(2 * LETTER)
     }
 
-    /// Puts the number of this line on the axis, unless another number is in the way. `Err` if memory runs out.
+    /// Puts the number of this line on the axis. Does nothing if another number is in the way. `Err` if memory runs
+    /// out.
     fn offer(&mut self, scale: &Scale, line: u64) -> Result<(), AllocError> {
         let from = scale.x(line) as usize;
         let width = self.width_at(scale, line).saturating_add(LETTER);
@@ -57,8 +58,8 @@ impl<'a> Axis<'a> {
         Ok(())
     }
 
-    /// Offers the lines where the sentence begins and ends. In a drawing to scale by time a stay ends at the line
-    /// after its last one, since its duration is counted to there. `Err` if memory runs out.
+    /// Offers the lines where a sentence begins and ends. In a drawing to scale by time, a stay ends at the line after
+    /// its last one, since its duration is counted up to that line. `Err` if memory runs out.
     fn offer_sentence(&mut self, scale: &Scale, sentence: &Sentence) -> Result<(), AllocError> {
         self.offer(scale, sentence.line)?;
         match &sentence.said {
@@ -71,7 +72,7 @@ impl<'a> Axis<'a> {
         }
     }
 
-    /// Adds the number of this line, or its time in a drawing to scale by time.
+    /// Adds the number of this line. In a drawing to scale by time, adds the line's time.
     fn add_number(&self, sheet: &mut Sheet, scale: &Scale, line: u64) {
         match self.names.since_start(line) {
             Some(time) if scale.is_timed() => add_tenths(sheet, time),
@@ -79,7 +80,7 @@ impl<'a> Axis<'a> {
         }
     }
 
-    /// Adds all numbers of the axis at this height.
+    /// Adds all numbers of the axis, at the height `y`.
     pub(crate) fn add_numbers(&self, sheet: &mut Sheet, scale: &Scale, y: u64) {
         for line in &self.lines {
             add_text_start(sheet, "soft", scale.x(*line), y);
@@ -89,7 +90,7 @@ impl<'a> Axis<'a> {
     }
 }
 
-/// Adds microseconds as seconds with one decimal.
+/// Adds a time in microseconds, as seconds with one decimal.
 fn add_tenths(sheet: &mut Sheet, time: u64) {
     let (seconds, tenths) = (time / 1_000_000, time / 100_000 % 10);
     sheet.fill("{}.{}", &[Number(seconds), Number(tenths)]);

@@ -1,4 +1,4 @@
-//! Each patch and each task over time, as bars: what a drawing is made of.
+//! Bars, of which a drawing is made: what each patch and each task did over time.
 
 use crate::look::{Look, look_of_patch, look_of_task};
 use crate::scale::Scale;
@@ -9,7 +9,7 @@ use klp_timeline::{Moment, View};
 use klp_types::{MAX_PATCHES, MAX_TASKS, Mode, PatchId, TaskId};
 use std::alloc::{AllocError, Global};
 
-/// The number of lanes: one for each patch, and behind these one for each task.
+/// The number of lanes. The patches have the first ones, and the tasks those behind.
 pub(crate) const LANES: usize = MAX_PATCHES + MAX_TASKS;
 
 /// A line at which something happens to a transition, and what happens.
@@ -27,18 +27,18 @@ pub(crate) struct Bar {
     pub look: Look,
 }
 
-/// What a patch or a task has done so far.
+/// What a patch or a task did so far.
 #[derive(Clone, Copy, PartialEq, Eq)]
 enum Role {
     /// It never existed.
     Absent,
-    /// It existed, and did nothing.
+    /// It existed, and did nothing. A task is idle as long as it stays in user space.
     Idle,
     Acts,
 }
 
-/// The lane of one patch or task: its finished bars, and the look of the unfinished bar since the line `from`, if
-/// there is one.
+/// The lane of one patch or task. It has the finished bars. If there is an unfinished bar, `look` is its look, and
+/// `from` the line at which it begins.
 #[derive(Drop)]
 struct Lane {
     from: u64,
@@ -47,8 +47,8 @@ struct Lane {
     bars: Vec<Bar>,
 }
 
-/// The bars of all patches and tasks, as a run is observed line by line. A failed allocation is remembered in
-/// `is_short`, and [`Bars::close`] reports it.
+/// The bars of all patches and tasks, while a run is observed line by line. If an allocation fails, `is_short` becomes
+/// true, and [`Bars::close`] reports it.
 #[derive(Drop)]
 pub struct Bars {
     /// The lines in which a bar begins or ends, or something happens to a transition.
@@ -56,13 +56,13 @@ pub struct Bars {
     pub(crate) marks: Vec<Mark>,
     pub(crate) scale: Scale,
     lanes: Vec<Lane>,
-    /// Whether the transition that goes on was forced.
+    /// Whether the transition under way was forced.
     is_forced: bool,
     is_short: bool,
 }
 
 impl Lane {
-    /// Returns a lane without bars, of something that never existed.
+    /// Returns a lane without bars, for a patch or task that hasn't existed yet.
     fn new(alloc: Global) -> Lane {
         Lane {
             from: 0,
@@ -72,8 +72,8 @@ impl Lane {
         }
     }
 
-    /// Ends the lane's bar at this line, if there is one, and begins another with this look. `None` begins no bar:
-    /// from this line on the lane is empty. `Err` if memory runs out.
+    /// Ends the lane's unfinished bar at this line, if there is one, and begins a bar with this look. If `look` is
+    /// `None`, the lane is empty from this line on. `Err` if memory runs out.
     fn begin(&mut self, line: u64, look: Option<Look>) -> Result<(), AllocError> {
         self.role = match look {
             Some(look) if look.mode != Mode::User => Role::Acts,
@@ -95,7 +95,7 @@ impl Lane {
 }
 
 impl Bars {
-    /// Returns the bars of a run before its first line. Takes no memory.
+    /// Returns the bars of a run before its first line. Allocates nothing.
     pub fn new(alloc: Global) -> Bars {
         Bars {
             changed: Vec::new(alloc),
@@ -124,12 +124,12 @@ impl Bars {
         }
     }
 
-    /// Whether the lane is drawn: its patch was installed, or its task entered the kernel.
+    /// Whether the lane is drawn. It is if its patch was ever installed, or if its task ever entered the kernel.
     pub(crate) fn acts(&self, number: usize) -> bool {
         self.role(number) == Role::Acts
     }
 
-    /// Whether the lane's task existed and never entered the kernel. Such tasks are listed, not drawn.
+    /// Whether the lane's task existed, but never entered the kernel. Such tasks are listed below the lanes.
     pub(crate) fn is_idle(&self, number: usize) -> bool {
         self.role(number) == Role::Idle
     }
@@ -142,7 +142,7 @@ impl Bars {
         }
     }
 
-    /// Gives a lane a new look from this line on, if its look differs. Returns whether it does.
+    /// Gives a lane this look from this line on. Returns whether the lane had another look before.
     fn turn(&mut self, number: usize, line: u64, look: Option<Look>) -> bool {
         let Some(lane) = self.lanes.get_mut(number) else {
             return false;
@@ -155,7 +155,8 @@ impl Bars {
         true
     }
 
-    /// Marks this line with what happens to the transition, if anything does. Returns whether it does.
+    /// Adds a mark at this line for what happened to the transition. If `sign` is `None`, nothing did: adds no mark,
+    /// and returns false. Otherwise returns true.
     fn mark(&mut self, line: u64, sign: Option<Sign>) -> bool {
         let Some(sign) = sign else {
             return false;
@@ -165,7 +166,7 @@ impl Bars {
         true
     }
 
-    /// Gives each patch its look after this line. Returns whether a look changed.
+    /// Gives each patch the look that it has after this line. Returns whether a look changed.
     fn turn_patches(&mut self, line: u64, view: &View) -> bool {
         let mut is_changed = false;
         for number in 0..MAX_PATCHES {
@@ -176,7 +177,7 @@ impl Bars {
         is_changed
     }
 
-    /// Gives each task its look after this line. Returns whether a look changed.
+    /// Gives each task the look that it has after this line. Returns whether a look changed.
     fn turn_tasks(&mut self, line: u64, view: &View, manager: &Manager) -> bool {
         let mut is_changed = false;
         for number in 0..MAX_TASKS {
@@ -186,7 +187,7 @@ impl Bars {
         is_changed
     }
 
-    /// Updates the bars with the state after a line. Call this for each line whose event was taken or undone; other
+    /// Updates the bars with the state after a line. Call this for each line that did an event or undid some. Other
     /// lines change no bar.
     pub fn see(&mut self, line: u64, before: &View, moment: &Moment, manager: &Manager) {
         let view = &moment.view;
@@ -200,8 +201,9 @@ impl Bars {
         }
     }
 
-    /// Ends all bars after the last line, and computes where each line is drawn: to scale by time if all lines that
-    /// change something have a time, else by line numbers. `Err` if memory runs out, or ran out before.
+    /// Ends all bars behind the last line, and computes where each line is drawn. The drawing is to scale by time if
+    /// each line that changes something has a time. Otherwise it goes by line numbers. `Err` if memory runs out, or ran
+    /// out before.
     pub fn close(&mut self, lines: u64, names: &Names) -> Result<(), AllocError> {
         for number in 0..LANES {
             self.turn(number, lines.saturating_add(1), None);

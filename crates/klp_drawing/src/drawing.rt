@@ -22,7 +22,7 @@ use std::alloc::{AllocError, Global};
 /// The width of a sign and of the gap behind it, in points.
 const SIGN: u64 = 12;
 
-/// All that the parts of the drawing need: what is drawn, and where.
+/// All that the parts of the drawing need: what is drawn and where it is drawn.
 #[derive(Drop)]
 struct Board<'a> {
     names: &'a Names,
@@ -35,8 +35,8 @@ struct Board<'a> {
     width: u64,
 }
 
-/// Returns the places where marks are drawn, from left to right. A mark whose sign would cover the sign before it is
-/// left out. `Err` if memory runs out.
+/// Returns the places of the marks that are drawn, from left to right. A mark is left out if its sign would cover the
+/// one before. `Err` if memory runs out.
 fn places_of_marks(alloc: Global, bars: &Bars) -> Result<Vec<u64>, AllocError> {
     let mut places = Vec::new(alloc);
     let mut free = 0;
@@ -50,8 +50,8 @@ fn places_of_marks(alloc: Global, bars: &Bars) -> Result<Vec<u64>, AllocError> {
     Ok(places)
 }
 
-/// Adds the signs of the marks, except those that would cover the sign before them. A sign has the number of its line
-/// beside it, if there is room up to the next sign and the drawing isn't to scale by time.
+/// Adds the signs of the marks, except for those that would cover the sign before. Beside a sign stands the number of
+/// its line, if there is room up to the next sign, and if the drawing isn't to scale by time.
 fn add_signs(sheet: &mut Sheet, bars: &Bars) {
     let mut free = 0;
     for (number, mark) in bars.marks.iter().enumerate() {
@@ -74,8 +74,8 @@ fn add_signs(sheet: &mut Sheet, bars: &Bars) {
     }
 }
 
-/// Adds the definition that all lanes share for their marks: a dotted line at each of these places, down through the
-/// lane.
+/// Adds the definition of the marks, which all lanes share. At each of these places, it is a dotted line through the
+/// whole height of a lane.
 fn add_marks(sheet: &mut Sheet, places: &[u64]) {
     sheet.markup("<g id=marks><path class=mark d=\"M0 0");
     for x in places {
@@ -84,7 +84,7 @@ fn add_marks(sheet: &mut Sheet, places: &[u64]) {
     sheet.markup("\"/></g>");
 }
 
-/// Adds the definition that all lanes share for their cuts: a gap between two zigzags.
+/// Adds the definition of the cuts, which all lanes share. A cut is a gap between two zigzags.
 fn add_cuts(sheet: &mut Sheet, bars: &Bars) {
     sheet.markup("<g id=cuts>");
     for x in &bars.scale.cuts {
@@ -111,7 +111,7 @@ fn add_head(sheet: &mut Sheet, board: &Board<'_>, marks: &[u64]) {
     sheet.markup("</svg></td></tr></thead>");
 }
 
-/// Ends the table, with the axis once more below the last lane.
+/// Ends the table. Below the last lane, adds the axis once more.
 fn add_foot(sheet: &mut Sheet, board: &Board<'_>) {
     sheet.fill(
         "<tfoot><tr><th></th><td><svg width=\"{}\" height=\"18\" aria-hidden=true>",
@@ -121,7 +121,7 @@ fn add_foot(sheet: &mut Sheet, board: &Board<'_>) {
     sheet.markup("</svg></td></tr></tfoot></table></div>\n");
 }
 
-/// Returns the task whose lane this is. The first task's lane is behind those of the patches.
+/// Returns the task that has this lane. The lanes of tasks follow those of patches.
 fn task_in(lane: usize) -> TaskId {
     TaskId((lane.saturating_sub(MAX_PATCHES)).min(255) as u8)
 }
@@ -138,8 +138,8 @@ fn add_name(sheet: &mut Sheet, names: &Names, manager: &Manager, lane: usize) {
     }
 }
 
-/// Adds the table row of a patch or a task. What is drawn later covers what is drawn earlier: first marks, then bars,
-/// stays, cuts, and last all words. `Err` if memory runs out.
+/// Adds the table row of a patch or a task. What is drawn later covers what was drawn before, so the order is: marks,
+/// bars, stays, cuts, and all words. `Err` if memory runs out.
 fn add_lane(
     alloc: Global,
     sheet: &mut Sheet,
@@ -175,8 +175,8 @@ fn add_lane(
     Ok(())
 }
 
-/// Adds the note below the drawing: what the numbers of the axis are, what a zigzag is, and which bar is drawn of
-/// several at one point.
+/// Adds the note below the drawing. It explains the numbers of the axis and the zigzags. If one point shows several
+/// lines, it also says which of their bars is drawn.
 fn add_note(sheet: &mut Sheet, bars: &Bars) {
     let (numbers, cut) = if bars.scale.is_timed() {
         (
@@ -201,8 +201,8 @@ fn add_note(sheet: &mut Sheet, bars: &Bars) {
     sheet.markup("</p>\n");
 }
 
-/// Adds the drawing of a run, with its legend. Each stay links to its sentence, `#stay-LINE-TASK`. If the page leaves
-/// that sentence out, the stay links to its first line, `#line-LINE`. `Err` if memory runs out.
+/// Adds the drawing of a run, and its legend. Each stay links to its sentence, `#stay-LINE-TASK`. If the page leaves
+/// out that sentence, the stay links to the line where it begins, `#line-LINE`. `Err` if memory runs out.
 pub fn add_drawing(
     alloc: Global,
     sheet: &mut Sheet,

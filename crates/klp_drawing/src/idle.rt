@@ -1,4 +1,4 @@
-//! The tasks that do nothing, which have one line in the drawing for them all.
+//! The tasks that do nothing. They share one line of the drawing.
 
 use crate::bars::Bars;
 use klp_markup::Sheet;
@@ -10,7 +10,7 @@ fn is_idle(bars: &Bars, task: usize) -> bool {
     bars.is_idle(MAX_PATCHES.saturating_add(task))
 }
 
-/// Returns how many tasks in a row are idle, from this one on.
+/// Returns how many successive tasks are idle, beginning with this one.
 fn run_from(bars: &Bars, task: usize) -> usize {
     let mut count = 0usize;
     for other in task..MAX_TASKS {
@@ -39,7 +39,7 @@ fn add_numbers(sheet: &mut Sheet, bars: &Bars) {
     }
 }
 
-/// Adds a table row that says how many tasks are idle, and which. Adds nothing if none is.
+/// Adds a table row that says how many tasks are idle, and which. Adds nothing if there are none.
 pub(crate) fn add_idle(sheet: &mut Sheet, bars: &Bars) {
     let mut count = 0u64;
     for task in 0..MAX_TASKS {

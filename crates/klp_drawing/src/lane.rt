@@ -1,4 +1,4 @@
-//! A lane: the bars of a patch or a task, and what they say.
+//! A lane: the bars of a patch or a task, and the words on the bars.
 
 use crate::look::{Look, Shade, class_of, height_of, mode_word, shade_word};
 use crate::pen::{Area, BAR, TOP, add_rect, add_text_start};
@@ -7,7 +7,7 @@ use crate::words::{Stop, free_place, width_of};
 use klp_markup::Sheet;
 use klp_markup::Value::Markup;
 
-/// Returns the rectangle of a strip, which stands on the bottom of its lane.
+/// Returns the rectangle of a strip. Its lower end is the same for all strips of a lane.
 fn area_of(strip: &Strip) -> Area {
     let height = height_of(strip.look);
     Area {
@@ -18,8 +18,8 @@ fn area_of(strip: &Strip) -> Area {
     }
 }
 
-/// Adds the bars of a lane, each in the class of its shade. A bar with a border is drawn one point smaller on each
-/// side, so that its border is inside of its place.
+/// Adds the bars of a lane, each with the CSS class of its shade. A bar with a border is one point smaller on each
+/// side, so that the border doesn't extend beyond the bar's place.
 pub(crate) fn add_bars(sheet: &mut Sheet, strips: &[Strip]) {
     for strip in strips {
         let area = area_of(strip);
@@ -32,7 +32,8 @@ pub(crate) fn add_bars(sheet: &mut Sheet, strips: &[Strip]) {
     }
 }
 
-/// Returns the words of a bar, in three parts: the shade, a comma if both others are there, and for a task its mode.
+/// Returns the words of a bar in three parts: its shade, a comma, and for a task its mode. The shade or the mode may be
+/// empty, and then the comma is too.
 fn words_of(look: Look, is_task: bool) -> [&'static str; 3] {
     let shade = shade_word(look.shade);
     let mode = if is_task { mode_word(look.mode) } else { "" };
@@ -44,7 +45,7 @@ fn words_of(look: Look, is_task: bool) -> [&'static str; 3] {
     [shade, join, mode]
 }
 
-/// Returns the class and the height of a bar's words: above a bar that is too thin for words, else on the bar.
+/// Returns the CSS class and the height of a bar's words. If the bar is too thin for words, they stand above it.
 fn place_of_words(shade: Shade, area: Area) -> (&'static str, u64) {
     let below = area.y.saturating_add(area.height);
     match area.height {
@@ -54,7 +55,7 @@ fn place_of_words(shade: Shade, area: Area) -> (&'static str, u64) {
     }
 }
 
-/// Adds these words to a bar, if there is room for them. Returns whether there is.
+/// Adds these words to a bar if there is room for them. Returns whether there is room.
 fn add_some(sheet: &mut Sheet, strip: &Strip, stops: &[Stop], words: &[&'static str]) -> bool {
     let mut letters = 0usize;
     for word in words {
@@ -75,8 +76,8 @@ fn add_some(sheet: &mut Sheet, strip: &Strip, stops: &[Stop], words: &[&'static 
     true
 }
 
-/// Adds to each bar its words, or the first of them if there is no room for all. A bar of a task with a stay gets no
-/// words, since the stay has a label.
+/// Adds to each bar its words. If there isn't room for all of them, adds the first part alone. If the bar is a task's
+/// with a stay that has a label, adds no words.
 pub(crate) fn add_words(sheet: &mut Sheet, strips: &[Strip], stops: &[Stop], is_task: bool) {
     for strip in strips {
         if strip.look.is_shown {

@@ -1,14 +1,14 @@
-//! The drawing of a run: each patch and each task that does something, over the lines of the script.
+//! The drawing of a run: a bar for each patch, and for each task that does something, along the lines of the script.
 //!
-//! [`Bars`] looks at the patches and tasks after each line ([`Bars::see`]), and [`add_drawing`] draws what it saw,
-//! with the sleepers of the sentences that are said of the run. Lines are to scale, by their times if these are
-//! known, else each as wide as another. Long stretches in which nothing changes are cut with a mark. What comes from
-//! the catalog is escaped, as all on a `Sheet` is; the rest is layout, and has no contract.
+//! [`Bars`] looks at the patches and tasks after each line ([`Bars::see`]). [`add_drawing`] draws what was seen, and
+//! the stays that sentences about the run report. The drawing is to scale by time if the times of lines are known.
+//! Otherwise all lines have the same width. Long stretches in which nothing changes are cut, and the cut is marked. All
+//! text from the catalog is escaped, as everything on a `Sheet` is. The rest is layout, and has no contract.
 //!
-//! It is a table with a row for each lane, so that a name may take several lines, and a print splits no lane between
-//! pages. Hatching and an outline in black and white show who holds a transition up, whatever the colours are.
-//! [`STYLE`] is what a page's style needs for it, over the page's own colours `--paper`, `--ink`, `--soft`, `--rule`,
-//! `--card` and `--focus`.
+//! The drawing is a table with a row for each lane. So a name may take several lines of text, and in print no lane is
+//! split between pages. Who holds a transition up is shown by hatching, with an outline in black and white, so it shows
+//! in any colours. [`STYLE`] is the part of a page's style that the drawing needs. It uses the page's own colours
+//! `--paper`, `--ink`, `--soft`, `--rule`, `--card` and `--focus`.
 #![tactic(auto)]
 
 mod axis;

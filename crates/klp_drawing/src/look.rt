@@ -1,4 +1,4 @@
-//! What patches and tasks look like after a line.
+//! How patches and tasks look after a line.
 
 use klp_core::Manager;
 use klp_timeline::{Stay, View};
@@ -7,11 +7,11 @@ use klp_types::{Mode, PatchId, TaskId};
 /// The colour of a bar: which version a task runs, or what state a patch is in.
 #[derive(Clone, Copy, PartialEq, Eq)]
 pub(crate) enum Shade {
-    /// The task is in no transition.
+    /// There is no transition for the task.
     Rest,
-    /// The task doesn't run the patch in transition.
+    /// The task runs without the patch in transition: its patch state is 0.
     Old,
-    /// The task runs the patch in transition.
+    /// The task runs with the patch in transition: its patch state is 1.
     New,
     Patching,
     Unpatching,
@@ -20,12 +20,13 @@ pub(crate) enum Shade {
     Gone,
 }
 
-/// How a bar is drawn. A patch has the height of a task in the kernel.
+/// How a bar is drawn. The bar of a patch is as high as that of a task in the kernel.
 #[derive(Clone, Copy, PartialEq, Eq)]
 pub(crate) struct Look {
     pub shade: Shade,
     pub mode: Mode,
-    /// Whether a sentence reports this stay of the task. Then the stay has a label, and the bar gets no words.
+    /// Whether the bar is part of a stay of the task, which a sentence reports. The stay has a label, so the bar gets
+    /// no words.
     pub is_shown: bool,
 }
 
@@ -44,7 +45,7 @@ pub(crate) fn look_of_task(manager: &Manager, task: TaskId, stay: &Option<Stay>)
     })
 }
 
-/// Returns the shade of an installed patch. `is_forced` says whether the transition under way was forced.
+/// Returns the shade of an installed patch. `is_forced` is whether the transition under way was forced.
 fn shade_of_patch(view: &View, patch: PatchId, is_forced: bool) -> Shade {
     match view.moving {
         Some(moving) if moving.patch != patch => Shade::Enabled,
@@ -55,8 +56,8 @@ fn shade_of_patch(view: &View, patch: PatchId, is_forced: bool) -> Shade {
     }
 }
 
-/// Returns the look of a patch. `None` if it isn't installed and never was. `is_forced` says whether the transition
-/// under way was forced, `was_there` whether the patch was installed before.
+/// Returns the look of a patch. `is_forced` is whether the transition under way was forced, and `was_there` whether the
+/// patch was installed at an earlier line. Returns `None` if the patch isn't installed and never was.
 pub(crate) fn look_of_patch(
     view: &View,
     patch: PatchId,
@@ -77,8 +78,8 @@ pub(crate) fn look_of_patch(
     })
 }
 
-/// Returns the height of a bar in points. A task in the kernel has the highest bar, a sleeper a lower one, and a task
-/// in user space the lowest.
+/// Returns the height of a bar in points. A task in the kernel has the highest bar, and a task in user space the
+/// lowest. That of a sleeper is between them.
 pub(crate) fn height_of(look: Look) -> u64 {
     match look.mode {
         _ if look.shade == Shade::Gone => 2,
@@ -102,7 +103,7 @@ pub(crate) fn class_of(shade: Shade) -> &'static str {
     }
 }
 
-/// Returns the word that a bar of this shade has on it.
+/// Returns the word for this shade, which stands on bars.
 pub(crate) fn shade_word(shade: Shade) -> &'static str {
     match shade {
         Shade::Rest => "",
@@ -116,7 +117,7 @@ pub(crate) fn shade_word(shade: Shade) -> &'static str {
     }
 }
 
-/// Returns the word that a task's bar has on it in this mode.
+/// Returns the word for this mode, which stands on a task's bars.
 pub(crate) fn mode_word(mode: Mode) -> &'static str {
     match mode {
         Mode::User => "",

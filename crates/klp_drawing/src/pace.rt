@@ -1,24 +1,24 @@
-//! From times to places in the drawing.
+//! Turns times into places in the drawing.
 
 use crate::scale::{COST, CUT, WIDTH};
 use klp_names::Names;
 use std::alloc::{AllocError, Global};
 
-/// A stretch is cut if it is this many times as long as all shorter stretches together.
+/// A stretch is cut if it is more than this many times as long as all shorter stretches together.
 const LONG: u64 = 12;
 
-/// No stretch is cut until the shorter ones together last this long, in microseconds.
+/// No stretch is cut unless the shorter ones together last at least this long, in microseconds.
 const SECOND: u64 = 1_000_000;
 
 /// A stretch of time in which nothing changes.
 #[derive(Clone, Copy)]
 struct Stretch {
-    /// How long the stretch is, and how much of it is drawn, in microseconds.
+    /// How long the stretch is, in microseconds. `drawn` is how much of it is drawn.
     length: u64,
     drawn: u64,
-    /// When the stretch ends, in microseconds since the first time.
+    /// The time at which the stretch ends, in microseconds since the first time.
     end: u64,
-    /// The left end of the stretch in the drawing, and its width.
+    /// The left end of the stretch in the drawing. `width` is its width there.
     x: u64,
     width: u64,
 }
@@ -29,7 +29,7 @@ impl Stretch {
         self.drawn < self.length
     }
 
-    /// Returns where a time within this stretch is drawn. Times in the part that is cut out are at the cut.
+    /// Returns where a time within this stretch is drawn. All times in the part that was cut out are at the cut.
     fn place_of(&self, time: u64) -> u64 {
         let begin = self.end.saturating_sub(self.length);
         let drawn = time.saturating_sub(begin).min(self.drawn);
@@ -38,22 +38,22 @@ impl Stretch {
     }
 }
 
-/// The scale of a drawing by time: the stretches of the run in order, and the left end of each cut.
+/// The scale of a drawing by time. It has the stretches of the run in order, and the left end of each cut.
 #[derive(Drop)]
 pub(crate) struct Pace {
     stretches: Vec<Stretch>,
     pub cuts: Vec<u64>,
 }
 
-/// The stretches that are left in a search for rising times.
+/// A search for the places of rising times. It has the stretches that aren't passed yet.
 #[derive(Drop)]
 pub(crate) struct Steps<'a> {
     rest: &'a [Stretch],
 }
 
 impl<'a> Steps<'a> {
-    /// Returns where a time is drawn. Ask for times in rising order: stretches that ended before an earlier call's
-    /// time are forgotten.
+    /// Returns where a time is drawn. The times of successive calls must rise, since each call forgets the stretches
+    /// that ended before its time.
     pub(crate) fn place_of(&mut self, time: u64) -> u64 {
         while let [first, rest @ ..] = self.rest {
             if time < first.end || rest.is_empty() {
@@ -66,14 +66,14 @@ impl<'a> Steps<'a> {
 }
 
 impl Pace {
-    /// Begins a search for rising times.
+    /// Begins a search for the places of rising times.
     pub(crate) fn steps(&self) -> Steps<'_> {
         Steps {
             rest: &self.stretches,
         }
     }
 
-    /// Computes the place and the width of each stretch, so that all together are as wide as a drawing. `Err` if
+    /// Computes the place and the width of each stretch. All stretches together are as wide as a drawing. `Err` if
     /// memory runs out.
     fn place(&mut self) -> Result<(), AllocError> {
         let (mut all, mut cuts) = (0u64, 0u64);
@@ -99,7 +99,7 @@ impl Pace {
         Ok(())
     }
 
-    /// Cuts each stretch that is longer than this: half of that length is drawn.
+    /// Cuts each stretch that is longer than `longest`. Of such a stretch, half of that length is drawn.
     fn cut(&mut self, longest: u64) {
         for stretch in &mut self.stretches {
             if stretch.length > longest {
@@ -109,7 +109,8 @@ impl Pace {
     }
 }
 
-/// Returns the length of the longest stretch that is drawn whole; `u64::MAX` if none is cut. `Err` if memory runs out.
+/// Returns the length of the longest stretch that is drawn whole. Returns `u64::MAX` if no stretch is cut. `Err` if
+/// memory runs out.
 fn longest_of(alloc: Global, stretches: &[Stretch]) -> Result<u64, AllocError> {
     let mut lengths = Vec::new(alloc);
     for stretch in stretches {
@@ -127,7 +128,7 @@ fn longest_of(alloc: Global, stretches: &[Stretch]) -> Result<u64, AllocError> {
     Ok(u64::MAX)
 }
 
-/// Adds the stretch between two times. Returns its end. `Err` if memory runs out.
+/// Adds the stretch between two times. Returns the time at which it ends. `Err` if memory runs out.
 fn add_stretch(stretches: &mut Vec<Stretch>, begin: u64, end: u64) -> Result<u64, AllocError> {
     let length = end.saturating_sub(begin);
     stretches.push(Stretch {
@@ -140,8 +141,8 @@ fn add_stretch(stretches: &mut Vec<Stretch>, begin: u64, end: u64) -> Result<u64
     Ok(end)
 }
 
-/// Returns the stretches between the lines that change something, and from the last of these to the end of the run. At
-/// a line without a time the list ends. `Err` if memory runs out.
+/// Returns the stretches between the lines that change something, and the one from the last such line to the end of the
+/// run. If a line has no time, the list ends before it. `Err` if memory runs out.
 fn stretches_of(
     alloc: Global,
     changed: &[u64],
@@ -162,8 +163,8 @@ fn stretches_of(
     Ok(stretches)
 }
 
-/// Returns the scale by time of a run with this many lines, of which the lines in `changed` change something. `None`
-/// if one of those has no time, or if all times are the same. `Err` if memory runs out.
+/// Returns the scale by time of a run with `lines` lines, of which those in `changed` change something. Returns `None`
+/// if one of the latter has no time, or if no time passes. `Err` if memory runs out.
 pub(crate) fn pace_of(
     alloc: Global,
     changed: &[u64],

@@ -1,4 +1,4 @@
-//! What a lane is drawn with: rectangles and words.
+//! Draws the parts of a lane: rectangles and words.
 
 use klp_markup::Sheet;
 use klp_markup::Value::{Markup, Number};
@@ -6,18 +6,18 @@ use klp_markup::Value::{Markup, Number};
 /// The height of a lane in points.
 pub(crate) const LANE: u64 = 26;
 
-/// The upper end of the highest bar in its lane, and its height.
+/// The upper end of the highest bar in its lane. `BAR` is the height of that bar.
 pub(crate) const TOP: u64 = 3;
 
 pub(crate) const BAR: u64 = 20;
 
-/// The room behind the right end of a lane.
+/// The width that is left free behind the right end of a lane.
 pub(crate) const MARGIN: u64 = 44;
 
-/// The largest width of a letter.
+/// The width of the widest letter.
 pub(crate) const LETTER: u64 = 8;
 
-/// A rectangle: its left and upper end, its width and its height.
+/// A rectangle: its left end, its upper end, its width and its height.
 #[derive(Clone, Copy)]
 pub(crate) struct Area {
     pub x: u64,
@@ -27,7 +27,7 @@ pub(crate) struct Area {
 }
 
 impl Area {
-    /// Returns the rectangle that is smaller by this margin on each side.
+    /// Returns the rectangle that lies inside of this one, with this margin on each side.
     pub(crate) fn inside(self, margin: u64) -> Area {
         Area {
             x: self.x.saturating_add(margin),
@@ -50,12 +50,12 @@ pub(crate) fn digits(number: u64) -> usize {
     }
 }
 
-/// Returns the largest width of a number in the drawing.
+/// Returns the width that a number may have in the drawing.
 pub(crate) fn number_width(number: u64) -> u64 {
     (digits(number) as u64).saturating_mul(LETTER)
 }
 
-/// Adds a rectangle of this class.
+/// Adds a rectangle with this CSS class.
 pub(crate) fn add_rect(sheet: &mut Sheet, class: &'static str, area: Area) {
     sheet.fill(
         "<rect class={} x=\"{}\" y=\"{}\" width=\"{}\" height=\"{}\"/>",
@@ -69,7 +69,7 @@ pub(crate) fn add_rect(sheet: &mut Sheet, class: &'static str, area: Area) {
     );
 }
 
-/// Begins a text at this place. Its words and `</text>` follow.
+/// Begins a text at this place. The caller adds the words and `</text>`.
 pub(crate) fn add_text_start(sheet: &mut Sheet, class: &'static str, x: u64, y: u64) {
     sheet.fill(
         "<text class={} x=\"{}\" y=\"{}\">",

@@ -1,25 +1,25 @@
-//! From the lines of a run to places in the drawing.
+//! Turns the lines of a run into places in the drawing.
 
 use crate::pace::{Pace, pace_of};
 use klp_names::Names;
 use std::alloc::{AllocError, Global};
 
-/// The largest number of unchanging lines that is never cut.
+/// A stretch of at most this many unchanging lines is never cut.
 const FEWEST_IDLE: u64 = 12;
 
-/// How many lines of a cut stretch are drawn, all in front of the cut.
+/// How many lines of a cut stretch are drawn. All of them are in front of the cut.
 const KEPT: u64 = 4;
 
 /// The width of a cut in points.
 pub(crate) const CUT: u64 = 12;
 
-/// How much width each cut counts for when cuts are compared with narrower lines.
+/// The width that a cut counts for when a drawing with cuts is compared with one whose lines are narrower.
 pub(crate) const COST: u64 = 40;
 
-/// The width that shows the state after the last line, in a drawing to scale by time.
+/// The width that shows the state after the last line. Only a drawing to scale by time has it.
 const TAIL: u64 = 30;
 
-/// The largest width of a line, and of all lines together. The latter is the width of a sheet of paper at a readable
+/// The largest width of one line. `WIDTH` is the largest of all lines together: that of a sheet of paper at a readable
 /// size.
 const LINE: u64 = 40;
 
@@ -28,26 +28,26 @@ pub(crate) const WIDTH: u64 = 780;
 /// The left end of the first line.
 const LEFT: u64 = 6;
 
-/// The places of lines in the drawing. In a drawing to scale by time a line is where its time is. Else all lines have
-/// the same width. A long stretch in which nothing changes is cut.
+/// The places of lines in the drawing. In a drawing to scale by time, each line is at its time. Otherwise all lines
+/// have the same width. A long stretch in which nothing changes is cut.
 #[derive(Drop)]
 pub(crate) struct Scale {
-    /// For each line, from 0 on: its left end.
+    /// The left end of each line, with that of line 0 first.
     places: Vec<u64>,
     /// The left end of each cut.
     pub cuts: Vec<u64>,
     /// The right end of the last line.
     end: u64,
-    /// The largest number of lines in a stretch that is drawn whole.
+    /// A stretch with more lines than this is cut.
     max_idle: u64,
-    /// How many lines are drawn, and the width of all of them together.
+    /// How many lines are drawn. `width` is the width of all these lines together.
     drawn: u64,
     width: u64,
     /// Whether the drawing is to scale by time.
     is_timed: bool,
 }
 
-/// Returns how many lines of a stretch are drawn, if stretches of more than `max_idle` lines are cut.
+/// Returns how many lines of a stretch are drawn. A stretch of more than `max_idle` lines is cut.
 fn drawn_of(lines: u64, max_idle: u64) -> u64 {
     if lines > max_idle { KEPT } else { lines }
 }
@@ -60,7 +60,7 @@ struct Extent {
 }
 
 impl Extent {
-    /// Returns the extent with one more stretch of this many lines.
+    /// Returns the extent after one more stretch, which has `lines` lines. It is cut if these are more than `max_idle`.
     fn with(self, lines: u64, max_idle: u64) -> Extent {
         let is_cut = lines > max_idle;
         Extent {
@@ -69,20 +69,20 @@ impl Extent {
         }
     }
 
-    /// Returns the width of all drawn lines together, if each cut takes `cost` points from them.
+    /// Returns the width of all drawn lines together. Each cut leaves `cost` points less for them.
     fn width(self, cost: u64) -> u64 {
         let room = WIDTH.saturating_sub(self.cuts.saturating_mul(cost));
         self.drawn.saturating_mul(LINE).min(room)
     }
 
-    /// Returns the width of one line in millionths of a point, to compare extents by.
+    /// Returns the width of one line, in millionths of a point, so that extents can be compared.
     fn line_width(self) -> u64 {
         self.width(COST).saturating_mul(1_000_000) / self.drawn.max(1)
     }
 }
 
-/// Returns the extent of a run with this many lines, of which the lines in `changed` change something, if stretches of
-/// more than `max_idle` lines are cut.
+/// Returns the extent of a run with `lines` lines, of which those in `changed` change something. Stretches of more than
+/// `max_idle` lines are cut.
 fn extent_of(changed: &[u64], lines: u64, max_idle: u64) -> Extent {
     let mut extent = Extent { drawn: 0, cuts: 0 };
     let mut from = 1;
@@ -93,8 +93,9 @@ fn extent_of(changed: &[u64], lines: u64, max_idle: u64) -> Extent {
     extent.with(lines.saturating_add(1).saturating_sub(from), max_idle)
 }
 
-/// Returns the largest number of lines in a stretch that is drawn whole. It tries the powers of two from
-/// [`FEWEST_IDLE`] on, and picks the number that makes lines widest. If no cut makes lines wider, no stretch is cut.
+/// Returns the largest number of lines in a stretch that isn't cut. Tries [`FEWEST_IDLE`], and then the double of it
+/// again and again. Of these, takes the number that makes lines widest. If no cut makes lines wider, returns a number
+/// for which no stretch is cut.
 fn max_idle_of(changed: &[u64], lines: u64) -> u64 {
     let mut max_idle = lines.max(FEWEST_IDLE);
     let mut widest = extent_of(changed, lines, max_idle).line_width();
@@ -113,7 +114,7 @@ fn max_idle_of(changed: &[u64], lines: u64) -> u64 {
 }
 
 impl Scale {
-    /// Returns a scale without lines. Takes no memory.
+    /// Returns a scale without lines. Allocates nothing.
     pub(crate) fn new(alloc: Global) -> Scale {
         Scale {
             places: Vec::new(alloc),
@@ -126,8 +127,8 @@ impl Scale {
         }
     }
 
-    /// Computes the places of this many lines, of which the lines in `changed` change something. `Err` if memory runs
-    /// out.
+    /// Computes the places of all lines of a run with `lines` lines, of which those in `changed` change something.
+    /// `Err` if memory runs out.
     pub(crate) fn measure(
         &mut self,
         changed: &[u64],
@@ -141,8 +142,7 @@ impl Scale {
         }
     }
 
-    /// Puts each line where its time is. A line without a time is at the place of the line before it. `Err` if memory
-    /// runs out.
+    /// Puts each line at its time. A line without a time gets the place of the line before. `Err` if memory runs out.
     fn place_by_time(&mut self, pace: &Pace, lines: u64, names: &Names) -> Result<(), AllocError> {
         self.is_timed = true;
         let mut steps = pace.steps();
@@ -161,7 +161,7 @@ impl Scale {
         Ok(())
     }
 
-    /// Puts the lines side by side, each with the same width. `Err` if memory runs out.
+    /// Puts the lines side by side. All have the same width. `Err` if memory runs out.
     fn place_by_lines(&mut self, changed: &[u64], lines: u64) -> Result<(), AllocError> {
         self.max_idle = max_idle_of(changed, lines);
         let extent = extent_of(changed, lines, self.max_idle);
@@ -170,7 +170,7 @@ impl Scale {
         self.place(changed, lines)
     }
 
-    /// Puts the lines side by side, once their width is known. `Err` if memory runs out.
+    /// Puts the lines side by side. Their width must be known. `Err` if memory runs out.
     fn place(&mut self, changed: &[u64], lines: u64) -> Result<(), AllocError> {
         let (mut from, mut drawn) = (1, 0);
         self.places.push(LEFT)?;
@@ -184,9 +184,9 @@ impl Scale {
         Ok(())
     }
 
-    /// Puts the next `lines` lines in their places, if `before` lines are drawn to their left. Of more than `max_idle`
-    /// lines only the first [`KEPT`] are drawn, and the others are all at the cut. Returns how many lines are drawn so
-    /// far, these included. `Err` if memory runs out.
+    /// Gives the next `lines` lines their places, behind the `before` lines that are drawn already. If there are more
+    /// than `max_idle`, draws only the first [`KEPT`], and puts all others at the cut. Returns how many lines are now
+    /// drawn. `Err` if memory runs out.
     fn place_stretch(&mut self, lines: u64, before: u64) -> Result<u64, AllocError> {
         let drawn = drawn_of(lines, self.max_idle);
         for number in 0..lines {
@@ -201,14 +201,14 @@ impl Scale {
         Ok(drawn_so_far)
     }
 
-    /// Returns the place behind this many drawn lines and behind all cuts so far.
+    /// Returns the place behind `drawn` lines and behind all cuts that were made so far.
     fn x_of(&self, drawn: u64) -> u64 {
         let cuts = (self.cuts.len() as u64).saturating_mul(CUT);
         let lines = drawn.saturating_mul(self.width) / self.drawn.max(1);
         LEFT.saturating_add(cuts).saturating_add(lines)
     }
 
-    /// Returns the left end of a line. A line behind the last one begins where the run ends.
+    /// Returns the left end of a line. If the line is behind the last one, returns the right end of the run.
     pub(crate) fn x(&self, line: u64) -> u64 {
         match self.places.get(line as usize) {
             Some(place) => *place,
@@ -221,7 +221,7 @@ impl Scale {
         self.end
     }
 
-    /// Whether a line is narrower than a point, so that one point shows several lines.
+    /// Whether lines are narrower than a point, so that one point shows several lines.
     pub(crate) fn is_coarse(&self) -> bool {
         self.drawn > self.width
     }

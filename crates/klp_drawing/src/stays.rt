@@ -1,4 +1,4 @@
-//! Who holds a transition up, or sleeps in code that isn't called now, in the lanes of the drawing.
+//! The stays in the lanes of the drawing: tasks that hold a transition up, or sleep in code that isn't called now.
 
 use crate::pen::{Area, BAR, MARGIN, TOP, add_rect, add_text_start, digits};
 use crate::scale::Scale;
@@ -11,42 +11,42 @@ use klp_timeline::{Said, Sentence, Sleepers, Stay, excess, is_left_out};
 use klp_types::{MAX_TASKS, TaskId, Version};
 use std::alloc::{AllocError, Global};
 
-/// The smallest width of a stay in the drawing, so that no reader overlooks it.
+/// The smallest width of a stay in the drawing, so that readers don't overlook it.
 const FEWEST: u64 = 4;
 
-/// The smallest width of a stay that gets an outline of two colours.
+/// A stay that is narrower than this has no outline of two colours.
 const OUTLINED: u64 = 8;
 
-/// How many points of a stay its label leaves uncovered.
+/// How many points of a stay are left free by the label.
 const SHOWN: u64 = 12;
 
-/// The stay of one task, between two places of the drawing.
+/// The stay of one task, with the places in the drawing between which it lies.
 #[derive(Clone, Copy)]
 pub(crate) struct Held {
     task: TaskId,
-    /// The index of its sentence among all sentences of the run.
+    /// The index of the stay's sentence among all sentences of the run.
     sentence: usize,
-    /// Whether that sentence is on the page.
+    /// Whether the stay's sentence is on the page.
     is_shown: bool,
-    /// Whether the task holds the transition up. Else it sleeps in code that isn't called now.
+    /// Whether the task holds the transition up. If not, it sleeps in code that isn't called now.
     is_holding: bool,
-    /// Whether the stay goes on at the end of the run.
+    /// Whether the stay still goes on at the end of the run.
     is_lasting: bool,
     from: u64,
     to: u64,
 }
 
-/// Stays that are gathered from left to right.
+/// Stays, as they are gathered from left to right.
 #[derive(Drop)]
 struct Gathered {
     held: Vec<Held>,
-    /// For each task: the right end of its last stay.
+    /// The right end of each task's last stay.
     filled: [u64; MAX_TASKS],
 }
 
 impl Gathered {
-    /// Adds the stay of one task, without the part that the task's stay before it covers. A stay that is covered whole
-    /// isn't added. `Err` if memory runs out.
+    /// Adds the stay of one task. Leaves out the part that an earlier stay of the task covers. If that is all of it,
+    /// adds nothing. `Err` if memory runs out.
     fn add(&mut self, held: Held) -> Result<(), AllocError> {
         let number = usize::from(held.task.0);
         if number >= MAX_TASKS {
@@ -63,8 +63,8 @@ impl Gathered {
         Ok(())
     }
 
-    /// Adds the stays of all tasks of a sentence, between two places of the drawing. `sentence` is its index among all
-    /// sentences. `Err` if memory runs out.
+    /// Adds the stays of all tasks of a sentence. `sentence` is its index among all sentences. The stays lie between
+    /// the places `from` and `to`. `Err` if memory runs out.
     fn add_sleepers(
         &mut self,
         sentence: usize,
@@ -88,7 +88,7 @@ impl Gathered {
     }
 }
 
-/// Returns the right end of the stays of a sentence.
+/// Returns the right end of the stays that a sentence reports.
 fn end_of(scale: &Scale, sleepers: &Sleepers) -> u64 {
     match sleepers.to {
         Some(last) => scale.x(last.saturating_add(1)),
@@ -96,8 +96,8 @@ fn end_of(scale: &Scale, sleepers: &Sleepers) -> u64 {
     }
 }
 
-/// Returns the stays of all sentences, from left to right. If the page leaves the oldest sentences out, the stays of
-/// these link to their lines. `Err` if memory runs out.
+/// Returns the stays of all sentences, from left to right. If the page leaves out the oldest sentences, their stays
+/// link to lines. `Err` if memory runs out.
 pub(crate) fn all_held(
     alloc: Global,
     scale: &Scale,
@@ -122,7 +122,7 @@ pub(crate) fn all_held(
     Ok(held)
 }
 
-/// Returns the rectangle of a stay, as high as the highest bar.
+/// Returns the rectangle of a stay. It is as high as the highest bar.
 fn area_of(held: &Held) -> Area {
     Area {
         x: held.from,
@@ -132,8 +132,8 @@ fn area_of(held: &Held) -> Area {
     }
 }
 
-/// Adds the rectangle of a stay: hatched if the task holds the transition up, else dotted. It has a black and a white
-/// outline, so that one of them contrasts with any colour below.
+/// Adds the rectangle of a stay. It is hatched if the task holds the transition up, and otherwise dotted. Its outline
+/// is black and white, so that one of the two contrasts with any colour below.
 fn add_area(sheet: &mut Sheet, held: &Held) {
     let area = area_of(held);
     if area.width < OUTLINED {
@@ -150,7 +150,7 @@ fn add_area(sheet: &mut Sheet, held: &Held) {
     add_rect(sheet, "inner", area.inside(2));
 }
 
-/// Adds the rectangles of a task's stays. Add the words of the lane afterwards, since rectangles cover them.
+/// Adds the rectangles of a task's stays. These cover the words of the lane, so add the words afterwards.
 pub(crate) fn add_areas(sheet: &mut Sheet, all: &[Held], task: TaskId) {
     for held in all {
         if held.task == task {
@@ -159,14 +159,15 @@ pub(crate) fn add_areas(sheet: &mut Sheet, all: &[Held], task: TaskId) {
     }
 }
 
-/// What the label of a stay says: the line where the stay begins, and the function that the task sleeps in.
+/// What the label of a stay may say: the line where the stay begins, or the function that the task sleeps in.
 #[derive(Clone, Copy)]
 struct Label {
     line: u64,
     version: Version,
 }
 
-/// Returns the label of a stay, from its sentence.
+/// Returns the label of a stay, which it takes from the stay's sentence. Returns `None` if that sentence reports no
+/// stay.
 fn label_of(sentences: &[Sentence], held: &Held) -> Option<Label> {
     let sentence = sentences.get(held.sentence)?;
     let Said::Slept(sleepers) = &sentence.said else {
@@ -179,7 +180,7 @@ fn label_of(sentences: &[Sentence], held: &Held) -> Option<Label> {
     })
 }
 
-/// Returns the name of a function alone, without its object or patch.
+/// Returns the name of a function, without that of its object or patch.
 fn short_name(manager: &Manager, version: Version) -> &[u8] {
     match version {
         Version::Original(site) => match manager.modules().symbol(site) {
@@ -190,8 +191,8 @@ fn short_name(manager: &Manager, version: Version) -> &[u8] {
     }
 }
 
-/// Adds the name of a function with its object or patch: `NAME of the object OBJECT`. It adds no markup, since a
-/// tooltip allows none.
+/// Adds the name of a function, and that of its object or patch, as `NAME of the object OBJECT`. Adds no markup, since
+/// a tooltip may have none.
 fn add_plain_version(sheet: &mut Sheet, manager: &Manager, version: Version) {
     let (owner, kind) = match version {
         Version::Original(site) => match manager.modules().symbol(site) {
@@ -204,7 +205,7 @@ fn add_plain_version(sheet: &mut Sheet, manager: &Manager, version: Version) {
     sheet.fill("{} of the {} {}", &[Text(name), Markup(kind), Text(owner)]);
 }
 
-/// Adds the tooltip of a stay: who, since which line and time, and in which function.
+/// Adds the tooltip of a stay: which task it is, since which line and time, and in which function.
 fn add_tip(sheet: &mut Sheet, names: &Names, manager: &Manager, held: &Held, label: &Label) {
     let what = if held.is_holding {
         " holds the transition up since line "
@@ -220,7 +221,8 @@ fn add_tip(sheet: &mut Sheet, names: &Names, manager: &Manager, held: &Held, lab
     sheet.markup("</title>");
 }
 
-/// Begins the link of a stay to its sentence, or to its first line if the page leaves the sentence out.
+/// Begins the link of a stay to its sentence. If the page leaves out that sentence, links to the stay's first line
+/// instead.
 fn add_link(sheet: &mut Sheet, held: &Held, line: u64) {
     let line = Number(line);
     if held.is_shown {
@@ -231,15 +233,15 @@ fn add_link(sheet: &mut Sheet, held: &Held, line: u64) {
     }
 }
 
-/// Returns the width of a label with this many letters, border included.
+/// Returns the width of a label with this many letters, including its border.
 fn label_width(letters: usize) -> u64 {
     (letters as u64).saturating_mul(30).saturating_add(43) / 4
 }
 
-/// Returns the left end of a label of this width. `None` if there is no room between the stops. A label is at the left
-/// of its stay. In a stay that goes on at the end of the run the label is at the right, and may extend beyond: of a
-/// drawing wider than the screen the reader sees the right end first. The label leaves [`SHOWN`] points of the stay
-/// uncovered.
+/// Returns the left end of a label with this width. Returns `None` if there is no room between the stops. The label
+/// stands at the left of its stay. If the stay still goes on at the end of the run, the label stands at the right, and
+/// may extend beyond the stay: if a drawing is wider than the screen, a reader first sees its right end. In both cases
+/// [`SHOWN`] points of the stay are left free.
 fn place_of_label(stops: &[Stop], held: &Held, width: u64) -> Option<u64> {
     let room = width.saturating_add(SHOWN);
     if !held.is_lasting {
@@ -253,7 +255,7 @@ fn place_of_label(stops: &[Stop], held: &Held, width: u64) -> Option<u64> {
     Some(place.saturating_add(SHOWN))
 }
 
-/// Begins a label with this many letters, if there is room for it. Returns whether there is.
+/// Begins a label with this many letters if there is room for it. Returns whether there is room.
 fn add_plate(sheet: &mut Sheet, held: &Held, stops: &[Stop], letters: usize) -> bool {
     let width = label_width(letters);
     let Some(place) = place_of_label(stops, held, width) else {
@@ -270,8 +272,8 @@ fn add_plate(sheet: &mut Sheet, held: &Held, stops: &[Stop], letters: usize) -> 
     true
 }
 
-/// Adds the label of a stay, if there is room: the function's name, or else the number of the stay's first line, by
-/// which the reader finds the sentence.
+/// Adds the label of a stay. It is the function's name if there is room. Otherwise it is the number of the stay's first
+/// line, by which a reader finds the sentence. If there is no room for that either, adds nothing.
 fn add_label(sheet: &mut Sheet, manager: &Manager, held: &Held, label: &Label, stops: &[Stop]) {
     let name = short_name(manager, label.version);
     if add_plate(sheet, held, stops, name.len()) {
@@ -281,7 +283,7 @@ fn add_label(sheet: &mut Sheet, manager: &Manager, held: &Held, label: &Label, s
     }
 }
 
-/// Adds the labels of a task's stays. Each stay links to its sentence, and has a tooltip.
+/// Adds the labels of a task's stays. Each stay also links to its sentence, and has a tooltip.
 pub(crate) fn add_labels(
     sheet: &mut Sheet,
     names: &Names,

@@ -1,11 +1,11 @@
-//! The bars of a lane as they are drawn.
+//! Turns the bars of a lane into strips, as they are drawn.
 
 use crate::bars::Bar;
 use crate::look::{Look, height_of};
 use crate::scale::Scale;
 use std::alloc::{AllocError, Global};
 
-/// A bar between two places of the drawing.
+/// A bar, with the places in the drawing between which it lies.
 #[derive(Clone, Copy)]
 pub(crate) struct Strip {
     pub from: u64,
@@ -13,16 +13,17 @@ pub(crate) struct Strip {
     pub look: Look,
 }
 
-/// Strips from left to right, none over another.
+/// Strips from left to right. No two of them overlap.
 #[derive(Drop)]
 struct Strips {
     strips: Vec<Strip>,
-    /// The last strip, which the next one may still shorten.
+    /// The last strip. The next one may shorten it.
     last: Option<Strip>,
 }
 
 impl Strips {
-    /// Moves the last strip to the others, unless it is empty. `Err` if memory runs out.
+    /// Puts the last strip behind the others, since it won't change any more. Drops it if it is empty. `Err` if memory
+    /// runs out.
     fn settle(&mut self) -> Result<(), AllocError> {
         match self.last.take() {
             Some(strip) if strip.from < strip.to => self.strips.push(strip)?,
@@ -31,8 +32,8 @@ impl Strips {
         Ok(())
     }
 
-    /// Adds a strip behind the last one. If the two overlap, the higher one keeps the shared points, and the other is
-    /// shortened. `Err` if memory runs out.
+    /// Adds a strip behind the last one. If the two overlap, the lower one loses the part that they share. `Err` if
+    /// memory runs out.
     fn add(&mut self, mut strip: Strip) -> Result<(), AllocError> {
         let Some(mut last) = self.last else {
             self.last = Some(strip);
@@ -54,8 +55,7 @@ impl Strips {
     }
 }
 
-/// Returns the strips of these bars. A bar that is narrower than a point is drawn one point wide. `Err` if memory runs
-/// out.
+/// Returns the strips for these bars. A strip is at least one point wide. `Err` if memory runs out.
 pub(crate) fn strips_of(
     alloc: Global,
     bars: &[Bar],

@@ -1,9 +1,9 @@
 //! The style of a drawing, its patterns and its legend.
 
-/// The part of a page's style that the drawing needs. Colour-blind people can tell blue from orange, and in grey the
-/// two differ in lightness. Print has no backgrounds: whatever matters there is drawn or has a border. Print has
-/// letters of 7 points, so names have less room. On a narrow screen the drawing scrolls, and shows its right end
-/// first, which matters most: it is in a box whose direction is from right to left.
+/// The part of a page's style that the drawing needs. Colour-blind people can tell blue from orange, and in grey one of
+/// the two is lighter. Print has no backgrounds, so whatever matters on paper is drawn or has a border. Print has
+/// letters of 7 points, so names have less room. On a narrow screen the drawing scrolls. It first shows its right end,
+/// which matters most, since its box has the direction from right to left.
 pub const STYLE: &str =
     ":root{--old:#004070;--oldink:#fff;--new:#c98200;--newink:#111;--rest:#7a848e}
 @media screen and (prefers-color-scheme:dark){:root{--old:#2f7ab8;--oldink:#111;--new:#ffcf66;--rest:#8a949e}}
@@ -38,8 +38,8 @@ width:fit-content;font-size:.9rem;color:var(--soft)}}
 .run th{position:static;width:4.9rem;padding-left:0}}
 ";
 
-/// The patterns of stays: hatched if the task holds the transition up, dotted if it sleeps in code that isn't called
-/// now. Both are black and white, and so contrast with each colour.
+/// The patterns of stays. A stay is hatched if its task holds the transition up, and dotted if the task sleeps in code
+/// that isn't called now. Both patterns are black and white, so they contrast with every colour.
 pub(crate) const PATTERNS: &str =
     "<pattern id=hatch width=10 height=10 patternUnits=userSpaceOnUse patternTransform=\"rotate(45)\"><rect \
 class=dark width=3 height=10 /><rect class=light x=3 width=3 height=10 /></pattern><pattern id=dots width=10 height=8 \

@@ -1,19 +1,19 @@
-//! What becomes of a transition.
+//! What happens to a transition at a line.
 
 use klp_timeline::{Fact, Moment, View};
 
-/// What happens to a transition, as a mark shows it.
+/// What happens to a transition. A mark shows this.
 #[derive(Clone, Copy, PartialEq, Eq)]
 pub(crate) enum Sign {
     Starts,
     Turns,
     Forced,
     Ends,
-    /// A rewind undoes events, and the transition is another one afterwards.
+    /// A rewind undid events, and the transition isn't the same as before it.
     Back,
 }
 
-/// Returns what a line did to the transition. `None` if it did nothing to it.
+/// Returns what a line did to the transition. Returns `None` if the line did nothing to it.
 pub(crate) fn sign_of(before: &View, moment: &Moment) -> Option<Sign> {
     let after = &moment.view;
     match (moment.act, before.moving, after.moving) {

@@ -1,17 +1,17 @@
-//! Where words stand in a lane, so that no mark crosses them.
+//! Finds places for words in a lane where no mark crosses them.
 
 use crate::bars::Bars;
 use crate::scale::CUT;
 use std::alloc::{AllocError, Global};
 
-/// The room of a mark or a cut, which no word may cross.
+/// The place of a mark or a cut. No word may cross it.
 #[derive(Clone, Copy, PartialEq, Eq, PartialOrd, Ord)]
 pub(crate) struct Stop {
     pub from: u64,
     pub to: u64,
 }
 
-/// Returns the room of all marks and cuts, from left to right. `Err` if memory runs out.
+/// Returns the places of all marks and cuts, from left to right. `Err` if memory runs out.
 pub(crate) fn stops(alloc: Global, bars: &Bars, marks: &[u64]) -> Result<Vec<Stop>, AllocError> {
     let mut stops = Vec::new(alloc);
     for x in &bars.scale.cuts {
@@ -30,13 +30,13 @@ pub(crate) fn stops(alloc: Global, bars: &Bars, marks: &[u64]) -> Result<Vec<Sto
     Ok(stops)
 }
 
-/// Returns the width of this many letters, with a gap on each side.
+/// Returns the width of this many letters, and of a gap on each side of them.
 pub(crate) fn width_of(letters: usize) -> u64 {
     (letters as u64).saturating_mul(15).saturating_add(16) / 2
 }
 
-/// Returns the rightmost place between `from` and `to` with room of this width and no stop in it. `None` if there is
-/// none.
+/// Returns the rightmost place between `from` and `to` that has this width and no stop in it. Returns `None` if there
+/// is no such place.
 pub(crate) fn last_place(stops: &[Stop], from: u64, to: u64, width: u64) -> Option<u64> {
     let mut end = to;
     for stop in stops.iter().rev() {
@@ -54,8 +54,8 @@ pub(crate) fn last_place(stops: &[Stop], from: u64, to: u64, width: u64) -> Opti
     }
 }
 
-/// Returns the leftmost place between `from` and `to` with room of this width and no stop in it. `None` if there is
-/// none.
+/// Returns the leftmost place between `from` and `to` that has this width and no stop in it. Returns `None` if there is
+/// no such place.
 pub(crate) fn free_place(stops: &[Stop], from: u64, to: u64, width: u64) -> Option<u64> {
     let mut place = from;
     for stop in stops {

@@ -1,4 +1,4 @@
-//! Measures what an event costs, and what the program costs as a whole.
+//! Measures what an event costs, and what the whole program costs.
 
 use crate::case::Case;
 use crate::measured::{Measured, SCENES, Way};
@@ -12,16 +12,16 @@ use std::rt::{Clock, Files};
 use std::time::Instant;
 use std::{fs, io};
 
-/// A kernel of as many functions as possible, of eight bytes each, and as many patches as possible, each with as many
-/// functions as possible: four patches cover the kernel.
+/// A catalog with as many functions and patches as possible. Each function has eight bytes. Each patch has as many
+/// functions as possible, so four patches together change the whole kernel.
 const LARGE: &str = "bench.catalog";
 
-/// The example that the console is measured with, and how often its script stands in the input.
+/// The example with which the console is measured. `TIMES` is how often its script stands in the input.
 const SMALL: &str = "measured k";
 
 const TIMES: usize = 512;
 
-// A manager over a text that has no fault and no callbacks.
+// Boots a manager over a text. Returns `None` if the text has a fault or a callback.
 fn booted(alloc: Global, text: &[u8]) -> Option<Manager> {
     let Ok(plan) = Catalog::read(alloc, text) else {
         return None;
@@ -35,7 +35,7 @@ fn booted(alloc: Global, text: &[u8]) -> Option<Manager> {
     }
 }
 
-// Counts all items of a trace as accepted if it is honest, else none.
+// Counts all items of a trace as accepted if the trace is honest. Otherwise counts all as refused.
 fn counted(ended: Result<(), NotHonest>, items: usize) -> (u64, u64) {
     match ended {
         Ok(()) => (items as u64, 0),
@@ -43,10 +43,10 @@ fn counted(ended: Result<(), NotHonest>, items: usize) -> (u64, u64) {
     }
 }
 
-// Does one round of a scene, over a manager of its own, slice after slice of each list. Each slice takes the list's
-// events; for some lists it then takes them back, and only this is measured. The journal has room for one slice. The
-// round has one exit while it holds the manager: each further exit would be proved with all that is known of the
-// manager.
+// Does one round of a scene, with a new manager. It does the lists in order, and each list in several slices. In each
+// slice the manager does all events of the list. For some lists it then undoes them, and only the undoing is measured.
+// The journal has room for one slice. While the function holds the manager it has a single return, since each return
+// would be proved with all that is known of the manager.
 fn round<R: Clock>(
     rt: &R,
     alloc: Global,
@@ -79,7 +79,7 @@ fn round<R: Clock>(
     ended
 }
 
-// What the lists of a scene cost.
+// Measures and prints what the lists of a scene cost.
 fn measure_scene<R: Clock + Print>(
     rt: &R,
     alloc: Global,
@@ -100,7 +100,7 @@ fn measure_scene<R: Clock + Print>(
     Ok(())
 }
 
-// What lists of events cost, over this catalog.
+// Measures and prints what all lists of events cost over this catalog.
 fn measure_events<R: Clock + Print>(
     rt: &R,
     alloc: Global,
@@ -114,7 +114,7 @@ fn measure_events<R: Clock + Print>(
     Ok(())
 }
 
-// What events cost over this catalog, and what reading it costs.
+// Measures and prints what events cost over this catalog, and what it costs to read the catalog.
 fn measure_large<R: Clock + Print>(
     rt: &R,
     alloc: Global,
@@ -126,7 +126,7 @@ fn measure_large<R: Clock + Print>(
     println!(rt; "a catalog of {} bytes is read{read}", catalog.len())
 }
 
-// What it costs to boot a manager over this catalog, and to serve this input by it.
+// Measures and prints what it costs to boot a manager over this catalog, and to serve this input with it.
 fn measure_small<R: Clock + Print>(
     rt: &R,
     alloc: Global,
@@ -153,8 +153,8 @@ fn run_small<R: Clock + Files + Print + AllocGlobal>(rt: &R, rounds: u32) -> io:
     measure_small(rt, rt.alloc(), &case.catalog, &input, rounds)
 }
 
-/// Measures so many rounds. Each figure is a line: what was accepted, refused and answered, and after it the shortest
-/// time, which is written only for several rounds.
+/// Measures `rounds` rounds. Each figure is a line. It has how much was accepted, refused or answered, and if there are
+/// several rounds, the shortest time.
 pub(crate) fn run<R: Clock + Files + Print + AllocGlobal>(rt: &R, rounds: u32) -> io::Result<()> {
     run_large(rt, rounds)?;
     run_small(rt, rounds)

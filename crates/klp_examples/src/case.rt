@@ -1,13 +1,13 @@
-//! An example: the script that is served over a catalog, and what has to be answered.
+//! An example: a script, the catalog over which it is served, and what must be answered.
 
 use klp_program::catalog_in;
 use std::rt::Files;
 use std::{fs, io};
 
-/// What stands for the catalog that is served if no file is named.
+/// The name that stands for the built-in catalog.
 const BUILT_IN: &str = "-";
 
-/// A catalog, the script over it, and what has to be written.
+/// A catalog, a script that is served over it, and what must be written.
 #[derive(Drop)]
 pub(crate) struct Case {
     pub(crate) catalog: Vec<u8>,
@@ -15,7 +15,7 @@ pub(crate) struct Case {
     output: Vec<u8>,
 }
 
-/// The catalog of this name.
+/// Reads the catalog with this name.
 fn catalog_of<R: Files + AllocGlobal>(rt: &R, name: &str) -> io::Result<Vec<u8>> {
     let path = match name {
         BUILT_IN => None,
@@ -27,14 +27,15 @@ fn catalog_of<R: Files + AllocGlobal>(rt: &R, name: &str) -> io::Result<Vec<u8>>
     }
 }
 
-/// The file of this name and ending.
+/// Reads the file with this name and ending.
 fn file_of<R: Files + AllocGlobal>(rt: &R, name: &str, ending: &str) -> io::Result<Vec<u8>> {
     let path = format!(in rt.alloc(); "{name}.{ending}")?;
     fs::read(rt, path.as_str())
 }
 
 impl Case {
-    /// The example of a line: its name and that of its catalog, or one name for both.
+    /// Reads the example of this line of the index. The line has the example's name, and that of its catalog if it is
+    /// another.
     pub(crate) fn read<R: Files + AllocGlobal>(rt: &R, line: &str) -> io::Result<Case> {
         let (name, catalog) = line.split_once(' ').unwrap_or((line, line));
         let catalog = catalog_of(rt, catalog)?;
@@ -47,7 +48,7 @@ impl Case {
         })
     }
 
-    /// Whether a run ended with what has to be written, and nothing else.
+    /// Whether a run wrote exactly what must be written, and had no fault.
     pub(crate) fn is_met(&self, status: u8, out: &[u8], err: &[u8]) -> bool {
         status == 0 && out == self.output.as_slice() && err.is_empty()
     }

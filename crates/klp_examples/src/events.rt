@@ -1,4 +1,4 @@
-//! The events that are measured: lists of a few steps, which are taken turn after turn.
+//! The events that are measured: lists of turns, each with a few steps.
 
 use klp_model::{Event, Seen};
 use klp_types::{
@@ -7,20 +7,21 @@ use klp_types::{
 };
 use std::alloc::{AllocError, Global};
 
-/// A patch, and a function that it doesn't change.
+/// The first patch. `UNCHANGED` is a function that it doesn't change.
 const FIRST: PatchId = PatchId(0);
 
 const UNCHANGED: u16 = 64;
 
-/// How many shadow variables are there while some come and go.
+/// How many shadow variables exist while others are added and freed: `FEW` in one list, `MANY` in another.
 const FEW: u64 = 10;
 
 const MANY: u64 = 500;
 
-/// How often something comes and goes in a slice.
+/// How often something is added and removed again in a slice.
 const PAIRS: u64 = 16;
 
-/// As many patches and tasks as there may be, and the tasks that enter the kernel and leave it.
+/// The largest number of patches. `ALL_TASKS` is that of tasks, and `TASKS` is how many tasks enter and leave the
+/// kernel.
 const ALL_PATCHES: u64 = MAX_PATCHES as u64;
 
 const ALL_TASKS: u64 = MAX_TASKS as u64;
@@ -30,29 +31,29 @@ const TASKS: u64 = 8;
 /// What happens in a turn, depending on the turn's number.
 #[derive(Clone, Copy)]
 pub(crate) enum Step {
-    /// The patch of this number is enabled, or is refused if there is none.
+    /// The patch with this number is enabled. If there is none, that is refused.
     Enable,
-    /// The first patch is enabled, and disabled.
+    /// The first patch is enabled. By `DisableFirst`, it is disabled.
     EnableFirst,
     DisableFirst,
     /// The transition is tried.
     Poll,
-    /// The task of this number begins, enters the kernel, leaves it and ends.
+    /// The task with this number begins. By the next three steps, it enters the kernel, leaves it, and ends.
     NewTask,
     EnterKernel,
     ExitToUser,
     EndTask,
-    /// It falls asleep inside of as many functions as there may be, the innermost of this site.
+    /// The task falls asleep inside of as many functions as possible. The innermost one is at this site.
     Sleep(u16),
-    /// The shadow variable of this number is added, and freed.
+    /// The shadow variable with this number is added. By `Free`, it is freed.
     Add,
     Free,
-    /// A shadow variable between the first ones comes, and goes.
+    /// A shadow variable is added whose key lies between those of the first ones. By `Go`, it is freed.
     Come,
     Go,
 }
 
-/// Turns with these numbers, from the first up to the second, so many times over.
+/// Turns with the numbers from `numbers.0` up to, but without, `numbers.1`. All of them are repeated `times` times.
 #[derive(Clone, Copy)]
 pub(crate) struct Turns {
     times: u64,
@@ -67,7 +68,7 @@ pub(crate) const ENABLED: [Turns; 1] = [Turns {
     steps: &[Step::Enable, Step::Poll],
 }];
 
-/// If all patches are installed, each of these is refused.
+/// Patches are enabled and polled once more. When all patches are installed, each of these events is refused.
 pub(crate) const REFUSED: [Turns; 1] = [Turns {
     times: 1,
     numbers: (0, 32),
@@ -86,7 +87,7 @@ pub(crate) const MANY_ADDED: [Turns; 1] = [Turns {
     steps: &[Step::Add],
 }];
 
-/// A shadow variable between the others comes and goes.
+/// A shadow variable is added between the others, and freed again.
 pub(crate) const COMING_AND_GOING: [Turns; 1] = [Turns {
     times: 1,
     numbers: (0, PAIRS),
@@ -100,14 +101,15 @@ pub(crate) const BEGUN: [Turns; 1] = [Turns {
     steps: &[Step::NewTask],
 }];
 
-/// The eight tasks enter the kernel and leave it in turn.
+/// Each of the eight tasks enters the kernel and leaves it, again and again.
 pub(crate) const ENTERED: [Turns; 1] = [Turns {
     times: PAIRS,
     numbers: (0, TASKS),
     steps: &[Step::EnterKernel, Step::ExitToUser],
 }];
 
-/// A task begins, and enters the kernel and leaves it in turn: one event less than the journal takes.
+/// A task begins, and then enters and leaves the kernel again and again. One more event would still fit into the
+/// journal.
 pub(crate) const OF_ONE_TASK: [Turns; 2] = [
     Turns {
         times: 1,
@@ -121,7 +123,7 @@ pub(crate) const OF_ONE_TASK: [Turns; 2] = [
     },
 ];
 
-/// Eight tasks begin, enter the kernel, leave it and end in turn.
+/// Each of eight tasks begins, enters the kernel, leaves it and ends, again and again.
 pub(crate) const LIVES: [Turns; 1] = [Turns {
     times: PAIRS,
     numbers: (0, TASKS),
@@ -133,7 +135,7 @@ pub(crate) const LIVES: [Turns; 1] = [Turns {
     ],
 }];
 
-/// A patch is enabled, disabled and gone again.
+/// A patch is enabled and disabled. Each time its transition completes.
 pub(crate) const CYCLE: [Turns; 1] = [Turns {
     times: PAIRS,
     numbers: (0, 1),
@@ -145,7 +147,8 @@ pub(crate) const CYCLE: [Turns; 1] = [Turns {
     ],
 }];
 
-/// As many tasks as there may be fall asleep, and the first patch and shadow variables come and go.
+/// As many tasks as possible fall asleep. Then the first patch is enabled and disabled, and shadow variables are added
+/// and freed.
 pub(crate) const MIXED: [Turns; 2] = [
     Turns {
         times: 1,
@@ -166,14 +169,14 @@ pub(crate) const MIXED: [Turns; 2] = [
     },
 ];
 
-/// As many tasks as there may be fall asleep inside of a function that the first patch changes.
+/// As many tasks as possible fall asleep inside of a function that the first patch changes.
 pub(crate) const ASLEEP: [Turns; 1] = [Turns {
     times: 1,
     numbers: (0, ALL_TASKS),
     steps: &[Step::NewTask, Step::EnterKernel, Step::Sleep(0)],
 }];
 
-/// The same inside of others.
+/// As many tasks as possible fall asleep inside of functions that the first patch doesn't change.
 pub(crate) const ASLEEP_ELSEWHERE: [Turns; 1] = [Turns {
     times: 1,
     numbers: (0, ALL_TASKS),
@@ -187,15 +190,15 @@ pub(crate) const STARTED: [Turns; 1] = [Turns {
     steps: &[Step::EnableFirst],
 }];
 
-/// The transition is tried again and again.
+/// The transition is polled again and again.
 pub(crate) const POLLS: [Turns; 1] = [Turns {
     times: PAIRS,
     numbers: (0, 1),
     steps: &[Step::Poll],
 }];
 
-/// As many frames as there may be: the innermost is of this function, the others are of functions that the first patch
-/// doesn't change.
+/// Returns as many frames as possible. The innermost is of the function `innermost`. The others are of functions that
+/// the first patch doesn't change.
 fn frames(innermost: u16) -> Frames {
     let mut frames = Frames::new();
     for _ in 1..MAX_FRAMES {
@@ -206,7 +209,7 @@ fn frames(innermost: u16) -> Frames {
 }
 
 impl Step {
-    /// The event of the turn with this number.
+    /// Returns the event of this step in the turn with this number.
     fn event(self, number: u64) -> Event {
         let patch = PatchId((number % 256) as u8);
         let task = TaskId((number % 256) as u8);
@@ -233,7 +236,7 @@ impl Step {
     }
 }
 
-/// Puts the events of such turns after the others.
+/// Adds the events of these turns.
 fn take(events: &mut Vec<Event>, turns: Turns) -> Result<(), AllocError> {
     for _ in 0..turns.times {
         for number in turns.numbers.0..turns.numbers.1 {
@@ -245,7 +248,7 @@ fn take(events: &mut Vec<Event>, turns: Turns) -> Result<(), AllocError> {
     Ok(())
 }
 
-/// The events of a list.
+/// Returns the events of all turns of a list.
 pub(crate) fn events_of(alloc: Global, list: &[Turns]) -> Result<Vec<Event>, AllocError> {
     let mut events = Vec::new(alloc);
     for turns in list {
@@ -254,7 +257,8 @@ pub(crate) fn events_of(alloc: Global, list: &[Turns]) -> Result<Vec<Event>, All
     Ok(events)
 }
 
-/// The events as the items of a trace, in which each task that enters the kernel calls a function there and returns.
+/// Returns the events as items of a trace. After each event in which a task enters the kernel, the task calls a
+/// function and returns from it.
 pub(crate) fn trace_of(alloc: Global, events: &[Event]) -> Result<Vec<Seen>, AllocError> {
     let mut items = Vec::new(alloc);
     for event in events {

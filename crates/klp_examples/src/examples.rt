@@ -1,6 +1,6 @@
-//! Runs each example. A script over its catalog has to print its output, and nothing else, however few bytes a read
-//! gives and a write takes, and even if no memory is left once a manager is booted. At once it takes five seconds at
-//! most. ./tests tries traces and what is refused, over the programs that the gate has built.
+//! Runs each example. A script must print its output and nothing else. That must also hold if a read gives and a write
+//! accepts only a few bytes, and if no memory is left once a manager is booted. If an example is run at once, it may
+//! take five seconds at most. Traces and refused input are tried by ./tests, with the programs that the gate has built.
 
 use crate::case::Case;
 use crate::few::Few;
@@ -12,21 +12,21 @@ use std::io;
 use std::rt::{Clock, Files};
 use std::time::Instant;
 
-/// How many seconds an example takes at most.
+/// The most seconds that an example may take.
 const SECONDS: u64 = 5;
 
 /// How an example is run.
 #[derive(Clone, Copy)]
 enum Way {
-    /// At once, in five seconds at most.
+    /// Reads and writes aren't cut. This may take five seconds at most.
     AtOnce,
-    /// A read gives so many bytes at most, and a write takes so many.
+    /// A read gives at most the first number of bytes, and a write accepts at most the second.
     Cut(usize, usize),
     /// No memory is left once a manager is booted.
     Starved,
 }
 
-/// All ways, each with what is written if an example doesn't hold in it.
+/// All ways in which an example is run, each with what is written if the example fails.
 const WAYS: [(Way, &str); 6] = [
     (Way::AtOnce, "differs, or takes more than five seconds"),
     (Way::Cut(1, usize::MAX), "differs, read byte by byte"),
@@ -36,7 +36,7 @@ const WAYS: [(Way, &str); 6] = [
     (Way::Starved, "differs, without memory"),
 ];
 
-/// Whether the script prints its output, cut so.
+/// Whether the script prints its output if a read gives at most `read` bytes, and a write accepts at most `written`.
 fn is_served(alloc: Global, case: &Case, read: usize, written: usize) -> bool {
     let mut input = Few::new(case.input.as_slice(), read);
     let mut out = Vec::new(alloc);
@@ -46,7 +46,7 @@ fn is_served(alloc: Global, case: &Case, read: usize, written: usize) -> bool {
     case.is_met(status, &out, &err)
 }
 
-/// Whether it does so at once, in time.
+/// Whether the script prints its output in time, with reads and writes that aren't cut.
 fn is_quick<R: Clock>(rt: &R, alloc: Global, case: &Case) -> io::Result<bool> {
     let start = Instant::now(rt)?;
     let is_served = is_served(alloc, case, usize::MAX, usize::MAX);
@@ -54,7 +54,7 @@ fn is_quick<R: Clock>(rt: &R, alloc: Global, case: &Case) -> io::Result<bool> {
     Ok(is_served && passed.as_secs() < SECONDS)
 }
 
-/// Whether the example holds, run in this way.
+/// Whether the example prints its output if it is run in this way.
 fn holds<R: Clock>(rt: &R, alloc: Global, case: &Case, way: Way) -> io::Result<bool> {
     match way {
         Way::AtOnce => is_quick(rt, alloc, case),
@@ -63,8 +63,8 @@ fn holds<R: Clock>(rt: &R, alloc: Global, case: &Case, way: Way) -> io::Result<b
     }
 }
 
-/// Whether the example of this line holds in all ways. Writes each way in which it doesn't. The example is borrowed,
-/// since each exit would drop it.
+/// Whether the example of this line prints its output in all ways. Writes each way in which it doesn't. The function
+/// borrows the example, since otherwise each of its returns would drop it.
 fn holds_all<R: Clock + Print + AllocGlobal>(rt: &R, line: &str, case: &Case) -> io::Result<bool> {
     let mut all = true;
     for (way, fault) in &WAYS {
@@ -76,15 +76,15 @@ fn holds_all<R: Clock + Print + AllocGlobal>(rt: &R, line: &str, case: &Case) ->
     Ok(all)
 }
 
-/// The same for an example read from its files.
+/// Reads the example of this line from its files. Returns whether it prints its output in all ways.
 fn holds_line<R: Clock + Files + Print + AllocGlobal>(rt: &R, line: &str) -> io::Result<bool> {
     let case = Case::read(rt, line)?;
     holds_all(rt, line, &case)
 }
 
-/// Counts the examples of an index that hold. The index has a line for each: the name of the script and the output, as
-/// `NAME.script` and `NAME.output`, and the catalog's name if it is another, as `CATALOG.catalog`. Lines that begin
-/// with `#` say what the next ones show.
+/// Runs the examples of an index, and counts those that print their output. Each line of the index has a name, for
+/// `NAME.script` and `NAME.output`. If the catalog has another name, that follows, for `CATALOG.catalog`. A line that
+/// begins with `#` says what the lines behind it show.
 pub(crate) fn run<R: Clock + Files + Print + AllocGlobal>(
     rt: &R,
     index: &str,

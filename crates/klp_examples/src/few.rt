@@ -1,8 +1,8 @@
-//! Streams that are cut.
+//! Streams whose reads and writes are cut.
 use std::io;
 use std::io::{Read, Write};
 
-/// A stream whose reads give, and whose writes take, so many bytes at most.
+/// A stream whose reads give at most `most` bytes, and whose writes accept at most `most`.
 #[derive(Drop)]
 pub(crate) struct Few<S> {
     stream: S,

@@ -1,4 +1,4 @@
-//! Taking all memory that a process may have, so that each allocation is refused until this memory is freed.
+//! Takes all memory that the process can have. Each allocation is then refused until this memory is freed.
 
 use std::alloc::{AllocError, Global};
 use std::ops::Range;
@@ -6,30 +6,31 @@ use std::ops::Range;
 /// The largest block that is tried: half of all that a process can address.
 const LARGEST: usize = 1 << 46;
 
-/// How many blocks there is room for. A machine hands out no block larger than all of its memory, so there may be some
-/// ten thousands.
+/// The most blocks that a hoard can have. No block that a machine hands out is larger than all of its memory, so there
+/// may be tens of thousands.
 const MOST: usize = 60_000;
 
-/// How much a siege leaves, which is more than a manager takes.
+/// How many bytes a siege leaves. A manager needs less.
 const SPARE: usize = 1 << 26;
 
-/// Once a block of this size was freed, an allocator keeps blocks of up to this size, and hands out parts of them.
+/// The size of a block that is allocated and freed once. After that, an allocator keeps freed blocks of up to this
+/// size, and hands out parts of them.
 const KEPT: usize = 1 << 24;
 
-/// Blocks of memory that nothing else can have.
+/// Blocks of memory that are kept from everybody else.
 #[derive(Drop)]
 pub(crate) struct Hoard {
     blocks: Vec<Vec<u8>>,
 }
 
 impl Hoard {
-    /// Room for so many blocks.
+    /// Returns a hoard without blocks, with room for `most` of them.
     fn new(alloc: Global, most: usize) -> Result<Hoard, AllocError> {
         let blocks = Vec::with_capacity(alloc, most)?;
         Ok(Hoard { blocks })
     }
 
-    /// No block yet, and room for as many as a siege may leave.
+    /// Returns a hoard without blocks. It has room for as many as a siege may leave.
     pub(crate) fn small(alloc: Global) -> Result<Hoard, AllocError> {
         Hoard::new(alloc, MOST / 4)
     }
@@ -57,7 +58,8 @@ impl Hoard {
         }
     }
 
-    /// Takes blocks of this size, and then of half of it each time, once for each of these powers of two.
+    /// Takes blocks of the size `largest` until one is refused, then blocks of half that size, and so on. It does this
+    /// once for each of `powers`.
     fn take_halves(&mut self, alloc: Global, largest: usize, powers: Range<u32>) {
         let mut size = largest;
         for _ in powers {
@@ -66,7 +68,8 @@ impl Hoard {
         }
     }
 
-    /// Takes all that there is, large blocks first, and at last those of each size that an allocator keeps apart.
+    /// Takes all memory that there is. It begins with large blocks, and at last takes blocks of each size that an
+    /// allocator keeps apart.
     pub(crate) fn take_all(&mut self, alloc: Global) {
         self.take_halves(alloc, SPARE, 0..SPARE.ilog2());
         for words in (1..=u8::MAX).rev() {
@@ -74,12 +77,12 @@ impl Hoard {
         }
     }
 
-    /// Whether room for blocks was left, so that only memory ended the taking, and the least block is refused.
+    /// Whether all memory is taken: the smallest block is refused, and the hoard had room for more blocks.
     pub(crate) fn is_all(&self, alloc: Global) -> bool {
         self.blocks.len() < self.blocks.capacity() && Box::new(alloc, 0u8).is_err()
     }
 
-    /// Some blocks of each size that an allocator keeps apart.
+    /// Takes a few blocks of each size that an allocator keeps apart.
     pub(crate) fn take_few(&mut self, alloc: Global) {
         for words in 1..=u8::MAX {
             for _ in 0..4 {

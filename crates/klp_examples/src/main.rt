@@ -1,6 +1,6 @@
-//! Runs the scripts of the examples, also without memory, and measures what an event costs and what the program costs
-//! as a whole. It runs in the folder of its data; its argument is the number of rounds that are measured. The gate runs
-//! one round, for which no time is written.
+//! Runs the scripts of the examples, also without memory. Then measures what an event costs, and what the whole program
+//! costs. It must run in the folder of its data. Its argument is how many rounds are measured. The gate runs one round,
+//! and then no time is written.
 #![tactic(auto)]
 
 mod bench;
@@ -22,7 +22,7 @@ use std::process::ExitCode;
 use std::rt::{Clock, Env, Files};
 use std::{env, fs, io};
 
-/// Whether all examples hold. Writes how many do and don't.
+/// Whether all examples print their output. Writes how many do and how many don't.
 fn hold<R: Clock + Files + Print + AllocGlobal>(rt: &R) -> io::Result<bool> {
     let index = fs::read_to_string(rt, "index")?;
     let mut tally = Tally::new();
@@ -30,13 +30,13 @@ fn hold<R: Clock + Files + Print + AllocGlobal>(rt: &R) -> io::Result<bool> {
     tally.print_tally(rt, "scripts print what is written", "don't")
 }
 
-/// The same if so little memory is left that a script can take all of it.
+/// Whether all examples print their output even if so little memory is left that a script can take all of it.
 fn hold_besieged<R: Clock + Files + Print + AllocGlobal>(rt: &R) -> io::Result<bool> {
     let _besieged = Hoard::siege(rt.alloc())?;
     hold(rt)
 }
 
-/// How many rounds are measured.
+/// Returns how many rounds are measured.
 fn rounds<R: Env + AllocGlobal>(rt: &R) -> io::Result<u32> {
     Ok(match env::args(rt)?.nth(1) {
         Some(word) => word.as_str().parse::<u32>().unwrap_or(1),

@@ -1,4 +1,4 @@
-//! What is measured: lists of events that a manager takes, slice after slice.
+//! What is measured: lists of events. A manager does each list in several slices.
 
 use crate::events::{
     ASLEEP, ASLEEP_ELSEWHERE, BEGUN, COMING_AND_GOING, CYCLE, ENABLED, ENTERED, FEW_ADDED, LIVES,
@@ -8,13 +8,13 @@ use crate::time::Shortest;
 use klp_model::{Event, Seen};
 use std::alloc::{AllocError, Global};
 
-/// How often a list that leaves everything as before is taken.
+/// How often a round does a list that leaves the state as it was.
 const SLICES: u64 = 64;
 
-/// How often a list is taken back.
+/// How often a round does and undoes a list.
 const SLICES_TAKEN_BACK: u64 = 4;
 
-/// A list that is measured: its name, how often a round takes it, and its events.
+/// A list that is measured: its name, how often a round does it, and its events.
 #[derive(Clone, Copy)]
 struct Row {
     name: &'static str,
@@ -22,8 +22,8 @@ struct Row {
     events: &'static [Turns],
 }
 
-/// How lists are taken: as they are; watched, with calls and returns; or taken back each time, and then only this is
-/// measured.
+/// How lists are done. Either as they are, or watched with calls and returns, or undone each time. If they are undone,
+/// only that is measured.
 #[derive(Clone, Copy)]
 pub(crate) enum Way {
     Taken,
@@ -31,7 +31,7 @@ pub(crate) enum Way {
     TakenBack,
 }
 
-/// The lists that one manager takes, in order, and how.
+/// The lists that one manager does, in order, and how it does them.
 #[derive(Clone, Copy)]
 pub(crate) struct Scene {
     rows: &'static [Row],
@@ -89,7 +89,7 @@ const CYCLES: [Row; 3] = [
     },
 ];
 
-/// 64 tasks sleep inside of 32 functions each, the innermost of which the patch changes.
+/// 64 tasks sleep, each inside of 32 functions. The patch changes the innermost of these.
 const HELD: [Row; 3] = [
     Row {
         name: "64 tasks fall asleep in patched functions",
@@ -108,7 +108,7 @@ const HELD: [Row; 3] = [
     },
 ];
 
-/// The same inside of functions that the patch doesn't change.
+/// 64 tasks sleep inside of functions that the patch doesn't change.
 const NOT_HELD: [Row; 2] = [
     Row {
         name: "64 tasks fall asleep in other functions",
@@ -152,7 +152,7 @@ const WATCHED_TASKS: [Row; 1] = [Row {
     events: &LIVES,
 }];
 
-/// What is measured, each with a manager of its own.
+/// All scenes that are measured. Each has its own manager.
 pub(crate) const SCENES: [Scene; 7] = [
     Scene {
         rows: &PATCHES_AND_VARIABLES,
@@ -184,14 +184,14 @@ pub(crate) const SCENES: [Scene; 7] = [
     },
 ];
 
-/// A list of events, and what taking it came to.
+/// A list of events, and what came of doing it.
 #[derive(Drop)]
 pub(crate) struct Measured {
     pub(crate) name: &'static str,
     pub(crate) events: Vec<Event>,
-    /// The same if it is watched.
+    /// The list's events as items of a trace, for a watched list.
     pub(crate) items: Vec<Seen>,
-    /// How often a round takes it.
+    /// How often a round does the list.
     pub(crate) slices: u64,
     pub(crate) accepted: u64,
     pub(crate) refused: u64,
@@ -213,7 +213,7 @@ impl Measured {
         })
     }
 
-    /// Counts what a slice came to.
+    /// Adds how many events of a slice were accepted and refused.
     pub(crate) fn count(&mut self, (accepted, refused): (u64, u64)) {
         self.accepted = self.accepted.saturating_add(accepted);
         self.refused = self.refused.saturating_add(refused);
@@ -221,7 +221,7 @@ impl Measured {
 }
 
 impl Scene {
-    /// The lists, of which so many rounds are measured.
+    /// Returns the lists of the scene, ready for `rounds` rounds.
     pub(crate) fn lists(&self, alloc: Global, rounds: u32) -> Result<Vec<Measured>, AllocError> {
         let mut lists = Vec::new(alloc);
         for row in self.rows {

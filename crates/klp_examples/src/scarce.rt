@@ -1,5 +1,5 @@
-//! Lack of memory before a manager is booted: catalogs for which little memory is left, from none to enough. Then each
-//! allocation that needs more than there was before is refused in its turn.
+//! Tests lack of memory before a manager is booted. Catalogs are tried with little memory left, from none to enough. So
+//! each allocation that needs more than those before it is refused in its turn.
 
 use crate::hoard::Hoard;
 use crate::starved::Room;
@@ -9,54 +9,56 @@ use std::alloc::{AllocError, Global};
 use std::rt::Files;
 use std::{fs, io};
 
-/// Catalogs that are refused, each after a line with a mark and what is written to standard error. The line feed before
-/// a mark isn't the catalog's: an empty line there ends the catalog's last line, which else has no end.
+/// A file of catalogs that are refused. Before each stands a line with a mark, and with what is written to standard
+/// error. The line feed in front of a mark isn't part of a catalog. So a catalog's last line ends with a line feed only
+/// if an empty line follows.
 const CATALOGS: &str = "refused.catalogs";
 
 const CATALOG_MARK: &str = "\n=== ";
 
-/// How much memory is left at most, which is more than the largest catalog takes.
+/// The most memory that is left. It is more than the largest catalog needs.
 const SPAN: usize = 10_752 * 1024;
 
-/// What is read of the console's input.
+/// The input of the console.
 const INPUT: &[u8] = b"mark\n";
 
-/// The least that memory grows by is 16 bytes. The small catalog is tried in such steps for all that is read of its
-/// text and all tables of names, and then in steps of 4,096 bytes, less than any table of a manager has. The largest is
-/// tried in steps of 128 bytes for its first lines, and then of 20 kilobytes, since trying each time would take
-/// minutes. Each pair has how many steps there are, and of how many bytes.
+/// How much memory is left for two catalogs. Each pair has a number of steps, and by how many bytes each step leaves
+/// more. Memory grows by 16 bytes at least. The small catalog is tried in such steps for all that is read of its text
+/// and for all tables of names. It is then tried in steps of 4,096 bytes, which is less than any table of a manager.
+/// The largest catalog is tried in steps of 128 bytes for its first lines, and then of 20 kilobytes, since smaller
+/// steps would take minutes.
 const SCARCITIES: [(&str, [(u16, usize); 2]); 2] = [
     ("k1.catalog", [(1024, 16), (2044, 4096)]),
     ("largest.catalog", [(256, 128), (510, 20480)]),
 ];
 
-/// Over a catalog that is refused.
+/// The steps for each catalog that is refused.
 const FAULTY_STEPS: [(u16, usize); 1] = [(128, 256)];
 
-// What a run came to.
+// How a run ended.
 #[derive(Clone, Copy)]
 enum Ended {
-    // There was memory enough.
+    // There was enough memory.
     Enough,
     // A lack of memory was reported for a line of the catalog.
     NoMemoryAtLine,
-    // A lack of memory was reported, for no line.
+    // A lack of memory was reported, but for no line.
     NoMemory,
-    // It ended in another way, which none may.
+    // It ended in another way. No run may do this.
     Unexpected,
 }
 
-// What the runs over a catalog came to.
+// How the runs over a catalog ended.
 #[derive(Clone, Copy)]
 struct Seen {
     lines: bool,
     others: bool,
-    // Whether there was enough at last.
+    // Whether there was enough memory in the last run.
     is_enough: bool,
 }
 
 impl Seen {
-    // Counts what one amount of memory came to.
+    // Counts how a run with one amount of memory ended.
     fn add(&mut self, ended: Ended, tally: &mut Tally) {
         self.is_enough = false;
         let holds = match ended {
@@ -78,17 +80,17 @@ impl Seen {
     }
 }
 
-// What memory is taken from while little of it is left.
+// All memory of the process, from which little is left free while the console runs.
 #[derive(Drop)]
 struct Siege {
     alloc: Global,
-    // One piece that is free only while the console runs. It is taken again before the small blocks are, while all else
-    // is free, so that nothing is placed within it.
+    // One piece of memory, which is free only while the console runs. It is taken back before the small blocks are,
+    // while all other memory is free, so that nothing is placed inside of it.
     span: Option<Vec<u8>>,
-    // Small blocks, which an allocator keeps apart once they are freed. They are freed before all others, so that the
-    // allocator keeps these, and puts the others together again.
+    // Small blocks. An allocator keeps freed ones apart. They are freed before all others, so that the allocator keeps
+    // these, and joins the others into larger blocks again.
     few: Hoard,
-    // All other memory, and what is written.
+    // All other memory, and what is written by the console.
     room: Room,
 }
 
@@ -106,8 +108,8 @@ impl Siege {
         })
     }
 
-    // Runs the console over a catalog with so many bytes of memory left, in one piece. Returns the exit status and how
-    // much of the input isn't read. All memory that was taken is there again afterwards.
+    // Runs the console over a catalog with `left` bytes of memory left, in one piece. Returns the exit status, and how
+    // many bytes of the input weren't read. Afterwards the siege has the same memory again.
     fn run(&mut self, catalog: &[u8], left: usize) -> Result<(u8, usize), AllocError> {
         self.room.out.clear();
         self.room.err.clear();
@@ -131,7 +133,7 @@ impl Siege {
         Ok((status, input.len()))
     }
 
-    // Whether there was memory enough, and the input was answered.
+    // Whether there was enough memory, so that the input was answered.
     fn is_answered(&self, (status, unread): (u8, usize)) -> bool {
         status == 0
             && unread == 0
@@ -139,7 +141,7 @@ impl Siege {
             && self.room.out.as_slice() == b"0\n".as_slice()
     }
 
-    // What was reported, if nothing was read and written, and else nothing.
+    // What was reported, if no input was read and no answer was written. Otherwise empty.
     fn fault_text(&self, (status, unread): (u8, usize)) -> &[u8] {
         if status == 1 && unread == INPUT.len() && self.room.out.is_empty() {
             &self.room.err
@@ -148,7 +150,7 @@ impl Siege {
         }
     }
 
-    // What a run came to over a catalog that has this fault, or none.
+    // How a run ended over a catalog that has this fault, or no fault.
     fn ended(&self, ran: (u8, usize), fault: Option<&str>) -> Ended {
         let fault_text = self
             .fault_text(ran)
@@ -175,7 +177,7 @@ impl Siege {
     }
 }
 
-// Tries all amounts of memory over a catalog that has this fault, or none.
+// Tries a catalog with all amounts of memory. It has this fault, or no fault.
 fn try_all(
     siege: &mut Siege,
     catalog: &[u8],
@@ -199,8 +201,8 @@ fn try_all(
     Ok(seen)
 }
 
-// Tries all amounts of memory over one catalog. First lines are refused, then what comes after the text, and at last
-// there is enough.
+// Tries one catalog with all amounts of memory. Returns whether each of three things occurred: a lack of memory for a
+// line, one behind the text, and at last enough memory.
 fn try_catalog<R: Files + AllocGlobal>(
     rt: &R,
     siege: &mut Siege,
@@ -213,7 +215,7 @@ fn try_catalog<R: Files + AllocGlobal>(
     Ok(seen.lines && seen.others && seen.is_enough)
 }
 
-// Tries the catalogs of a text that are refused. Each reports its own fault, or a lack of memory.
+// Tries each of the catalogs in a text that are refused. Each must report its own fault, or a lack of memory.
 fn try_faulty(siege: &mut Siege, text: &str, tally: &mut Tally) -> Result<bool, AllocError> {
     let mut all = true;
     for case in text.split(CATALOG_MARK).skip(1) {
@@ -224,7 +226,7 @@ fn try_faulty(siege: &mut Siege, text: &str, tally: &mut Tally) -> Result<bool, 
     Ok(all)
 }
 
-// Tries the catalogs that are refused, out of their file.
+// Reads the catalogs that are refused from their file, and tries them.
 fn try_refused<R: Files + AllocGlobal>(
     rt: &R,
     siege: &mut Siege,
@@ -250,8 +252,8 @@ fn run_besieged<R: Files + Print + AllocGlobal>(rt: &R) -> io::Result<bool> {
     run_siege(rt, &mut siege)
 }
 
-/// Whether a lack of memory is reported, or else nothing, however much memory is left. Writes how many amounts were
-/// tried.
+/// Whether a lack of memory is always reported, and nothing else goes wrong, however much memory is left. Writes how
+/// many amounts were tried.
 pub(crate) fn run<R: Files + Print + AllocGlobal>(rt: &R) -> io::Result<bool> {
     let _besieged = Hoard::siege(rt.alloc())?;
     run_besieged(rt)

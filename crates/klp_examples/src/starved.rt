@@ -1,5 +1,5 @@
-//! Lack of memory once a manager is booted: all memory is taken at the first read of its input, and each script is
-//! answered as ever, since no call of a manager allocates after boot.
+//! Tests lack of memory once a manager is booted. All memory is taken at the first read of the input. Each script must
+//! still be answered as always, since no call of a manager allocates after boot.
 
 use crate::case::Case;
 use crate::hoard::Hoard;
@@ -8,7 +8,7 @@ use std::alloc::{AllocError, Global};
 use std::io;
 use std::io::Read;
 
-/// How many bytes there is room for on standard error, and beyond what has to be printed.
+/// How many bytes fit on standard error. Also, how many more fit on standard output than must be printed.
 const ROOM: usize = 256;
 
 /// What is allocated before all other memory is taken.
@@ -20,7 +20,7 @@ pub(crate) struct Room {
 }
 
 impl Room {
-    /// Room for so many bytes that are answered, and some more.
+    /// Allocates room for `answers` bytes of answers, and for some more.
     pub(crate) fn new(alloc: Global, answers: usize) -> Result<Room, AllocError> {
         let hoard = Hoard::small(alloc)?;
         let out = Vec::with_capacity(alloc, answers.saturating_add(ROOM))?;
@@ -29,7 +29,7 @@ impl Room {
     }
 }
 
-// A script after whose first read no memory is left.
+// A script, as an input. From its first read on, no memory is left.
 #[derive(Drop)]
 struct Starving<'a> {
     script: &'a [u8],
@@ -49,7 +49,7 @@ impl Read for Starving<'_> {
     }
 }
 
-/// Whether the script prints its output, and nothing else, if no memory is left once a manager is booted.
+/// Whether the script prints its output and nothing else, although no memory is left once a manager is booted.
 pub(crate) fn is_served(alloc: Global, case: &Case) -> Result<bool, AllocError> {
     let Room {
         hoard,

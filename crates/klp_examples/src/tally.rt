@@ -1,8 +1,8 @@
-//! How many cases hold.
+//! Counts how many cases pass.
 
 use std::io;
 
-/// How many cases hold, and how many don't.
+/// How many cases pass, and how many fail.
 #[derive(Clone, Copy)]
 pub(crate) struct Tally {
     held: u64,
@@ -17,7 +17,7 @@ impl Tally {
         }
     }
 
-    /// Counts a case.
+    /// Counts a case, which passes if `holds`.
     pub(crate) fn count(&mut self, holds: bool) {
         if holds {
             self.held = self.held.saturating_add(1);
@@ -26,7 +26,7 @@ impl Tally {
         }
     }
 
-    /// Writes how many hold and how many don't, and returns whether all do.
+    /// Writes how many cases pass and how many fail. Returns whether all pass.
     pub(crate) fn print_tally<R: Print>(
         self,
         rt: &R,

@@ -1,9 +1,10 @@
-//! The shortest time that something took.
+//! The shortest time that some work took.
 
 use std::time::Instant;
 use std::{fmt, io};
 
-/// The nanoseconds of the shortest of some rounds. It is written if there were several, after what was done.
+/// The time of the shortest of some rounds, in nanoseconds. If there were several rounds, it is written behind what was
+/// done.
 #[derive(Clone, Copy)]
 pub(crate) struct Shortest {
     nanoseconds: u128,
@@ -11,7 +12,7 @@ pub(crate) struct Shortest {
 }
 
 impl Shortest {
-    /// Of so many rounds, none of which was done yet.
+    /// Returns the shortest time before the first of `rounds` rounds.
     pub(crate) fn of(rounds: u32) -> Self {
         Self {
             nanoseconds: u128::MAX,
@@ -19,7 +20,7 @@ impl Shortest {
         }
     }
 
-    /// Counts what was done between these two moments.
+    /// Counts a round that was done between these two moments.
     pub(crate) fn add(
         &mut self,
         start: io::Result<Instant>,

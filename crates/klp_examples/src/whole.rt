@@ -1,4 +1,4 @@
-//! What the program costs as a whole: reading a catalog, booting over it, and serving lines.
+//! Measures what the whole program costs: it reads a catalog, boots over it, and serves lines.
 
 use crate::time::Shortest;
 use klp_catalog::Catalog;
@@ -8,7 +8,7 @@ use std::io;
 use std::rt::Clock;
 use std::time::Instant;
 
-/// What is done.
+/// The work that is measured.
 #[derive(Clone, Copy)]
 pub(crate) enum Work<'a> {
     /// A catalog's text is read.
@@ -17,7 +17,7 @@ pub(crate) enum Work<'a> {
     Serve(&'a [u8], &'a [u8]),
 }
 
-/// Does the work once. Puts what is answered into `out`, which keeps its capacity.
+/// Does the work once. Replaces the contents of `out` by the answers; its capacity stays.
 fn done(alloc: Global, work: Work<'_>, out: &mut Vec<u8>) -> io::Result<()> {
     match work {
         Work::Read(catalog) => match Catalog::read(alloc, catalog) {
@@ -35,7 +35,7 @@ fn done(alloc: Global, work: Work<'_>, out: &mut Vec<u8>) -> io::Result<()> {
     }
 }
 
-/// Does the work so many times. Returns the shortest time, and how many bytes were answered at last.
+/// Does the work `rounds` times. Returns the shortest time, and how many bytes were answered the last time.
 pub(crate) fn shortest<R: Clock>(
     rt: &R,
     alloc: Global,

@@ -1,4 +1,4 @@
-//! A faulty line of a catalog: which word is at fault, and what is wanted there.
+//! Finds the word at fault in a faulty line of a catalog, and says what is wanted in its place.
 
 use crate::form::{Form, Part};
 use crate::lines::{line_at, word_at};
@@ -11,13 +11,14 @@ use klp_words::{
 };
 use std::alloc::Global;
 
-/// A byte-order mark of UTF-16 in front of a text.
+/// The two byte-order marks of UTF-16, one of which may stand in front of a text.
 const UTF16_MARKS: [[u8; 2]; 2] = [[0xfe, 0xff], [0xff, 0xfe]];
 
-/// How many digits a byte of a body has.
+/// How many hexadecimal digits of a body stand for one byte.
 const DIGITS: usize = 2;
 
-/// Whether a text begins as a catalog without a fault can: with its handler, or with an object.
+/// Whether a text begins as a catalog must: its first line with a word, apart from comments, is a handler's or an
+/// object's.
 pub fn begins_as_catalog(text: &[u8]) -> bool {
     let mut lines = Lines::new(text);
     for _ in 0..text.len() {
@@ -30,12 +31,12 @@ pub fn begins_as_catalog(text: &[u8]) -> bool {
     false
 }
 
-/// Whether a text is UTF-16, by its first two bytes.
+/// Whether the first two bytes of a text mark it as UTF-16.
 pub fn begins_as_utf16(text: &[u8]) -> bool {
     UTF16_MARKS.iter().any(|mark| text.starts_with(mark))
 }
 
-/// Returns the first two words of a line. A word that isn't there is empty.
+/// Returns the first two words of a line. If the line lacks one of them, that one is empty.
 pub(crate) fn first_words(line: &[u8]) -> (&[u8], &[u8]) {
     let mut words = words_of(line.strip_suffix(b"\r").unwrap_or(line));
     let first = words.next().unwrap_or(&[]);
@@ -47,8 +48,8 @@ fn is_body(word: &[u8]) -> bool {
     word.len() % DIGITS == 0 && word.iter().all(u8::is_ascii_hexdigit)
 }
 
-/// Whether a word is an edit of a callback. The catalog's own reader decides: it gets a line with a status of 0 and
-/// this word. True also if memory runs out.
+/// Whether a word is an edit of a callback. The catalog's reader decides this, from a line of a status 0 and this word.
+/// Returns true also if memory runs out.
 fn is_edit(alloc: Global, word: &[u8]) -> bool {
     let mut script = Vec::new(alloc);
     if script.extend_from_slice(b"0 ").is_err() || script.extend_from_slice(word).is_err() {
@@ -59,7 +60,7 @@ fn is_edit(alloc: Global, word: &[u8]) -> bool {
     !matches!(read, Err(TextFaultKind::BadEdit))
 }
 
-/// Whether a word is spelled as this part of a line is.
+/// Whether a word is spelled as this part of a line must be.
 fn is_spelled(alloc: Global, part: Part, word: &[u8]) -> bool {
     match part {
         Part::Name => is_name(word),
@@ -74,7 +75,7 @@ fn is_spelled(alloc: Global, part: Part, word: &[u8]) -> bool {
     }
 }
 
-/// Returns as wrong the first of these words that is no edit. Looks at `most` words at most.
+/// Returns the first of these words that isn't an edit, as wrong. Looks at no more than `most` words.
 fn bad_edit<'a>(alloc: Global, mut words: LineWords<'a>, most: usize) -> Wrong<'a> {
     let mut word = words.next().unwrap_or(&[]);
     for _ in 0..most {
@@ -86,8 +87,8 @@ fn bad_edit<'a>(alloc: Global, mut words: LineWords<'a>, most: usize) -> Wrong<'
     Wrong::Word(word, Part::Edit.wanted())
 }
 
-/// Returns as wrong the first word of a line that isn't spelled as its part of the form. If all words are, returns the
-/// symbol, which is of another object than the target's.
+/// Returns the first word of a line that isn't spelled as the form says, as wrong. If each is spelled so, the symbol is
+/// wrong: it belongs to another object than the target's.
 fn bad_word<'a>(alloc: Global, form: &Form, line: &'a [u8]) -> Wrong<'a> {
     let mut words = words_of(line);
     words.next();
@@ -103,7 +104,7 @@ fn bad_word<'a>(alloc: Global, form: &Form, line: &'a [u8]) -> Wrong<'a> {
     Wrong::Word(word_at(words_of(line), 2), Part::Symbol.wanted())
 }
 
-/// Returns what is wrong with a line that repeats one above: the word that is there already.
+/// Returns what is wrong with a line that repeats an earlier one: the word that the earlier line already has.
 fn twice<'a>(form: &Form, line: &'a [u8]) -> Wrong<'a> {
     let number = match form.parts {
         [Part::Name | Part::Id, ..] => 2,
@@ -112,7 +113,7 @@ fn twice<'a>(form: &Form, line: &'a [u8]) -> Wrong<'a> {
     Wrong::Word(word_at(words_of(line), number), form.once)
 }
 
-/// Returns what is wrong with a line that is one too many, or with a body that is too long.
+/// Returns what is wrong with a line if the catalog has too many lines of its form, or if its body is too long.
 fn too_many<'a>(form: &Form, line: &'a [u8]) -> Wrong<'a> {
     let body = word_at(words_of(line), 4);
     match form.parts {
@@ -123,8 +124,8 @@ fn too_many<'a>(form: &Form, line: &'a [u8]) -> Wrong<'a> {
     }
 }
 
-/// Returns what is wrong with a line that begins with no word of a catalog, or with the third word of a patch, which
-/// can only be `replace`.
+/// Returns what is wrong with a line whose first word no line of a catalog begins with. If its first word is known, the
+/// wrong word is the third, which may only be `replace`.
 fn unknown_word(line: &[u8]) -> Wrong<'_> {
     let first = word_at(words_of(line), 1);
     match Form::of(first) {
@@ -136,7 +137,7 @@ fn unknown_word(line: &[u8]) -> Wrong<'_> {
     }
 }
 
-/// Returns what is wrong with a line of this form that has this fault.
+/// Returns what is wrong with a line, which is of this form and has this kind of fault.
 fn wrong_with<'a>(alloc: Global, form: &Form, kind: TextFaultKind, line: &'a [u8]) -> Wrong<'a> {
     match kind {
         TextFaultKind::WrongCount => Wrong::Word(line, form.written),
@@ -153,7 +154,7 @@ fn wrong_with<'a>(alloc: Global, form: &Form, kind: TextFaultKind, line: &'a [u8
     }
 }
 
-/// Returns what is wrong in the line of a catalog that has this fault.
+/// Returns what is wrong in the line of a catalog in which this fault was found.
 pub fn wrong_of(alloc: Global, catalog: &[u8], fault: TextFault) -> Wrong<'_> {
     let line = line_at(catalog, fault.line);
     match fault.kind {

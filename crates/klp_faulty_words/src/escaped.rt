@@ -1,15 +1,15 @@
-//! Bytes of a file, as a terminal may show them.
+//! Writes bytes of a file so that a terminal may show them.
 
 use std::fmt;
 
 /// How many bytes of a word are shown.
 const SHOWN: usize = 64;
 
-/// Writes bytes as they are, but escapes those that drive a terminal, can't be seen or are no text.
+/// Writes bytes as they are, except that it escapes those that would drive a terminal, can't be seen, or aren't text.
 #[derive(Clone, Copy)]
 pub struct Escaped<'a>(pub &'a [u8]);
 
-/// Writes bytes as [`Escaped`] does, between quotes. Cuts them off after the first [`SHOWN`], and then writes `..`.
+/// Writes bytes as [`Escaped`] does, between quotes. Of more than [`SHOWN`] bytes, writes the first [`SHOWN`] and `..`.
 #[derive(Clone, Copy)]
 pub struct Quoted<'a>(pub &'a [u8]);
 
@@ -35,7 +35,7 @@ impl<'a> fmt::Display for Escaped<'a> {
     }
 }
 
-/// Returns as much of a word as is shown: at most [`SHOWN`] bytes, up to the end of a character.
+/// Returns the part of a word that is shown: at most its first [`SHOWN`] bytes, cut at the end of a character.
 fn shown(word: &[u8]) -> &[u8] {
     let Some(front) = word.get(..SHOWN) else {
         return word;

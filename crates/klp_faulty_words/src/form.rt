@@ -4,7 +4,7 @@ use klp_types::{
     MAX_EDITS, MAX_FUNCTIONS, MAX_OBJECTS, MAX_PATCHES, MAX_SITES, MAX_STATES, MAX_TARGETS,
 };
 
-/// What a word after a line's first word is.
+/// What a word behind the first word of a line stands for.
 #[derive(Clone, Copy)]
 pub(crate) enum Part {
     Name,
@@ -15,20 +15,20 @@ pub(crate) enum Part {
     Status,
     Id,
     Version,
-    /// The last of a line: there may be any number of them.
+    /// The last part of a form. A line may have any number of edits.
     Edit,
 }
 
 /// A kind of line.
 pub(crate) struct Form {
-    /// The words that it may begin with.
+    /// The words with which a line of this form may begin.
     words: &'static [&'static str],
     /// What stands behind the first word.
     pub(crate) parts: &'static [Part],
     pub(crate) written: &'static str,
     pub(crate) place: &'static str,
     pub(crate) once: &'static str,
-    /// How many there may be, and of what.
+    /// How many of these a catalog, object or patch may have; `of_these` names what is counted.
     pub(crate) most: usize,
     pub(crate) of_these: &'static str,
 }
@@ -114,14 +114,14 @@ impl Form {
         self.words.iter().any(|own| own.as_bytes() == word)
     }
 
-    /// Returns the form of the lines that begin with this word. `None` if there is none.
+    /// Returns the form of the lines that begin with this word. Returns `None` if no line may begin with it.
     pub(crate) fn of(word: &[u8]) -> Option<&'static Form> {
         FORMS.iter().find(|form| form.begins_with(word))
     }
 }
 
 impl Part {
-    /// Returns what a word has to be in this place, as a phrase that begins with its verb.
+    /// Returns the phrase that says what a word must be in this place. It begins with its verb.
     pub(crate) fn wanted(self) -> &'static str {
         match self {
             Part::Name => "is a name, of 1 to 55 letters, digits, _ and -",

@@ -1,13 +1,13 @@
-//! Objects that make no image: which symbol is at fault, or which two are.
+//! Objects of which no image can be made: finds the symbol at fault, or the two symbols.
 
 use crate::wrong::{Named, Wrong};
 use klp_text::ImageFault;
 use klp_types::{ENTRY_SITE_LEN, ObjectText, SymbolText};
 
-/// ENDBR64. A function that begins with it has its entry site behind it.
+/// The instruction ENDBR64. If a function begins with it, its entry site stands behind it.
 const ENDBR64: [u8; 4] = [0xf3, 0x0f, 0x1e, 0xfa];
 
-/// Returns after how many bytes of a symbol's body its entry site ends.
+/// Returns the index in a symbol's body at which its entry site ends.
 fn entry_end(symbol: &SymbolText) -> usize {
     if symbol.body.starts_with(&ENDBR64) {
         ENDBR64.len() + ENTRY_SITE_LEN
@@ -21,7 +21,7 @@ fn is_short(symbol: &SymbolText) -> bool {
     symbol.body.len() < entry_end(symbol)
 }
 
-/// Whether a call at the entry site reaches the handler: the distance must fit into 32 bits with a sign.
+/// Whether a call at the symbol's entry site can reach the handler. The distance must fit into 32 bits with a sign.
 fn is_in_reach(handler: u64, symbol: &SymbolText) -> bool {
     let behind = i128::from(symbol.address) + entry_end(symbol) as i128;
     i32::try_from(i128::from(handler) - behind).is_ok()
@@ -37,7 +37,7 @@ fn share_address(one: &SymbolText, other: &SymbolText) -> bool {
     u128::from(one.address) < end_of(other) && u128::from(other.address) < end_of(one)
 }
 
-/// Returns a symbol with the name of its object.
+/// Returns the names of a symbol and of its object.
 fn named<'a>(object: &'a ObjectText, symbol: &'a SymbolText) -> Named<'a> {
     Named {
         symbol: symbol.name.as_str(),
@@ -45,7 +45,7 @@ fn named<'a>(object: &'a ObjectText, symbol: &'a SymbolText) -> Named<'a> {
     }
 }
 
-/// Returns what a symbol must be, if it has this fault by itself. `None` if it doesn't.
+/// Returns what a symbol must be, if this fault shows in the symbol alone. Returns `None` if it doesn't.
 fn wanted_of(fault: ImageFault, handler: u64, symbol: &SymbolText) -> Option<&'static str> {
     match fault {
         ImageFault::ShortSymbol if is_short(symbol) => {
@@ -61,7 +61,8 @@ fn wanted_of(fault: ImageFault, handler: u64, symbol: &SymbolText) -> Option<&'s
     }
 }
 
-/// Returns the first symbol of an object, among the first `before`, that shares an address with `symbol`.
+/// Returns the first of an object's first `before` symbols that shares an address with `symbol`. Returns `None` if none
+/// does.
 fn sharing<'a>(object: &'a ObjectText, before: usize, symbol: &SymbolText) -> Option<Named<'a>> {
     for other in object.symbols.iter().take(before) {
         if share_address(other, symbol) {
@@ -71,7 +72,8 @@ fn sharing<'a>(object: &'a ObjectText, before: usize, symbol: &SymbolText) -> Op
     None
 }
 
-/// Returns the first symbol before `symbol` that shares an address with it. `symbol` is at `place` in the last object.
+/// Returns the first symbol that stands before `symbol` and shares an address with it. `symbol` is at `place` in the
+/// last of these objects. Returns `None` if there is no such symbol.
 fn in_the_way<'a>(
     objects: &'a [ObjectText],
     place: usize,
@@ -86,7 +88,8 @@ fn in_the_way<'a>(
     sharing(last, place, symbol)
 }
 
-/// Returns what is wrong with the symbol at `place` in the last of these objects. `None` if it doesn't have this fault.
+/// Returns what is wrong with the symbol at `place` in the last of these objects. Returns `None` if the symbol doesn't
+/// have this fault.
 fn wrong_symbol<'a>(
     objects: &'a [ObjectText],
     place: usize,
@@ -107,7 +110,7 @@ fn wrong_symbol<'a>(
     }
 }
 
-/// Returns what is wrong with the first symbol that has this fault. `None` if none has.
+/// Returns what is wrong with the first symbol that has this fault. Returns `None` if no symbol has it.
 fn first_wrong_symbol<'a>(
     objects: &'a [ObjectText],
     handler: u64,
@@ -125,8 +128,9 @@ fn first_wrong_symbol<'a>(
     None
 }
 
-/// Returns what is wrong with the objects of a catalog that make no image, for this fault. `None` if the fault points
-/// at none of them: two of one name, too many, no memory, or no object at all.
+/// Returns what is wrong with a catalog's objects, of which no image can be made because of this fault. Returns `None`
+/// if the fault points at no symbol: two objects have one name, there are too many, memory ran out, or there is no
+/// object.
 pub fn wrong_of<'a>(
     objects: &'a [ObjectText],
     handler: u64,

@@ -1,4 +1,4 @@
-//! The lines of a trace that are about one task, or are no items; and a line of a script that may be misspelled.
+//! Lines of a trace that are about one task, or that are no items; and lines of a script that may be misspelled.
 
 use crate::lines::word_at;
 use crate::names::{Kind, Names, wrong_word};
@@ -8,8 +8,8 @@ use klp_trace::LineParts;
 use klp_types::MAX_FRAMES;
 use klp_words::{LineWords, Separators, microseconds, number64};
 
-/// How items are written. A word in capital letters stands for one of its kind, and `..` for more of the last kind. The
-/// lines of shadow variables have no names to report.
+/// How items are written. A word in capital letters stands for any word of that kind, and `..` for more words of the
+/// kind before it. The lines of shadow variables are left out, since they have no names that could be wrong.
 static FORMS: [&str; 19] = [
     "call TASK SYMBOL",
     "return TASK",
@@ -32,13 +32,14 @@ static FORMS: [&str; 19] = [
     "task sleep TASK FRAME ..",
 ];
 
-/// How a sight of a patch's files is written. It begins as other items do.
+/// The form of an item that says what was read in a patch's files. It is apart from [`FORMS`], since other items begin
+/// with `saw` too.
 const FILES: &str = "saw PATCH ENABLED TRANSITION";
 
 /// The first words of items that are no events.
 const OF_NO_EVENT: [&[u8]; 6] = [b"call", b"return", b"saw", b"ran", b"hooked", b"plain"];
 
-/// What the words in capital letters stand for.
+/// For each word in capital letters, the kind of word that it stands for.
 static KINDS: [(&str, Kind); 10] = [
     ("PATCH", Kind::Patch),
     ("OBJECT", Kind::Object),
@@ -52,11 +53,11 @@ static KINDS: [(&str, Kind); 10] = [
     ("STATE", Kind::State),
 ];
 
-/// What is wanted if a line has none of these forms, or one that asks for no event.
+/// What is wanted in place of a line that has none of these forms, or that is a console line but asks for no event.
 const ITEM: &str =
     "is call TASK SYMBOL, return TASK, or a line of the console that asks for an event";
 
-/// What is wanted before an answer, if no event stands there.
+/// What is wanted in place of a line with an answer whose item isn't an event.
 const ANSWERED: &str = "is a line without =>, behind which an event's answer stands";
 
 /// What is wanted behind `=>`.
@@ -66,13 +67,13 @@ const ANSWER: &str =
 /// What is wanted behind `@`.
 const TIME: &str = "is seconds, with 6 decimals at most, and an item behind a space";
 
-/// What is wanted if a line of a script has none of the console's forms.
+/// What is wanted in place of a script's line that has none of the console's forms.
 const LINE: &str = "is a line of the console";
 
-/// What a line of a trace says of a task, or of a module that goes. Other lines aren't distinguished.
+/// What a line of a trace says of a task, or of a module that is unloaded. Other lines have no item of this type.
 #[derive(Clone, Copy)]
 pub enum Item<'a> {
-    /// The task calls the function that is spelled so.
+    /// The task calls the function with this spelling.
     Call(u64, &'a [u8]),
     Return(u64),
     Sleep(u64),
@@ -86,12 +87,13 @@ fn words_of(line: &[u8]) -> LineWords<'_> {
     LineWords::new(line, Separators::Spaces)
 }
 
-/// Returns the word of this number, counted from 1. A word that isn't there is empty.
+/// Returns the word with this number, counted from 1. The word is empty if the line has fewer.
 fn word(line: &[u8], number: usize) -> &[u8] {
     word_at(words_of(line), number)
 }
 
-/// Returns what a line with the first word `task` says, by its second and third word. `None` for any other line.
+/// Returns what a line says of a task if its first word is `task`. `verb` and `task` are its second and third word.
+/// Returns `None` if it says none of these things.
 fn task_item<'a>(verb: &[u8], task: &[u8]) -> Option<Item<'a>> {
     let task = number64(task)?;
     if verb == b"sleep".as_slice() {
@@ -106,7 +108,7 @@ fn task_item<'a>(verb: &[u8], task: &[u8]) -> Option<Item<'a>> {
 }
 
 impl<'a> Item<'a> {
-    /// Reads what a line says of a task or a module. `None` for any other line.
+    /// Returns what a line says of a task or of a module that is unloaded. Returns `None` for any other line.
     pub fn read(line: &'a [u8]) -> Option<Item<'a>> {
         let item = LineParts::of(line).item;
         let (first, second, third) = (word(item, 1), word(item, 2), word(item, 3));
@@ -124,21 +126,22 @@ impl<'a> Item<'a> {
     }
 }
 
-/// Whether a line begins as a form does: with its first word, and its second if that is in small letters.
+/// Whether a line begins as a form does. Compares the first word, and also the second if the form's has small letters.
 fn begins_as(form: &[u8], line: &[u8]) -> bool {
     let (first, second) = (word(form, 1), word(form, 2));
     let has_verb = second.iter().any(u8::is_ascii_lowercase);
     first == word(line, 1) && (!has_verb || second == word(line, 2))
 }
 
-/// Returns what a word has to be in this place of a form. `None` if the word is so, or if the place wants no kind.
+/// Returns the kind that this place of a form wants, if the word isn't of this kind. Returns `None` if the word is, or
+/// if the place wants no kind.
 fn in_place_of(part: &[u8], word: &[u8], names: &Names<'_>) -> Option<Kind> {
     let (_, kind) = KINDS.iter().find(|row| row.0.as_bytes() == part)?;
     (!names.has(*kind, word)).then_some(*kind)
 }
 
-/// Returns what is wrong with a line that doesn't fit this form: its first word of the wrong kind, or else the number
-/// of its words. `None` if the line fits.
+/// Returns what is wrong with a line that should have this form: the first word that isn't of the wanted kind, or else
+/// the number of words. Returns `None` if the line has the form.
 fn wrong_in<'a>(
     form: &'static str,
     line: &'a [u8],
@@ -166,7 +169,7 @@ fn wrong_in<'a>(
     Some(Wrong::Form(line, form))
 }
 
-/// Returns what is wrong with a line that fits its form and still is no item.
+/// Returns what is wrong with a line that has a form of [`FORMS`], but still isn't an item.
 fn wrong_though_fitting<'a>(form: &'static str, line: &'a [u8]) -> Wrong<'a> {
     if form.ends_with("..") {
         Wrong::Most(line, MAX_FRAMES, "functions")
@@ -177,7 +180,8 @@ fn wrong_though_fitting<'a>(form: &'static str, line: &'a [u8]) -> Wrong<'a> {
     }
 }
 
-/// Returns what is wrong with a line that has none of the forms. `wanted` says what its place wants.
+/// Returns what is wrong with a line that has none of the forms. `wanted` is the phrase for what should be in its
+/// place.
 fn formless<'a>(line: &'a [u8], wanted: &'static str) -> Wrong<'a> {
     let first = word(line, 1);
     if first.is_empty() {
@@ -192,8 +196,8 @@ fn formless<'a>(line: &'a [u8], wanted: &'static str) -> Wrong<'a> {
     }
 }
 
-/// Returns the form of a line, by its first words. Several forms begin with `saw`: there the other words decide. `None`
-/// if it has none.
+/// Returns the form of a line, which its first words determine. If the first word is `saw`, the third and fourth
+/// decide. Returns `None` if the line has no form.
 fn form_of(line: &[u8]) -> Option<&'static str> {
     if word(line, 1) == b"saw".as_slice() {
         return Some(match (word(line, 3), word(line, 4)) {
@@ -206,7 +210,7 @@ fn form_of(line: &[u8]) -> Option<&'static str> {
     Some(*form)
 }
 
-/// Returns what is wrong with a line of a trace whose item fits a form: its answer, or else the item.
+/// Returns what is wrong with a line of a trace whose item has a form: its answer if it has one, otherwise the item.
 fn wrong_answer<'a>(parts: LineParts<'a>, form: &'static str) -> Wrong<'a> {
     match parts.answer {
         Some(_) if is_of_no_event(parts.item) => Wrong::Word(parts.text, ANSWERED),
@@ -215,12 +219,13 @@ fn wrong_answer<'a>(parts: LineParts<'a>, form: &'static str) -> Wrong<'a> {
     }
 }
 
-/// Whether an item begins as one that is no event.
+/// Whether an item begins with a word with which no event begins.
 fn is_of_no_event(item: &[u8]) -> bool {
     OF_NO_EVENT.iter().any(|first| *first == word(item, 1))
 }
 
-/// Returns what is wrong with a line of a trace that is no item. Looks at both the names of the catalog and its text.
+/// Returns what is wrong with a line of a trace that isn't an item. `names` and `catalog` are the names and the text of
+/// the same catalog.
 pub fn wrong_of<'a>(line: &'a [u8], names: &Names<'_>, catalog: &'a [u8]) -> Wrong<'a> {
     let parts = LineParts::of(line);
     if let Some(time) = parts.time
@@ -241,9 +246,9 @@ pub fn wrong_of<'a>(line: &'a [u8], names: &Names<'_>, catalog: &'a [u8]) -> Wro
     }
 }
 
-/// Returns what may be misspelled in a line of a script: the line is none of the console's, or has a name that the
-/// catalog lacks. `None` if nothing is, and for lines that aren't checked: those that only ask, or are about shadow
-/// variables.
+/// Returns what may be misspelled in a line of a script: the line isn't one of the console's, or it has a name that the
+/// catalog lacks. Returns `None` if nothing seems misspelled. Some lines aren't checked, and give `None` too: those
+/// that only ask, and those about shadow variables.
 pub fn misspelled_in<'a>(
     line: &'a [u8],
     names: &Names<'_>,

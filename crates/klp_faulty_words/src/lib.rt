@@ -1,15 +1,17 @@
 //! Which word of a faulty file is wrong, and what is wanted in its place.
 //!
-//! A program knows a fault by its kind and its line. Here the line is read once more, as text, for the word at fault:
-//! in a catalog (`src/catalog_fault.rt`, by the forms of its lines in `form.rt`) or in a trace (`item.rt`, by the names
-//! of the catalog, `names.rt`). `image.rt` finds the symbols that make no image, and `same_site.rt` the functions that
-//! are for one site. A [`Wrong`](wrong::Wrong) is what was found, as a sentence.
+//! A program knows only the kind of a fault and its line. This crate reads the line again, as text, to find the word at
+//! fault. In a catalog it goes by the forms of lines (`src/catalog_fault.rt`, `form.rt`), in a trace by the names of
+//! the catalog (`item.rt`, `names.rt`). `image.rt` finds symbols of which no image can be made, and `same_site.rt`
+//! finds functions that are for one site. What was found is a [`Wrong`](wrong::Wrong), which can be written as a
+//! sentence.
 //!
-//! A hint says what means something in other files and nothing here (`stray.rt`), or names a function of the catalog
-//! whose symbol isn't picked (`unpicked.rt`), with a similarly spelled name (`near.rt`).
+//! There are two kinds of hints. One points at words that mean something in files of other kinds, but not here
+//! (`stray.rt`). The other points at a function of the catalog whose symbol can't be picked (`unpicked.rt`), and adds a
+//! name that is spelled similarly (`near.rt`).
 //!
-//! All of it is for people, and has no contract. No file can drive a terminal through it (`escaped.rt`), and each call
-//! works with any files.
+//! All of this is for people, and has no contract. No bytes of a file can drive a terminal through it (`escaped.rt`).
+//! Each call works with any files.
 #![tactic(auto)]
 
 pub mod catalog_fault;

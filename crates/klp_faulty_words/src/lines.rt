@@ -1,9 +1,9 @@
-//! Lines and words of a file, found once more.
+//! Finds lines and words of a file again, by their numbers.
 
 use klp_catalog_text::Lines;
 use klp_words::LineWords;
 
-/// Returns the line of this number, counted from 1, of a catalog or a trace. A line that isn't there is empty.
+/// Returns the line with this number, counted from 1, of a catalog or a trace. The line is empty if there are fewer.
 pub fn line_at(text: &[u8], number: u64) -> &[u8] {
     let mut lines = Lines::new(text);
     for _ in 1..number {
@@ -12,7 +12,7 @@ pub fn line_at(text: &[u8], number: u64) -> &[u8] {
     lines.next().unwrap_or(&[])
 }
 
-/// Returns the word of this number, counted from 1. A word that isn't there is empty.
+/// Returns the word with this number, counted from 1. The word is empty if there are fewer.
 pub fn word_at<'a>(mut words: LineWords<'a>, number: usize) -> &'a [u8] {
     for _ in 1..number {
         words.next();

@@ -7,10 +7,10 @@ use klp_catalog_text::PlanPatch;
 use klp_types::{MAX_INDEX, MAX_TASKS, ObjectText};
 use klp_words::{cut, number64, spelling_of};
 
-/// What the paths of a patch's files begin with.
+/// What the path of each file of a patch begins with.
 const BELOW_PATCHES: &[u8] = b"/sys/kernel/livepatch/";
 
-/// What a word of a trace has to be.
+/// The kind that a word of a trace must be of.
 #[derive(Clone, Copy)]
 pub(crate) enum Kind {
     Patch,
@@ -24,7 +24,7 @@ pub(crate) enum Kind {
 }
 
 impl Kind {
-    /// Returns what a word of this kind has to be, as a phrase that begins with its verb.
+    /// Returns the phrase that says what a word of this kind must be. It begins with its verb.
     pub(crate) fn wanted(self) -> &'static str {
         match self {
             Kind::Patch => "is a patch of the catalog",
@@ -39,15 +39,15 @@ impl Kind {
     }
 }
 
-/// The objects and patches of a catalog, by their names.
+/// The objects and patches of a catalog, to be found by name.
 #[derive(Clone, Copy)]
 pub struct Names<'a> {
     pub objects: &'a [ObjectText],
     pub patches: &'a [PlanPatch],
 }
 
-/// Returns what is wrong with a word that isn't of this kind. The text of the catalog shows what a symbol's name may
-/// have been meant for.
+/// Returns what is wrong with a word that should be of this kind and isn't. If it spells a symbol, looks in the
+/// catalog's text for why no symbol is picked, and for a similar name.
 pub(crate) fn wrong_word<'a>(kind: Kind, word: &'a [u8], catalog: &'a [u8]) -> Wrong<'a> {
     let unpicked = match kind {
         Kind::Symbol | Kind::Frame => unpicked_by(catalog, word),
@@ -59,7 +59,7 @@ pub(crate) fn wrong_word<'a>(kind: Kind, word: &'a [u8], catalog: &'a [u8]) -> W
     }
 }
 
-/// Whether a word is a number up to this one.
+/// Whether a word is a number from 0 to `most`.
 fn is_number_to(most: u64, word: &[u8]) -> bool {
     number64(word).is_some_and(|number| number <= most)
 }
@@ -70,12 +70,12 @@ impl<'a> Names<'a> {
         self.patches.iter().any(|own| own.name.as_bytes() == name)
     }
 
-    /// Returns the object of this name. `None` if the catalog has none.
+    /// Returns the object with this name. Returns `None` if the catalog has none.
     fn object(&self, name: &[u8]) -> Option<&'a ObjectText> {
         self.objects.iter().find(|own| own.name.as_bytes() == name)
     }
 
-    /// Whether a word, as `.klp.sym.OBJECT.SYMBOL,POSITION`, picks one symbol of the catalog.
+    /// Whether a word is `.klp.sym.OBJECT.SYMBOL,POSITION` and picks a symbol of the catalog.
     fn has_symbol(&self, word: &[u8]) -> bool {
         spelling_of(word).is_some_and(|spelling| {
             let Some(object) = self.object(spelling.object.as_bytes()) else {
@@ -85,13 +85,13 @@ impl<'a> Names<'a> {
         })
     }
 
-    /// Whether a word is a function that a task can be inside of: an original, or one of a patch by its index.
+    /// Whether a word names a function that a task can be inside of: an original, or `PATCH:INDEX` for a new function.
     fn has_frame(&self, word: &[u8]) -> bool {
         let (patch, index) = cut(word, b':');
         self.has_symbol(word) || self.has_patch(patch) && is_number_to(MAX_INDEX, index)
     }
 
-    /// Whether a word is the path of a patch's file that can be written.
+    /// Whether a word is the path of a patch's file to which a script can write.
     fn has_file(&self, word: &[u8]) -> bool {
         let (patch, file) = cut(word.strip_prefix(BELOW_PATCHES).unwrap_or(&[]), b'/');
         self.has_patch(patch) && matches!(file, b"enabled" | b"force")

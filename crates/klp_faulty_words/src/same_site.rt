@@ -1,11 +1,11 @@
-//! Functions of a patch that are for one site.
+//! Two functions of a patch that are for the same site.
 
 use crate::wrong::{Named, Pair, Wrong};
 use klp_catalog_text::{PlanFunction, PlanPatch, PlanTarget};
 use klp_types::ObjectText;
 
-/// Returns which of an object's symbols of this name `sympos` asks for, counted from 1: 0 asks for the only one. `None`
-/// if there is no such symbol, or if 0 stands for several.
+/// Returns the position, counted from 1, of the symbol with this name for which `sympos` asks. A `sympos` of 0 asks for
+/// the only symbol of the name. Returns `None` if there is no such symbol, or if `sympos` is 0 and there are several.
 pub(crate) fn position_in(object: &ObjectText, symbol: &str, sympos: u32) -> Option<usize> {
     let count = object
         .symbols
@@ -27,7 +27,7 @@ fn are_for_one_site(object: &ObjectText, one: &PlanFunction, other: &PlanFunctio
         && position == position_in(object, other.symbol.as_str(), other.sympos)
 }
 
-/// Returns the first of these functions that is for the same site as `function`. `None` if none is.
+/// Returns the first of `functions` that is for the same site as `function`. Returns `None` if there is none.
 fn earlier<'a>(
     object: &ObjectText,
     functions: &'a [PlanFunction],
@@ -38,7 +38,7 @@ fn earlier<'a>(
         .find(|other| are_for_one_site(object, other, function))
 }
 
-/// Returns the first two functions of a target that are for one site. `None` if no two are.
+/// Returns the first two functions of a target that are for the same site. Returns `None` if there are no such two.
 fn pair_in<'a>(patch: &'a str, object: &'a ObjectText, target: &'a PlanTarget) -> Option<Pair<'a>> {
     for (place, function) in target.functions.iter().enumerate() {
         if let Some(other) = earlier(object, &target.functions[..place], function) {
@@ -56,7 +56,7 @@ fn pair_in<'a>(patch: &'a str, object: &'a ObjectText, target: &'a PlanTarget) -
     None
 }
 
-/// Returns the first two functions of a patch that are for one site. `None` if no two are.
+/// Returns the first two functions of a patch that are for the same site. Returns `None` if there are no such two.
 fn pair_of<'a>(objects: &'a [ObjectText], patch: &'a PlanPatch) -> Option<Pair<'a>> {
     for target in &patch.targets {
         let object = objects.get(usize::from(target.object.0))?;
@@ -68,7 +68,8 @@ fn pair_of<'a>(objects: &'a [ObjectText], patch: &'a PlanPatch) -> Option<Pair<'
     None
 }
 
-/// Returns the first two functions for one site, of the first patch that has such. `None` if no patch has.
+/// Returns the first two functions that are for the same site, from the first patch that has two such functions.
+/// Returns `None` if no patch has.
 pub fn first_pair<'a>(objects: &'a [ObjectText], patches: &'a [PlanPatch]) -> Option<Wrong<'a>> {
     for patch in patches {
         if let Some(pair) = pair_of(objects, patch) {

@@ -1,4 +1,4 @@
-//! What means something in other files and nothing here. It is no fault, and means what it means.
+//! Words and bytes that mean something in files of other kinds, but not in this one. They aren't faults.
 
 use crate::catalog_fault::{begins_as_catalog, begins_as_utf16, first_words};
 use klp_types::MAX_CONSOLE_LINE;
@@ -6,7 +6,7 @@ use klp_types::MAX_CONSOLE_LINE;
 /// The bytes of a byte-order mark.
 pub(crate) const BYTE_ORDER_MARK: [u8; 3] = [0xef, 0xbb, 0xbf];
 
-/// What the file beside the catalog is.
+/// The kind of the file that is given beside the catalog.
 #[derive(Clone, Copy)]
 pub enum Kind {
     Script,
@@ -15,23 +15,23 @@ pub enum Kind {
 
 #[derive(Clone, Copy)]
 pub enum Stray {
-    /// All of the file.
+    /// The whole file is a catalog.
     Catalog,
-    /// All of the file, by a line that asks for no event.
+    /// The whole file is a script: it has a line that asks for no event.
     Script,
-    /// All of the file, by a line that no script has.
+    /// The whole file is a trace: it has a line that a script can't have.
     Trace,
-    /// All of the file.
+    /// The whole file is UTF-16.
     Utf16,
-    /// In front of the first line.
+    /// Stands before the first line.
     ByteOrderMark,
     CarriageReturn,
     Tab,
-    /// At the front of a line.
+    /// A `#`, which begins the line.
     Comment,
 }
 
-/// If the file is UTF-16, only the first of these is reported.
+/// All strays, in the order in which they are looked for. If the file is UTF-16, no other is reported.
 pub const STRAYS: [Stray; 8] = [
     Stray::Utf16,
     Stray::Catalog,
@@ -43,12 +43,13 @@ pub const STRAYS: [Stray; 8] = [
     Stray::Comment,
 ];
 
-/// The words that begin a line of a script which asks for no event.
+/// The first words of those lines of a script that ask for no event.
 const QUERIES: [&str; 9] = [
     "cat", "ls", "text", "stack", "pick", "runs", "mark", "rewind", "seal",
 ];
 
-/// Whether a line begins as a console line that only asks, as `cat`: a script may have it, and a trace may not.
+/// Whether a line begins as a console line that asks for no event, such as `cat`. A script may have such a line, a
+/// trace may not.
 pub(crate) fn is_query(line: &[u8]) -> bool {
     match first_words(line) {
         (b"shadow", second) => second == b"get".as_slice(),
@@ -56,7 +57,7 @@ pub(crate) fn is_query(line: &[u8]) -> bool {
     }
 }
 
-/// Whether a line begins as only lines of a trace do.
+/// Whether a line begins in a way in which only lines of a trace do.
 fn is_of_trace(line: &[u8]) -> bool {
     let (first, _) = first_words(line);
     let is_timed = first.first() == Some(&b'@');
@@ -67,8 +68,8 @@ fn is_of_trace(line: &[u8]) -> bool {
         )
 }
 
-/// Whether a line's spelling needs no hint here: the line has no words, gets another hint, is a fault, or is about
-/// shadow variables, which have no names.
+/// Whether the spelling of a line isn't checked here. That is so for a line without words, for one that gets another
+/// hint, for a faulty one, and for one about shadow variables, which have no names.
 pub(crate) fn is_reported_elsewhere(line: &[u8]) -> bool {
     let (first, _) = first_words(line);
     let has_stray = line.iter().any(|b| matches!(*b, b'\r' | b'\t'));
@@ -78,7 +79,7 @@ pub(crate) fn is_reported_elsewhere(line: &[u8]) -> bool {
 }
 
 impl Stray {
-    /// Whether a line has it, or a whole text, for what concerns a whole file.
+    /// Whether this stray is in `line`. If the stray concerns a whole file, `line` is the whole text.
     fn is_in(self, line: &[u8]) -> bool {
         match self {
             Stray::Catalog => begins_as_catalog(line),
@@ -92,7 +93,8 @@ impl Stray {
         }
     }
 
-    /// Returns the number of the first line of a text that has it, counted from 1. `None` if no line has.
+    /// Returns the number, counted from 1, of the first line of a text that has this stray. Returns `None` if no line
+    /// has.
     pub fn first_line(self, text: &[u8]) -> Option<usize> {
         let mut lines = text.split(|b| *b == b'\n');
         let place = match self {
@@ -102,7 +104,7 @@ impl Stray {
         Some(place?.saturating_add(1))
     }
 
-    /// Returns the hint at it in a file of this kind. `None` if such a file may have it.
+    /// Returns the hint at this stray in a file of this kind. Returns `None` if it is no stray in such a file.
     pub fn hint(self, kind: Kind) -> Option<&'static str> {
         Some(match (self, kind) {
             (Stray::Catalog, Kind::Script) => "a catalog, where a script is wanted",

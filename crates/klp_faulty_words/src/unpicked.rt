@@ -1,4 +1,4 @@
-//! A symbol that a name and a position don't pick: there is none of the name, there are several, or there are too few.
+//! A name and a position that pick no symbol. No symbol has the name, or several have it, or fewer than the position.
 
 use crate::catalog_fault::first_words;
 use crate::escaped::{Escaped, Quoted};
@@ -9,20 +9,20 @@ use std::fmt;
 /// The object that is always loaded.
 const KERNEL: &[u8] = b"vmlinux";
 
-/// Why a symbol isn't picked.
+/// Why a spelling picks no symbol.
 #[derive(Clone, Copy)]
 pub enum Why<'a> {
-    /// The catalog has no such object, but maybe one with a similar name.
+    /// The catalog has no object of this name. If it has one with a similar name, that is here.
     NoObject(Option<&'a [u8]>),
-    /// The object has no such symbol, but maybe one with a similar name.
+    /// The object has no symbol of this name. If it has one with a similar name, that is here.
     NoSymbol(Option<&'a [u8]>),
-    /// The object has so many.
+    /// The object has this many symbols of the name, and the spelling doesn't say which.
     Several(usize),
-    /// The object has only so many.
+    /// The object has only this many symbols of the name, fewer than the position.
     Fewer(usize),
 }
 
-/// What a spelling asks for that isn't picked.
+/// The object and the symbol of a spelling that picks no symbol, and why it picks none.
 #[derive(Clone, Copy)]
 pub struct Unpicked<'a> {
     object: &'a str,
@@ -30,7 +30,7 @@ pub struct Unpicked<'a> {
     pub why: Why<'a>,
 }
 
-/// A function of a catalog whose symbol isn't picked, in this line.
+/// A function of a catalog whose symbol can't be picked, and the line of the function.
 #[derive(Clone, Copy)]
 pub struct Unloadable<'a> {
     pub line: usize,
@@ -39,7 +39,7 @@ pub struct Unloadable<'a> {
     unpicked: Unpicked<'a>,
 }
 
-/// What the lines of a catalog have in place of a symbol.
+/// What the lines of a catalog have for the object and symbol of a spelling.
 #[derive(Clone, Copy)]
 struct Found<'a> {
     has_object: bool,
@@ -49,7 +49,7 @@ struct Found<'a> {
     near_symbol: Option<&'a [u8]>,
 }
 
-/// Writes a similarly spelled name, if there is one.
+/// Writes the similarly spelled name, or nothing if there is none.
 fn write_but<W: fmt::Write>(f: &mut fmt::Formatter<W>, near: Option<&[u8]>) -> fmt::Result {
     match near {
         Some(name) => write!(f, ", but {}", Escaped(name)),
@@ -104,7 +104,7 @@ impl<'a> fmt::Display for Unloadable<'a> {
     }
 }
 
-/// Returns what a catalog has in place of this symbol. Looks only at lines before the first patch, since objects and
+/// Returns what a catalog has for this spelling. Looks only at the lines before the first patch, since all objects and
 /// symbols stand there.
 fn found_in<'a>(catalog: &'a [u8], wanted: &Spelling<'_>) -> Found<'a> {
     let (object, symbol) = (wanted.object.as_bytes(), wanted.symbol.as_bytes());
@@ -131,8 +131,8 @@ fn found_in<'a>(catalog: &'a [u8], wanted: &Spelling<'_>) -> Found<'a> {
     found
 }
 
-/// Returns which symbol a word spells, and why it picks none of the catalog's. `None` if the word picks one, or spells
-/// none.
+/// Returns the symbol that a word spells, and why it picks none. Returns `None` if the word picks a symbol, or isn't a
+/// symbol's spelling.
 pub(crate) fn unpicked_by<'a>(catalog: &'a [u8], word: &'a [u8]) -> Option<Unpicked<'a>> {
     let wanted = spelling_of(word)?;
     let found = found_in(catalog, &wanted);
@@ -151,14 +151,14 @@ pub(crate) fn unpicked_by<'a>(catalog: &'a [u8], word: &'a [u8]) -> Option<Unpic
     })
 }
 
-/// Whether a line of a script or a trace loads this patch.
+/// Whether a line of this script or trace loads the patch.
 fn is_loaded(text: &[u8], patch: &[u8]) -> bool {
     text.split(|b| *b == b'\n')
         .any(|line| first_words(line) == (b"load".as_slice(), patch))
 }
 
-/// Whether a hint is worth it. A missing symbol of an object always gets one. Several symbols of its name get one only
-/// if the script or the trace loads the patch.
+/// Whether a symbol that isn't picked gets a hint. It does if the object lacks the symbol. If the object has several of
+/// its name, it does only if the script or trace loads the patch. If the object is missing, it doesn't.
 fn is_reported(unpicked: &Unpicked<'_>, patch: &[u8], second: &[u8]) -> bool {
     match unpicked.why {
         Why::NoSymbol(_) | Why::Fewer(_) => true,
@@ -167,8 +167,8 @@ fn is_reported(unpicked: &Unpicked<'_>, patch: &[u8], second: &[u8]) -> bool {
     }
 }
 
-/// Returns the first function of a catalog whose symbol isn't picked, and is worth a hint. `second` is the script or
-/// the trace. `None` if there is none.
+/// Returns the first function of a catalog whose symbol isn't picked and gets a hint. `second` is the text of the
+/// script or trace. Returns `None` if there is no such function.
 pub fn first_unloadable<'a>(catalog: &'a [u8], second: &[u8]) -> Option<Unloadable<'a>> {
     let mut patch: &[u8] = &[];
     for (number, line) in catalog.split(|b| *b == b'\n').enumerate() {

@@ -1,10 +1,10 @@
-//! What is wrong in a file, behind the name of its fault.
+//! What is wrong in a file: the text that follows the name of the fault.
 
 use crate::escaped::{Escaped, Quoted};
 use crate::unpicked::Unpicked;
 use std::fmt;
 
-/// A symbol, and its object.
+/// The names of a symbol and of its object.
 #[derive(Clone, Copy)]
 pub struct Named<'a> {
     pub symbol: &'a str,
@@ -20,25 +20,25 @@ pub struct Pair<'a> {
     pub site: Named<'a>,
 }
 
-/// What is wrong. Each text of what is wanted begins with its verb.
+/// What is wrong. Wherever a text says what is wanted, it begins with its verb.
 #[derive(Clone, Copy)]
 pub enum Wrong<'a> {
-    /// Something is lacking.
+    /// Something is missing: this is wanted.
     Lacking(&'static str),
-    /// A word, or a whole line, stands where this is wanted.
+    /// This word, or this whole line, is wrong. The text says what is wanted in its place.
     Word(&'a [u8], &'static str),
-    /// A word spells a symbol that isn't picked.
+    /// This word spells a symbol, but picks none, for this reason.
     Unpicked(&'a [u8], Unpicked<'a>),
-    /// A line stands where one of this form is wanted.
+    /// This line doesn't have the form that it should have, which is the text.
     Form(&'a [u8], &'static str),
-    /// This is one more than the allowed number of these.
+    /// This word or line is more than allowed: at most this number of these may be there.
     Most(&'a [u8], usize, &'static str),
     Symbol(Named<'a>, &'static str),
     SharedAddress(Named<'a>, Named<'a>),
-    /// The first object isn't the kernel.
+    /// The first object has this name, and so isn't the kernel.
     First(&'a str),
     SameSite(Pair<'a>),
-    /// The file of this name is the one that is wanted here.
+    /// The two files are swapped: the file with this name is the one that is wanted here.
     Swapped(&'a str),
 }
 

@@ -6,7 +6,8 @@ ghost use Rattle.klp_types.specs.declared.record.Record.{Record};
 ghost use Rattle.klp_types.specs.declared.record.Record.TheVariants.{TaskRow, NoTaskRow, Moving};
 ghost use Rattle.klp_journal.specs.Words.{words_of, IsRecord};
 
-/// The words of three records. The last word is the tag: the record's kind, plus 256 for each word before it.
+/// The words of three records. The last word of a record is its tag: the record's kind, plus 256 for each word before
+/// the tag.
 pub fn words_are_counted_by_their_tags()
     ensures no_task { words_of (NoTaskRow 1) ≡ 1 ∷ 257 ∷ [] }
     ensures task { words_of (TaskRow 1 (record { state = negsuc 0; mode = Kernel; frames = [] })) ≡ 1 ∷ 4 ∷ 513 ∷ [] }

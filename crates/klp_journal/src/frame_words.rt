@@ -13,9 +13,9 @@ use std::marker::Model;
 /// The words of a task's frames, outermost first, as in the task's record.
 #[derive(Clone, Drop)]
 pub struct FrameWords {
-    /// The words of the frames. The words after them mean nothing.
+    /// The words of the frames, from the first element on. The elements after them mean nothing.
     words: [u64; MAX_FRAMES],
-    /// How many of the words are of frames.
+    /// How many words the frames have.
     count: usize,
 }
 

@@ -9,8 +9,8 @@ use std::alloc::{AllocError, Global};
 use std::marker::Model;
 use std::snapshot::Snapshot;
 
-/// An accepted event, with the number of its records. While it is the newest event, its records are the last ones. No
-/// code reads the event or its reply at run time, so they are snapshots, which only contracts read and which take no
+/// An accepted event, with the number of its records. While it is the newest event, its records are the last of the
+/// list. The event and its reply are snapshots: only contracts read them, no code does at run time, and they take no
 /// memory (docs/DECISIONS.md, "Events in the journal").
 #[derive(Drop)]
 struct StoredEvent {
@@ -19,12 +19,12 @@ struct StoredEvent {
     count: usize,
 }
 
-/// The accepted events, oldest first. Their records stay in the caller's list, where they were logged, and each call
-/// gets that list. Events and records together make groups: an event, its reply, and a record of each row that it
-/// changed.
+/// The accepted events, oldest first. Their records stay where they were logged, in a list that the caller passes to
+/// each call. An event, its reply, and a record of each row that it changed make a group.
 ///
-/// [`Journal::new`] allocates all memory, for [`MAX_GROUPS`] events. The list has room for [`MAX_JOURNAL_RECORDS`]
-/// records of all events together. To undo the newest event, reopen it and put its records back, newest first.
+/// [`Journal::new`] allocates all memory, for [`MAX_GROUPS`] events. The caller's list has room for
+/// [`MAX_JOURNAL_RECORDS`] records of all events together. To undo the newest event, reopen it and put its records
+/// back, newest first.
 #[derive(Drop)]
 pub struct Journal {
     events: Vec<StoredEvent>,
@@ -46,8 +46,8 @@ impl Model for Journal {
 }
 
 impl Journal {
-    /// Creates a journal without events, and allocates all its memory, since no event takes memory. `Err` if memory is
-    /// refused.
+    /// Creates a journal without events. Allocates all of its memory, since no event takes memory. Returns `Err` if
+    /// memory is refused.
     pub fn new(alloc: Global) -> Result<Self, AllocError>
         ensures { IfOk result (λ journal. journal ≡ []) }
     {
@@ -56,7 +56,8 @@ impl Journal {
         })
     }
 
-    /// Returns how many events there are, at a constant cost. This is the mark to which a later `rewind` goes back.
+    /// Returns how many events there are, at a constant cost. A later `rewind` to this number, the mark, leads back to
+    /// this point.
     pub fn mark(&self) -> u32
         ensures value { result ≡ length self.now }
         ensures groups { (rows : List Record) → length (groups_of self.now rows) ≡ result }
@@ -65,7 +66,7 @@ impl Journal {
         self.events.len() as u32
     }
 
-    /// Returns how many more records the journal has room for, whichever events they are of. The cost is constant.
+    /// Returns how many more records the journal has room for, in all events together. The cost is constant.
     pub fn records_free(&self, log: &Records) -> u32
         requires { Keeps log.now self.now }
         ensures value { result ≡ records_free (groups_of self.now log.now.older) }
@@ -74,8 +75,8 @@ impl Journal {
         (MAX_JOURNAL_RECORDS - log.older()) as u32
     }
 
-    /// Whether any one more event fits: one more group, and [`MAX_RECORDS`] records, the most that an event logs.
-    /// How many it will log isn't known before it is taken. The cost is constant.
+    /// Whether there is room for any one more event: for one more group, and for [`MAX_RECORDS`] records, the most that
+    /// an event logs. How many records an event logs isn't known before it is done. The cost is constant.
     pub fn has_room(&self, log: &Records) -> bool
         requires { Keeps log.now self.now }
         ensures { result ≡ has_room (groups_of self.now log.now.older) }
@@ -104,7 +105,7 @@ impl Journal {
     }
 
     /// Removes the newest event, and makes its records those of the current event, so that the caller can put them
-    /// back. Nothing happens if there is no event. This alone undoes nothing. The cost is constant.
+    /// back. If there is no event, nothing happens. This call alone undoes nothing. The cost is constant.
     pub fn reopen(&mut self, log: &mut Records)
         requires kept { Keeps log.old self.old }
         requires few { (older : List Group) (newest : Group) → groups_of self.old log.old.older ≡ older ++ newest ∷ []
@@ -122,8 +123,8 @@ impl Journal {
         log.reopen(newest.count);
     }
 
-    /// Removes all events and their records, but keeps the room for the next ones. The cost is at most one step for
-    /// each event.
+    /// Removes all events and their records. Their memory stays allocated for later ones. The cost is at most one step
+    /// for each event.
     pub fn clear(&mut self, log: &mut Records)
         ensures events { self.new ≡ [] }
         ensures log { log.new ≡ record log.old { logged = []; older = [] } }

@@ -28,8 +28,8 @@ const PATCH_NUMBERS: u64 = 256;
 /// How many site numbers there are.
 const SITE_NUMBERS: u64 = 65536;
 
-/// Returns the record that the list ends with, and how many words it has with its tag. `None` if the list doesn't
-/// end with a record; an empty list doesn't.
+/// Returns the record at the end of the list, and how many words it has, including its tag. Returns `None` if the list
+/// is empty or doesn't end with a record.
 pub fn read_back(words: &[u64]) -> Option<(Record, usize)>
     ensures read { IfSome result (λ found. (older : List ℕ) × ((words.now ≡ older ++ words_of found.0)
         × (found.1 ≡ length (words_of found.0)) × IsRecord found.0)) }
@@ -52,8 +52,8 @@ pub fn read_back(words: &[u64]) -> Option<(Record, usize)>
     }
 }
 
-/// Reads the record of this kind that has these words before its tag. `None` if there is no such record. The
-/// functions below do so for each kind.
+/// Reads the record of this kind with these words before its tag. Returns `None` if there is no such record. Each of
+/// the functions below reads a part of a record, or the records of one kind.
 fn read_body(kind: u64, body: &[u64]) -> Option<Record>
     ensures { Finds (IsBody kind body.now) result }
 {
@@ -72,7 +72,7 @@ fn read_body(kind: u64, body: &[u64]) -> Option<Record>
     }
 }
 
-/// Reads a patch state: 0, 1 and 2 mean -1, 0 and 1.
+/// Reads a patch state: the words 0, 1 and 2 stand for -1, 0 and 1.
 fn read_state(word: u64) -> Option<PatchState>
     ensures { Finds (IsStateOf word) result }
 {
@@ -109,7 +109,7 @@ pub(crate) fn state_of(word: u64) -> PatchState
     }
 }
 
-/// Returns the mode that a word stands for: 0 is user space, 1 the kernel, and any other asleep.
+/// Returns the mode that a word stands for: 0 is user space, 1 is the kernel, and any other word is asleep.
 #[inline(always)]
 pub(crate) fn mode_of(word: u64) -> Mode
     ensures { result ≡ mode_of word }
@@ -121,7 +121,7 @@ pub(crate) fn mode_of(word: u64) -> Mode
     }
 }
 
-/// Returns the function of an entry from its word: 0 stands for a nop, any other word for the function plus 1.
+/// Returns the function of an entry from its word: 0 stands for a nop, any other word for the function's number plus 1.
 #[inline(always)]
 pub(crate) fn func_of(word: u64) -> Option<u16>
     requires { word ≤ 65536 }
@@ -134,7 +134,7 @@ pub(crate) fn func_of(word: u64) -> Option<u16>
     }
 }
 
-/// Reads a frame: below 65536 a site's original, and from there on a new function of a patch.
+/// Reads a frame. A word below 65536 is a site's original. Any other word is a new function of a patch.
 fn read_frame(word: u64) -> Option<Version>
     ensures { Finds (IsFrameOf word) result }
 {
@@ -148,7 +148,7 @@ fn read_frame(word: u64) -> Option<Version>
     Some(Version::New(PatchId(patch as u8), (word % 65536) as u16))
 }
 
-/// Reads the frames of a task, one from each word. `None` if a word is wrong or there are too many.
+/// Reads the frames of a task, one from each word. Returns `None` if a word is wrong or there are too many.
 fn read_frames(words: &[u64]) -> Option<Frames>
     ensures { Finds (AreFramesOf words.now) result }
 {
@@ -219,7 +219,8 @@ fn read_variable(body: &[u64]) -> Option<Record>
     }
 }
 
-/// Reads a value of `count` bytes. `None` unless there are exactly the words that it needs, filled up with zeros.
+/// Reads a value of `count` bytes. Returns `None` if there are more or fewer words than the value needs, or if the last
+/// word isn't filled up with zeros.
 fn read_value(count: u64, words: &[u64]) -> Option<ShadowValue>
     ensures { Finds (IsValueOf count words.now) result }
 {
@@ -234,7 +235,7 @@ fn read_value(count: u64, words: &[u64]) -> Option<ShadowValue>
     ShadowValue::unpadded(bytes, count as u8)
 }
 
-/// Writes the bytes of the words over the first bytes of `bytes`.
+/// Writes the bytes of the words to the beginning of `bytes`.
 fn unpack(words: &[u64], bytes: &mut [u8])
     requires { 8 * length words.now ≤ length bytes.old }
     ensures bytes { bytes.new ≡ bytes_in words.now ++ drop (8 * length words.now) bytes.old }
@@ -293,7 +294,7 @@ fn read_state_row(body: &[u64]) -> Option<Record>
     })
 }
 
-/// Reads a number below this limit and a flag. `None` if the words are anything else.
+/// Reads a number, which must be below `limit`, and a flag. Returns `None` if the words are anything else.
 fn number_and_flag(body: &[u64], limit: u64) -> Option<(u64, bool)>
     ensures { Finds (λ pair. (pair.0 ∷ flag_word pair.1 ∷ [] ≡ body.now) × (pair.0 < limit)) result }
 {
@@ -388,7 +389,7 @@ fn read_place(words: &[u64]) -> Option<Place>
     })
 }
 
-/// Reads a record of whether a site was hooked. `None` if the words aren't those of such a record.
+/// Reads a record of whether a site was hooked. Returns `None` if the words aren't those of such a record.
 fn read_hook(body: &[u64]) -> Option<Record>
     ensures { Finds (IsBody KIND_HOOK body.now) result }
 {

@@ -1,4 +1,4 @@
-//! The list of records. `write_words` has how a record is written as words.
+//! The list of records. `write_words` says how a record is written as words.
 ghost use Rattle.std.specs.Prelude.{◌≡◌, ◌+◌, ◌-◌, ◌<◌, ◌≤◌, [], ◌∷◌, ◌++◌, length, map, take, drop, slice_get, Some};
 ghost use Rattle.std.specs.Prelude.{IfOk, IfSome, IfNone};
 ghost use Rattle.klp_types.specs.declared.limits.TheConstants.{MAX_JOURNAL_RECORDS};
@@ -20,13 +20,13 @@ use std::marker::Model;
 /// those of earlier events, at most [`MAX_JOURNAL_RECORDS`], and after them those of the current event. So nothing is
 /// copied when an event is over: its records stay where they are.
 ///
-/// Logging takes no memory, since no event may fail half way. To undo a change, its records are taken newest first,
-/// so that each row is restored among the rows that were around it when it was logged.
+/// Logging takes no memory, since no event may fail half way. To undo a change, its records are put back newest first.
+/// So each row is restored among the rows that were around it when it was logged.
 #[derive(Drop)]
 pub struct Records {
     all: StoredRecords,
-    /// How many of the records are of earlier events. The rest are the current event's; they have no count of their
-    /// own, so that logging a record changes only one count.
+    /// How many of the records belong to earlier events. The others belong to the current event. Their number isn't
+    /// stored, so that logging a record changes only one count.
     older: usize,
     /// How many records one event may log.
     room: usize,
@@ -51,8 +51,8 @@ impl Model for Records {
 }
 
 impl Records {
-    /// Creates an empty list with room for [`MAX_JOURNAL_RECORDS`] records of earlier events and `room` records of
-    /// the current one. It never grows, whatever the records are. `Err` if memory is refused.
+    /// Creates an empty list with room for [`MAX_JOURNAL_RECORDS`] records of earlier events and `room` records of the
+    /// current event. The list never grows, whatever the records are. Returns `Err` if memory is refused.
     pub fn new(alloc: Global, room: usize) -> Result<Self, AllocError>
         ensures { IfOk result (λ records. records ≡ record { logged = []; room = room; older = [] }) }
     {
@@ -96,8 +96,8 @@ impl Records {
         self.all.note(row);
     }
 
-    /// Logs a task before it changes. The task is lent and not copied, since a `Task` is large: it has room for the
-    /// most frames that there can be. The words of its frames come from the table of tasks, which stores them.
+    /// Logs a task before it changes. The task is passed by reference and not copied, since a `Task` is large: it has
+    /// room for the greatest number of frames. The words of its frames come from the table of tasks, which stores them.
     #[inline(always)]
     pub fn note_task(&mut self, task: TaskId, was: &Task, frames: &FrameWords)
         requires room { 0 < spare_of self.old }
@@ -107,8 +107,8 @@ impl Records {
         self.all.note_task(task, was, frames);
     }
 
-    /// Removes and returns the newest record of the current event. `None` if it has none. Undo takes records out
-    /// newest first.
+    /// Removes and returns the newest record of the current event. Returns `None` if the event has no record. Undo
+    /// takes records out in this order, newest first.
     pub fn take_newest(&mut self) -> Option<Record>
         ensures newest { IfSome result
             (λ newest. self.old ≡ record self.new { logged = self.new.logged ++ newest ∷ [] }) }
@@ -121,8 +121,9 @@ impl Records {
         self.all.take_newest()
     }
 
-    /// Removes and returns the newest record of the current event, in a form of a few bytes. The records that events
-    /// log most have such a form. On `None` nothing is removed, but there may be a record: try `take_newest` then.
+    /// Removes the newest record of the current event, and returns it in a form of a few bytes. The records that events
+    /// log most have such a form. Otherwise returns `None` and removes nothing. Then there may still be a record, which
+    /// `take_newest` removes.
     #[inline(always)]
     pub fn take_small(&mut self) -> Option<SmallRecord>
         ensures newest { IfSome result
@@ -135,9 +136,10 @@ impl Records {
         self.all.take_small()
     }
 
-    /// Removes and returns the newest record of the current event without its frames, if it is of a task whose frames
-    /// are the same now. `tasks` are the tasks now, and `frames` the words of their frames. So the frames of a switched
-    /// sleeper needn't be read. On `None` nothing is removed, though there may be such a record.
+    /// Removes the newest record of the current event, if it is of a task whose frames haven't changed since. Returns
+    /// it without its frames, so that undo needn't read the frames of a switched sleeper. `tasks` are the tasks now,
+    /// and `frames` the words of their frames now. If it returns `None`, nothing is removed, and the newest record may
+    /// still be such a one.
     #[inline(always)]
     pub fn take_switched(
         &mut self,
@@ -164,8 +166,8 @@ impl Records {
         }
     }
 
-    /// Ends the current event: its records are now the newest of those of earlier events. They stay where they are,
-    /// so the cost is constant.
+    /// Ends the current event: from now on its records count as the newest records of earlier events. They aren't
+    /// moved, so the cost is constant.
     pub fn keep(&mut self)
         requires { length self.old.older + length self.old.logged ≤ MAX_JOURNAL_RECORDS }
         ensures { self.new ≡ record self.old { logged = []; older = self.old.older ++ self.old.logged } }
@@ -173,8 +175,8 @@ impl Records {
         self.older = self.all.count();
     }
 
-    /// Makes the newest `count` records of earlier events those of the current event, which must have logged
-    /// nothing. So they can be taken out. The cost is constant.
+    /// Turns the newest `count` records of earlier events into records of the current event, so that they can be taken
+    /// out. The current event must have logged nothing. The cost is constant.
     pub fn reopen(&mut self, count: usize)
         requires none { self.old.logged ≡ [] }
         requires few { count ≤ self.old.room }
@@ -187,7 +189,7 @@ impl Records {
         self.older -= count;
     }
 
-    /// Drops all records, also those of earlier events. The room stays, and the cost is constant.
+    /// Drops all records, also those of earlier events. The list keeps its memory, and the cost is constant.
     pub fn clear_all(&mut self)
         ensures { self.new ≡ record self.old { logged = []; older = [] } }
     {

@@ -1,4 +1,4 @@
-//! The kinds of record that events log most, in a form that undo can take at a low cost.
+//! The kinds of record that events log most, in a small form that undo reads at a low cost.
 ghost use Rattle.std.specs.Prelude.{◌≡◌, ℕ, List, ◌++◌, length, IfSome};
 ghost use Rattle.klp_journal.specs.declared.kinds.TheConstants.{KIND_TASK, KIND_ENTRY, KIND_HOOK};
 ghost use Rattle.klp_journal.specs.Words.{words_of, IsRecord};
@@ -10,11 +10,11 @@ use crate::kinds::{KIND_ENTRY, KIND_HOOK, KIND_TASK, TAG_OF_A_WORD};
 use crate::read_words::{func_of, mode_of, state_of};
 use klp_types::{Mode, PatchId, PatchState, Place, Site, TaskId};
 
-/// A record of one of the kinds that events log most. It is small. A [`Record`](klp_types::Record) has room for a
-/// whole task, and passing that on costs more than putting an entry back.
+/// A record of one of the kinds that events log most, in a small form. A [`Record`](klp_types::Record) has room for a
+/// whole task, and passing a `Record` on costs more than putting an entry back.
 #[derive(Clone, Copy)]
 pub enum SmallRecord {
-    /// The entry of a patch on the function stack of a site, or that the patch had none there.
+    /// The entry that a patch had on the function stack of a site, or that it had none there.
     Entry {
         site: Site,
         patch: PatchId,
@@ -33,8 +33,8 @@ pub enum SmallRecord {
     },
 }
 
-/// The tags of these records, each with its kind and its number of words. A task with two words is inside of
-/// nothing.
+/// The tag of a task that is inside of nothing: its record has two words before the tag. This tag and those below are
+/// each made of the record's kind and its number of words.
 const RESTING: u64 = KIND_TASK + TAG_OF_A_WORD * 2;
 
 /// The tag of an entry that didn't exist.
@@ -46,8 +46,8 @@ const ENTRY: u64 = KIND_ENTRY + TAG_OF_A_WORD * 4;
 /// The tag of a site's hook.
 const HOOK: u64 = KIND_HOOK + TAG_OF_A_WORD * 2;
 
-/// Returns the last record of these words, and how many words it has with its tag. `None` if it is of another kind.
-/// The words are known to end with a record, so only the tag is checked.
+/// Returns the record at the end of these words, and how many words it has, including its tag. Returns `None` if the
+/// record is of another kind. The words must end with a record, so only the tag is checked.
 #[inline(always)]
 pub(crate) fn small(words: &[u64]) -> Option<(SmallRecord, usize)>
     requires { EndWithRecord words.now }

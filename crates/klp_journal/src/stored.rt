@@ -47,8 +47,8 @@ impl Model for StoredRecords {
 }
 
 impl StoredRecords {
-    /// Creates an empty list with room for `room` records. It never grows, whatever the records are. `Err` if
-    /// memory is refused.
+    /// Creates an empty list with room for `room` records. The list never grows, whatever the records are. Returns
+    /// `Err` if memory is refused.
     pub(crate) fn new(alloc: Global, room: usize) -> Result<Self, AllocError>
         ensures { IfOk result (λ records. records ≡ record { rows = []; room = room }) }
     {
@@ -89,7 +89,7 @@ impl StoredRecords {
         copy_task(task, was, frames, &mut self.words);
     }
 
-    /// Removes and returns the newest record. `None` if there is none.
+    /// Removes and returns the newest record. Returns `None` if there is none.
     pub(crate) fn take_newest(&mut self) -> Option<Record>
         ensures newest { IfSome result
             (λ newest. self.old ≡ record self.new { rows = self.new.rows ++ newest ∷ [] }) }
@@ -104,8 +104,8 @@ impl StoredRecords {
         Some(row)
     }
 
-    /// Removes and returns the newest record as a small one. `None`, with nothing removed, if it isn't of a small
-    /// kind.
+    /// Removes the newest record, and returns it in its small form. If it isn't of a small kind, returns `None` and
+    /// removes nothing.
     #[inline(always)]
     pub(crate) fn take_small(&mut self) -> Option<SmallRecord>
         requires { 0 < length self.old.rows }
@@ -121,8 +121,8 @@ impl StoredRecords {
         Some(newest)
     }
 
-    /// Removes and returns the newest record without its frames, if it is of a task whose frames are the same now.
-    /// `None`, with nothing removed, if it isn't.
+    /// Removes the newest record and returns it without its frames, if it is of a task whose frames haven't changed
+    /// since. Otherwise returns `None` and removes nothing.
     #[inline(always)]
     pub(crate) fn take_switched(
         &mut self,
@@ -145,7 +145,7 @@ impl StoredRecords {
         Some(was)
     }
 
-    /// Removes all records, and keeps the room.
+    /// Removes all records. The list keeps its memory.
     pub(crate) fn clear(&mut self)
         ensures { self.new ≡ record self.old { rows = [] } }
     {

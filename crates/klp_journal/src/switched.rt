@@ -1,5 +1,5 @@
-//! A task whose patch state or mode alone changed, in a form that undo can take at a low cost. Its frames are the same
-//! as in its record, so no frame has to be read.
+//! The record of a task of which only the patch state or the mode changed, in a small form that undo reads at a low
+//! cost. The task's frames are still the same as in its record, so no frame has to be read.
 ghost use Rattle.std.specs.Prelude.{◌≡◌, ◌≤◌, true, ℕ, List, ◌++◌, length, map, slice_get, Some, IfSome};
 ghost use Rattle.klp_types.specs.declared.record.Record.TheVariants.{TaskRow};
 ghost use Rattle.klp_types.specs.declared.task.Task.{Task as AnyTask};
@@ -22,7 +22,7 @@ pub struct SwitchedTask {
     pub mode: Mode,
 }
 
-/// Whether the words are the same. They nearly always are, so it compares all of them without a test in between,
+/// Whether both lists have the same words. They nearly always do. So it compares all words without a test in between,
 /// which lets the processor compare several at once.
 fn are_same(words: &[u64], others: &[u64]) -> bool
     requires { length words.now ≡ length others.now }
@@ -35,7 +35,7 @@ fn are_same(words: &[u64], others: &[u64]) -> bool
     differing == 0
 }
 
-/// Whether the words are those of the frames that a table stores.
+/// Whether `words` are those of the frames `own`, which the table of tasks stores.
 #[inline(always)]
 fn are_kept(words: &[u64], own: &FrameWords) -> bool
     ensures { result ≡ true → map frame_of words.now ≡ own.now }
@@ -44,8 +44,8 @@ fn are_kept(words: &[u64], own: &FrameWords) -> bool
     words.len() == own.len() && are_same(words, own)
 }
 
-/// Reads a task's record from the words before its tag, without the frames. `None` if the task doesn't exist now,
-/// or if its frames aren't those of the record.
+/// Reads a task's record from the words before its tag, without the frames. Returns `None` if the task doesn't exist
+/// now, or if its frames aren't those of the record.
 #[inline(always)]
 fn switched_body(
     body: &[u64],
@@ -72,9 +72,9 @@ fn switched_body(
     })
 }
 
-/// Returns the task of the last record of these words, and how many words that record has with its tag. `None` if the
-/// record is of another kind, if the task doesn't exist now, or if its frames aren't those of the record. The words are
-/// known to end with a record.
+/// Returns the task of the record at the end of these words, and how many words that record has, including its tag.
+/// Returns `None` if the record is of another kind, if the task doesn't exist now, or if its frames aren't those of the
+/// record. The words must end with a record.
 #[inline(always)]
 pub(crate) fn switched(
     words: &[u64],

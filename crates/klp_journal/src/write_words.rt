@@ -1,5 +1,5 @@
-//! Writes records as words, each after those that are there. The list has room for all of them from the start, so
-//! writing a word is one store, without a check for room.
+//! Writes records as words, each at the end of a list. The list has room for all of them from the start. So writing a
+//! word is one store, without a check for room.
 ghost use Rattle.std.specs.Prelude.{◌≡◌, ◌+◌, ◌*◌, ◌<◌, ◌≤◌, [], ◌∷◌, ◌++◌, length, map, take, vec_len, vec_capacity};
 ghost use Rattle.std.specs.Int.{w64, from_le_bytes};
 ghost use Rattle.std.specs.List.{All};
@@ -19,7 +19,7 @@ use klp_types::{
     Version,
 };
 
-/// Writes a record after the words that are there, as [`Records`](crate::Records) does. The caller made sure that
+/// Writes a record at the end of the words, as [`Records`](crate::Records) does. The caller must have made sure that
 /// there is room for the longest record, so no memory is taken.
 #[inline(always)]
 pub fn write_record(row: &Record, words: &mut Vec<u64>)
@@ -87,8 +87,8 @@ fn append(words: &mut Vec<u64>, new: &[u64])
     }
 }
 
-/// Returns a task's number as a word. Like the next functions it also promises the number's range, which contracts
-/// know only from reading the number itself.
+/// Returns a task's number as a word. Its contract, like those of the next functions, also states the range of the
+/// number, which a contract otherwise knows only where the number itself is read.
 fn task_number(task: TaskId) -> u64
     ensures value { result ≡ task }
     ensures range { task < 256 }
@@ -147,7 +147,7 @@ fn mode_word(mode: Mode) -> u64
     }
 }
 
-/// Returns the word of a frame: below 65536 a site's original, and from there on a new function of a patch.
+/// Returns the word of a frame: below 65536 for a site's original, and from 65536 on for a new function of a patch.
 fn frame_word(frame: Version) -> u64
     ensures value { result ≡ frame_word frame }
     ensures range { IsFrame frame }
@@ -158,7 +158,8 @@ fn frame_word(frame: Version) -> u64
     }
 }
 
-/// Writes the words of frames, outermost first, over `words` from index `at` on, and returns the index after them.
+/// Writes the words of frames, outermost first, into `words` from index `at` on. Returns the index after the last of
+/// them.
 pub(crate) fn write_frames(frames: &[Version], words: &mut [u64], at: usize) -> usize
     requires { at + length frames.now ≤ length words.old }
     ensures written { take result words.new ≡ take at words.old ++ map frame_word frames.now }
@@ -171,8 +172,8 @@ pub(crate) fn write_frames(frames: &[Version], words: &mut [u64], at: usize) -> 
     at + frames.len()
 }
 
-/// Writes the record of a task, and makes the words of its frames for it. Most tasks are logged by `copy_task`
-/// instead, with words that exist already.
+/// Writes the record of a task, and makes the words of the task's frames for this. Most tasks are logged by `copy_task`
+/// instead, which copies words that exist already.
 fn write_task(task: TaskId, was: &Task, words: &mut Vec<u64>)
     requires { vec_len words.old + 36 ≤ vec_capacity words.old }
     ensures written { words.new.items ≡ words.old.items ++ words_of (TaskRow task was.now) }
@@ -203,8 +204,8 @@ pub(crate) fn copy_task(task: TaskId, was: &Task, frames: &FrameWords, words: &m
     }
 }
 
-/// Writes the record of a task that is inside of functions. The words of its frames are copied all at once, since
-/// they may be many. It isn't inlined, so that a task which is inside of nothing pays for none of this.
+/// Writes the record of a task that is inside of functions. The words of its frames are copied all at once, since there
+/// may be many. The function isn't inlined, so that a task inside of nothing has no cost from it.
 #[inline(never)]
 fn append_sleeper(words: &mut Vec<u64>, number: u64, word: u64, frames: &[u64])
     requires spare { vec_len words.old + 36 ≤ vec_capacity words.old }
@@ -299,7 +300,7 @@ fn write_installed(patch: PatchId, place: Option<u8>, words: &mut Vec<u64>)
     }
 }
 
-/// Returns the word of an entry's function: 0 for a nop, else the function plus 1.
+/// Returns the word of an entry's function: 0 for a nop, otherwise the function's number plus 1.
 fn func_word(func: Option<u16>) -> u64
     ensures value { result ≡ func_word func }
     ensures range { IsBelow 65536 func }

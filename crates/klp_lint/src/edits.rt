@@ -1,4 +1,4 @@
-//! What edits make of one shadow variable, and which variables they touch.
+//! How edits change one shadow variable, and which variables they touch.
 ghost use Rattle.std.specs.Prelude.{◌≡◌, ◌≤◌, true, [], ◌∷◌, length, option_map, MatchOption};
 ghost use Rattle.klp_types.specs.declared.shadow.ShadowKey.{ShadowKey as AnyKey};
 ghost use Rattle.klp_types.specs.Callbacks as kinds;
@@ -82,7 +82,7 @@ fn is_key(own: ShadowKey, key: ShadowKey) -> bool
     own.obj == key.obj && own.id == key.id
 }
 
-/// What an edit makes of a variable that has this value.
+/// Returns the value that a variable has after an edit. `was` is its value before, or `None` if it didn't exist.
 fn edited_at(key: ShadowKey, was: Option<ShadowValue>, edit: &Edit) -> Option<ShadowValue>
     ensures { result ≡ scripts.edited_at key was edit.now }
 {
@@ -94,7 +94,8 @@ fn edited_at(key: ShadowKey, was: Option<ShadowValue>, edit: &Edit) -> Option<Sh
     }
 }
 
-/// What edits make of a variable that has this value, one after another.
+/// Returns the value that a variable has after these edits, one after another. `was` is its value before, or `None` if
+/// it didn't exist.
 pub(crate) fn made_of(
     key: ShadowKey,
     was: Option<ShadowValue>,
@@ -118,8 +119,8 @@ pub(crate) fn edit_touches(key: ShadowKey, edit: &Edit) -> bool
     }
 }
 
-/// A variable that both edits touch, if they touch a common one: one that either names, or else one of the id that both
-/// free.
+/// Returns a variable that both edits touch, if they touch a common one: a variable that one of them names, or if both
+/// free an id, a variable of it. If they touch no common variable, the result means nothing.
 fn candidate(one: &Edit, other: &Edit) -> ShadowKey
     ensures { (key : AnyKey) → scripts.edit_touches key one.now ≡ true → scripts.edit_touches key other.now ≡ true
         → (scripts.edit_touches result one.now ≡ true) × (scripts.edit_touches result other.now ≡ true) }
@@ -132,7 +133,7 @@ fn candidate(one: &Edit, other: &Edit) -> ShadowKey
     }
 }
 
-/// A variable that both edits touch. None if there is no such variable.
+/// Returns a variable that both edits touch, or `None`.
 fn common_key(one: &Edit, other: &Edit) -> Option<ShadowKey>
     ensures { MatchOption result (IsApartFrom one.now other.now)
         (λ key. (scripts.edit_touches key one.now ≡ true) × (scripts.edit_touches key other.now ≡ true)) }
@@ -145,7 +146,7 @@ fn common_key(one: &Edit, other: &Edit) -> Option<ShadowKey>
     }
 }
 
-/// A variable that this edit and one of the others touch.
+/// Returns a variable that this edit and one of the others touch, or `None`.
 fn common_with(one: &Edit, others: &[Edit]) -> Option<ShadowKey>
     ensures { MatchOption result (AreEditsApart (one.now ∷ []) others.now)
         (λ key. (scripts.edit_touches key one.now ≡ true) × (one_edit_touches others.now key ≡ true)) }
@@ -159,7 +160,7 @@ fn common_with(one: &Edit, others: &[Edit]) -> Option<ShadowKey>
     }
 }
 
-/// A variable that edits of both lists touch.
+/// Returns a variable that edits of both lists touch, or `None`.
 pub(crate) fn common_to(edits: &[Edit], others: &[Edit]) -> Option<ShadowKey>
     ensures { MatchOption result (AreEditsApart edits.now others.now) (λ key. BothTouch edits.now others.now key) }
 {

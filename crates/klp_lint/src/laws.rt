@@ -1,4 +1,5 @@
-//! What the premises come to. A function here does nothing: its contract is the law.
+//! Laws about the premises of the round trip: what follows if they hold, and if one fails. A function here does
+//! nothing: its contract is the law.
 ghost use Rattle.std.specs.Prelude.{◌≡◌, ℕ, false, List, [], None, Result, map};
 ghost use Rattle.klp_types.specs.declared.shadow.ShadowKey.{ShadowKey};
 ghost use Rattle.klp_types.specs.Setting.{Setting};
@@ -20,9 +21,9 @@ ghost use Rattle.klp_lint.specs.declared.premise.Premise.{Premise as AnyPremise}
 ghost use Rattle.klp_lint.specs.Behind.{IsAnsweredBehind};
 ghost use Rattle.klp_lint.specs.Premises.{ArePatchesOf, Fails, FailsOf, HoldEverywhere};
 
-/// A manager that is booted over a plan has its patches, which `leaves_no_trace` takes: it has the names of its image,
-/// the plan's patches without the scripts, and the plan's scripts in order (klp_program/specs/Booted). Events don't
-/// change the setting.
+/// The patches of a manager that is booted over a plan are those of the plan, which `leaves_no_trace` needs. The
+/// manager has the names of its image, the plan's patches without the scripts, and the plan's scripts in order
+/// (klp_program/specs/Booted). Events don't change the setting.
 pub fn a_booted_manager_has_the_patches_of_its_plan()
     ensures { (managed : Managed) (patches : List PlanPatch)
         → managed.catalog.names ≡ names_of managed.image.objects
@@ -38,7 +39,8 @@ pub fn what_fails_is_no_fair_start()
     klp_types::laws::untouched_variables_stay();
 }
 
-/// A premise that fails without any variables doesn't hold in each world without those that the callbacks touch.
+/// A premise that fails where there are no variables at all doesn't hold in each world that has none of the variables
+/// that the callbacks touch.
 pub fn what_fails_without_variables_fails_somewhere()
     ensures { (setting : Setting) (patch : ℕ) (state : State) (premise : AnyPremise)
         → FailsOf (λ _. None) (taking_part setting state patch) premise → HoldEverywhere setting patch state → ⊥ }
@@ -47,7 +49,7 @@ pub fn what_fails_without_variables_fails_somewhere()
     klp_types::laws::edits_go_key_by_key();
 }
 
-/// After no events, the answer of `reply_behind` is that of the definitions at the manager's own state.
+/// If there are no events before, the answer of `reply_behind` is that of the definitions in the manager's own state.
 pub fn behind_nothing_is_now()
     ensures { (before after : Journaled) (event : Event) (result : Result Reply Refusal)
         → IsAnsweredBehind before after [] event result
@@ -55,7 +57,7 @@ pub fn behind_nothing_is_now()
 {}
 
 /// If the premises hold before fair events, and the patch isn't installed after them, no trace of it is left.
-/// `Manager::run` promises this for a patch that is at a fair start, as `leaves_no_trace` says.
+/// `Manager::run` promises this for a patch at a fair start, and `leaves_no_trace` says whether the patch is at one.
 pub fn what_is_fair_leaves_no_trace()
     ensures { (before after : Journaled) (patch : ℕ) → LeavesNoTrace before after
         → IsFairStart (setting_of before.managed) patch before.managed.state

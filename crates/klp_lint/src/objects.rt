@@ -1,4 +1,5 @@
-//! The premises of a patch's objects: of the loaded ones, before the first whose pre-patch refuses.
+//! The premises for the objects of a patch. Only loaded objects count, and only those before the first whose pre-patch
+//! refuses.
 ghost use Rattle.std.specs.Prelude.{◌≡◌, ℕ, ◌+◌, ◌^◌, ◌<◌, ◌≤◌, true, [], ◌∷◌, length, MatchOption, OnOk};
 ghost use Rattle.klp_types.specs.Callbacks.{script_for, is_refusing};
 ghost use Rattle.klp_types.specs.Setting.{PatchObject};
@@ -60,7 +61,7 @@ fn next_acting<'a>(modules: &Modules, place: usize, targets: &'a [PlanTarget]) -
     })
 }
 
-/// The first object whose callbacks leave something changed, and what.
+/// Returns the first object whose callbacks leave something changed, and what that is.
 pub(crate) fn first_left<V: Variables>(
     variables: &V,
     modules: &Modules,

@@ -12,8 +12,8 @@ pub enum Pair {
     Post,
 }
 
-/// What an object's callbacks leave changed: the second callback of the pair leaves the variable with another value
-/// than the first found.
+/// What an object's callbacks leave changed: after the second callback of the pair, the variable has another value than
+/// the first callback found.
 #[derive(Clone, Copy, PartialEq, Eq)]
 pub(crate) struct Left {
     pub(crate) pair: Pair,
@@ -28,7 +28,7 @@ pub enum Premise {
     Moving,
     /// The patch is installed.
     Installed,
-    /// The callbacks of this pair leave the variable with another value than it had.
+    /// After the callbacks of this pair, the variable has another value than before.
     NotUndone {
         place: usize,
         pair: Pair,
@@ -42,7 +42,7 @@ pub enum Premise {
     },
 }
 
-/// The premise that an object of this index doesn't keep, since its callbacks leave this.
+/// Returns the premise that the object at this index doesn't keep, if its callbacks leave `left` changed.
 pub(crate) fn premise_of(place: usize, left: Left) -> Premise
     ensures { result ≡ premise_of place left }
 {

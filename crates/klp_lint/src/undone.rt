@@ -21,7 +21,8 @@ fn is_same(a: &Option<ShadowValue>, b: &Option<ShadowValue>) -> bool
     }
 }
 
-/// The first pair of an object's callbacks that doesn't restore a variable which has this value.
+/// Returns the first pair of an object's callbacks that doesn't restore the variable `key`, or `None` if each does.
+/// `was` is the variable's value before the callbacks.
 pub(crate) fn first_unrestored(
     callbacks: &[PlanCallback],
     key: ShadowKey,
@@ -43,8 +44,8 @@ pub(crate) fn first_unrestored(
     None
 }
 
-/// The first variable of the id that a pair of an object's callbacks doesn't restore. A variable that isn't there stays
-/// absent when the id is freed.
+/// Returns the first variable of the id that a pair of an object's callbacks doesn't restore, with that pair. Only
+/// existing variables are looked at: freeing the id leaves a variable absent that doesn't exist.
 fn left_of_id<V: Variables>(variables: &V, callbacks: &[PlanCallback], id: u64) -> Option<Left>
     ensures { MatchOption result (IsHarmless (V.values variables.now) callbacks.now (AnyEdit.FreeAll id))
         (λ left. IsLeft (V.values variables.now) callbacks.now left) }
@@ -60,7 +61,8 @@ fn left_of_id<V: Variables>(variables: &V, callbacks: &[PlanCallback], id: u64) 
     None
 }
 
-/// What an edit names that stays changed once all callbacks of its object ran.
+/// Returns a variable that the edit touches and a pair of its object's callbacks doesn't restore, with that pair.
+/// Returns `None` if there is none.
 fn left_of<V: Variables>(variables: &V, callbacks: &[PlanCallback], edit: &Edit) -> Option<Left>
     ensures { MatchOption result (IsHarmless (V.values variables.now) callbacks.now edit.now)
         (λ left. IsLeft (V.values variables.now) callbacks.now left) }
@@ -77,7 +79,7 @@ fn left_of<V: Variables>(variables: &V, callbacks: &[PlanCallback], edit: &Edit)
     }
 }
 
-/// The same for the first of these edits that names such a thing.
+/// Returns what `left_of` returns for the first of these edits for which it isn't `None`.
 fn first_left<V: Variables>(
     variables: &V,
     callbacks: &[PlanCallback],
@@ -95,7 +97,7 @@ fn first_left<V: Variables>(
     }
 }
 
-/// What an object's callbacks leave changed. None if they restore every variable.
+/// Returns what an object's callbacks leave changed, or `None` if they restore every variable.
 pub(crate) fn left_by<V: Variables>(variables: &V, callbacks: &[PlanCallback]) -> Option<Left>
     ensures { MatchOption result ((key : AnyKey) → AreRestored callbacks.now key (V.values variables.now key))
         (λ left. IsLeft (V.values variables.now) callbacks.now left) }
@@ -107,7 +109,7 @@ pub(crate) fn left_by<V: Variables>(variables: &V, callbacks: &[PlanCallback]) -
     }
 }
 
-/// The value of a variable that the first callback of a pair finds. Before pre-patch it has the value `was`.
+/// Returns the value that a variable has before the first callback of a pair. Before pre-patch the value is `was`.
 pub fn found_by(
     callbacks: &[PlanCallback],
     pair: Pair,
@@ -122,8 +124,8 @@ pub fn found_by(
     }
 }
 
-/// The value that the variable has after both callbacks of the pair. The pair restores the variable if the first
-/// callback found this value.
+/// Returns the value that a variable has after both callbacks of a pair. The pair restores the variable if `found_by`
+/// returns the same value.
 pub fn left_behind(
     callbacks: &[PlanCallback],
     pair: Pair,

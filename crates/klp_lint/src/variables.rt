@@ -1,24 +1,24 @@
-//! The shadow variables by which callbacks are judged: those of a manager, or none at all.
+//! The shadow variables with which callbacks are judged: those of a manager, or none at all.
 ghost use Rattle.std.specs.Prelude.{◌≡◌};
 ghost use Rattle.klp_world.specs.Parents.{lowest_above};
 ghost use Rattle.klp_lint.specs.Undone.{IsNextOf};
 
 use klp_types::{ShadowKey, ShadowValue};
 
-/// What shadow variables there are.
+/// The shadow variables that exist.
 pub(crate) trait Variables {
     ghost use Rattle.std.specs.Prelude.{Option};
     ghost use Rattle.klp_types.specs.declared.shadow.ShadowKey.{ShadowKey as AnyKey};
     ghost use Rattle.klp_types.specs.World.{ShadowValue as AnyValue};
 
-    /// The value of each variable, or None if it doesn't exist.
+    /// The value of each variable, or `None` if it doesn't exist.
     ghost values: { Self → AnyKey → Option AnyValue };
 
     fn get(&self, key: ShadowKey) -> Option<ShadowValue>
         ensures { result ≡ values self.now key };
 
-    /// The lowest parent object above `after` that has a variable of the id, or the lowest of all without `after`. None
-    /// if there is no such parent.
+    /// Returns the lowest parent object that is above `after` and has a variable of the id. If `after` is `None`,
+    /// returns the lowest of all that have one. Returns `None` if there is no such parent.
     fn next_parent(&self, id: u64, after: Option<u64>) -> Option<u64>
         ensures { IsNextOf (values self.now) id (lowest_above after) result };
 }

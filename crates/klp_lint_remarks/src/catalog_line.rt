@@ -1,4 +1,4 @@
-//! The lines of a catalog in which a patch, a target and a callback stand.
+//! Finds the lines of a catalog in which a patch, a target or a callback stands.
 
 use klp_catalog_text::words_of;
 use klp_types::Which;
@@ -13,8 +13,9 @@ pub(crate) fn word_of(which: Which) -> &'static [u8] {
     }
 }
 
-/// A place that is looked for: a patch by its number; perhaps one of its targets, by its index; and perhaps a line in
-/// it, by its first word, and by how many such lines are before it.
+/// A place that is looked for in a catalog. `patch` is the number of a patch, and `target` the index of one of its
+/// targets. `word` is the first word of a line there, and `before` how many such lines stand before it. Without a
+/// target or a word, the place is the line with which the patch or the target begins.
 #[derive(Clone, Copy)]
 pub(crate) struct CatalogPlace<'a> {
     pub(crate) patch: usize,
@@ -23,7 +24,7 @@ pub(crate) struct CatalogPlace<'a> {
     pub(crate) before: usize,
 }
 
-/// How many patches there are up to a line, and how many targets of the last one.
+/// How many patches have begun so far, and how many targets of the last of these.
 #[derive(Clone, Copy)]
 struct Passed {
     patches: usize,
@@ -31,7 +32,7 @@ struct Passed {
 }
 
 impl Passed {
-    /// Goes past a line that begins with this word. Returns whether a patch or a target begins in it.
+    /// Counts the patch or target that begins in a line with this first word. Returns whether one begins.
     fn pass(&mut self, word: &[u8]) -> bool {
         match word {
             b"patch" => {
@@ -47,7 +48,7 @@ impl Passed {
         }
     }
 
-    /// Whether a line with this first word is at the place. `begins` is whether it begins a patch or a target.
+    /// Whether a line with this first word is at the place. `begins` is whether a patch or a target begins in the line.
     fn is_at(self, place: CatalogPlace<'_>, word: &[u8], begins: bool) -> bool {
         let targets = match place.target {
             Some(target) => target.saturating_add(1),
@@ -61,7 +62,8 @@ impl Passed {
     }
 }
 
-/// The line of the place in a catalog without a fault, counted from 1; 0 if there is no such line.
+/// The number, counted from 1, of the line at this place. The catalog must have no fault. Returns 0 if there is no such
+/// line.
 pub(crate) fn line_of(text: &[u8], place: CatalogPlace<'_>) -> u64 {
     let mut passed = Passed {
         patches: 0,

@@ -1,4 +1,4 @@
-//! What in a patch can't work, or does nothing, in any world.
+//! What in a patch can't work, or does nothing, whatever the state is.
 
 use crate::catalog_line::word_of;
 use crate::remark::{Kind, Remark};
@@ -9,12 +9,12 @@ use klp_types::Edit;
 use std::io::Write;
 use std::{fmt, io};
 
-/// Whether the patch names the system state.
+/// Whether the patch has a system state with this id.
 pub(crate) fn names(patch: &PlanPatch, id: u64) -> bool {
     patch.states.iter().any(|state| state.id == id)
 }
 
-/// A change of a system state that does nothing, and why.
+/// An edit of a system state that does nothing, and why.
 #[derive(Clone, Copy)]
 struct IdleChange {
     id: u64,
@@ -28,7 +28,8 @@ impl fmt::Display for IdleChange {
     }
 }
 
-/// Why an edit of this patch does nothing, whatever is installed, and the system state that it is about.
+/// If this edit of the patch does nothing, whatever is installed: its system state, and why it does nothing. Otherwise
+/// `None`.
 fn idle_state(patch: &PlanPatch, patches: &[PlanPatch], edit: &Edit) -> Option<IdleChange> {
     match *edit {
         Edit::SetData(id, _) | Edit::TakePrev(id) if !names(patch, id) => Some(IdleChange {
@@ -50,7 +51,7 @@ fn idle_state(patch: &PlanPatch, patches: &[PlanPatch], edit: &Edit) -> Option<I
     }
 }
 
-/// Says the edits of a callback that do nothing, and returns how many there are.
+/// Reports the edits of a callback that do nothing. Returns how many findings that is.
 fn say_idle_edits<W: Write>(
     own: &LintedPatch<'_>,
     place: usize,
@@ -72,7 +73,7 @@ fn say_idle_edits<W: Write>(
     Ok(count)
 }
 
-/// Says the edits of a patch that do nothing, and returns how many there are.
+/// Reports the edits of a patch that do nothing. Returns how many findings that is.
 pub(crate) fn say_idle<W: Write>(own: &LintedPatch<'_>, out: &mut W) -> io::Result<u64> {
     let mut count = 0u64;
     let patch = own.patch;
@@ -84,7 +85,7 @@ pub(crate) fn say_idle<W: Write>(own: &LintedPatch<'_>, out: &mut W) -> io::Resu
     Ok(count)
 }
 
-/// A function whose symbol isn't picked.
+/// A function whose name and position pick no symbol.
 #[derive(Clone, Copy)]
 struct Unpicked<'a> {
     object: &'a str,
@@ -109,7 +110,7 @@ impl fmt::Display for Unpicked<'_> {
     }
 }
 
-/// Says the functions of a patch whose symbols aren't picked, and returns how many there are.
+/// Reports the functions of a patch whose name and position pick no symbol. Returns how many findings that is.
 pub(crate) fn say_unpicked<W: Write>(
     own: &LintedPatch<'_>,
     modules: &Modules,

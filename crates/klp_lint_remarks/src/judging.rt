@@ -1,5 +1,5 @@
-//! Booting a manager over a catalog, serving a script, and then judging each patch. Another manager is booted, in which
-//! the patches are loaded over each other.
+//! Boots a manager over a catalog, serves a script, and then judges each patch. Then boots another manager, in which
+//! patches are loaded over each other.
 ghost use Rattle.std.specs.Prelude.{◌≡◌, ◌<◌, ◌≤◌, length, IfSome};
 ghost use Rattle.klp_catalog_text.specs.Within.{AreTargetsWithin};
 
@@ -41,7 +41,7 @@ fn do_line<M: Ledger>(
     }
 }
 
-/// The first line of a text, and what comes after it. None if nothing is left.
+/// The first line of a text, and the text behind that line. `None` if the text is empty.
 fn cut_line(text: &[u8]) -> Option<(&[u8], &[u8])>
     ensures { IfSome result (λ cut. length cut.1.now < length text.now) }
 {
@@ -65,7 +65,7 @@ fn do_lines(alloc: Global, manager: &mut Manager, script: &[u8]) -> Result<(), F
     Ok(())
 }
 
-/// Says what comes of a patch, and returns how many findings that is.
+/// Reports how a patch was judged. Returns how many findings that is.
 fn say<W: Write>(
     own: &LintedPatch<'_>,
     manager: &Manager,
@@ -96,7 +96,8 @@ fn judge_one<W: Write>(own: &LintedPatch<'_>, manager: &Manager, out: &mut W) ->
     )
 }
 
-/// Says what in a patch is near a limit, or whether it is just like another patch.
+/// Reports what in a patch is near a limit, and whether the patch is just like another one. Returns how many findings
+/// that is.
 fn say_limits<W: Write>(own: &LintedPatch<'_>, out: &mut W) -> io::Result<u64> {
     let near = say_near(own, out)?;
     let room = say_room(own, out)?;
@@ -138,7 +139,7 @@ fn judge<W: Write>(
     }
 }
 
-/// Serves the script, and judges the patches. The journal is empty then, so that it has room for what is tried.
+/// Serves the script, seals the journal, and judges the patches. So the journal has room for the events that are tried.
 fn lint<W: Write>(
     alloc: Global,
     manager: &mut Manager,
@@ -152,7 +153,7 @@ fn lint<W: Write>(
     judge(part, linted, manager, out)
 }
 
-// Drops the manager then.
+// Does what `lint` does, and then drops the manager.
 fn lint_by<W: Write>(
     alloc: Global,
     mut manager: Manager,
@@ -185,7 +186,8 @@ fn lint_over_plan<W: Write>(
     lint_by(alloc, manager, part, linted, script, out)
 }
 
-/// Judges the patches by a manager that is booted for this over the catalog, and has served the script.
+/// Boots a manager over the catalog, serves the script with it, and judges the patches. No other part uses this
+/// manager.
 fn lint_part<W: Write>(
     alloc: Global,
     part: Part,
@@ -209,10 +211,10 @@ fn lint_parts<W: Write>(
     Ok(alone.saturating_add(together))
 }
 
-/// Judges each patch of the catalog by itself, and then loads them over each other, each time after the script. Returns
-/// how many findings there are.
+/// Judges each patch of the catalog by itself. Then loads the patches over each other. Both begin in the state after
+/// the script. Returns how many findings there are.
 ///
-/// Two managers do this, since loading patches raises the counts of their callbacks. The catalog is read once more for
+/// Two managers do this, since loading patches raises the counts of their callbacks. The catalog is read again for
 /// each, since booting takes the plan.
 pub fn lint_over_text<W: Write>(
     alloc: Global,

@@ -1,4 +1,4 @@
-//! What of a patch is near a limit, or is just like another patch.
+//! Reports what in a patch is near a limit, and whether a patch is just like another one.
 
 use crate::remark::{Kind, Remark, name_of_patch};
 use crate::scripts::{count_added, count_all_added};
@@ -8,16 +8,16 @@ use klp_types::{ENTRY_SITE_LEN, MAX_VARIABLES, ObjectText, PatchId, SymbolText, 
 use std::io::Write;
 use std::{fmt, io};
 
-/// How far a call reaches: 2 GiB.
+/// The distance that a call reaches: 2 GiB.
 const REACH: u64 = 0x8000_0000;
 
-/// How near to this limit a call is reported: 1 MiB.
+/// A call is reported if it is nearer than this to the end of its reach: 1 MiB.
 const NEAR: u64 = 0x10_0000;
 
-/// The instruction in front of an entry site, if a kernel tracks indirect branches.
+/// The instruction ENDBR64. It stands in front of an entry site if a kernel tracks indirect branches.
 const ENDBR64: [u8; 4] = [0xf3, 0x0f, 0x1e, 0xfa];
 
-/// The symbol that a function replaces. `None` if its name and position pick none.
+/// The symbol that a function replaces. `None` if the function's name and position pick no symbol.
 fn picked<'a>(object: &'a ObjectText, function: &PlanFunction) -> Option<&'a SymbolText> {
     let before = (function.sympos as usize).saturating_sub(1);
     let mut same = 0usize;
@@ -32,7 +32,7 @@ fn picked<'a>(object: &'a ObjectText, function: &PlanFunction) -> Option<&'a Sym
     None
 }
 
-/// How many bytes the call at a symbol's entry site could be farther from the handler.
+/// By how many bytes the call at a symbol's entry site falls short of the reach of a call.
 fn left_at(handler: u64, symbol: &SymbolText) -> u64 {
     let offset = if symbol.body.as_slice().starts_with(&ENDBR64) {
         ENDBR64.len()
@@ -46,7 +46,7 @@ fn left_at(handler: u64, symbol: &SymbolText) -> u64 {
     REACH.saturating_sub(handler.abs_diff(behind))
 }
 
-/// A function whose call of the handler is near the limit.
+/// A function at whose symbol the call of the handler is near the end of its reach.
 #[derive(Clone, Copy)]
 struct NearLimit<'a, 'b> {
     object: &'a str,
@@ -96,7 +96,7 @@ fn say_near_in<W: Write>(
     Ok(count)
 }
 
-/// Says the functions of a patch whose call of the handler is near the limit.
+/// Reports each function of a patch at whose symbol the call of the handler is near the end of its reach.
 pub(crate) fn say_near<W: Write>(own: &LintedPatch<'_>, out: &mut W) -> io::Result<u64> {
     let mut count = 0u64;
     let patch = own.patch;
@@ -106,7 +106,7 @@ pub(crate) fn say_near<W: Write>(own: &LintedPatch<'_>, out: &mut W) -> io::Resu
     Ok(count)
 }
 
-/// Callbacks for which there may be no room.
+/// How many variables a patch's callbacks need room for, if that may be too many.
 #[derive(Clone, Copy)]
 struct NoRoom {
     own: usize,
@@ -124,7 +124,7 @@ impl fmt::Display for NoRoom {
     }
 }
 
-/// How many variables a patch asks room for when it is enabled.
+/// How many shadow variables must have room when a patch is enabled.
 fn count_wanted(patch: &PlanPatch) -> usize {
     let mut count = 0usize;
     for target in patch.targets.iter() {
@@ -137,7 +137,8 @@ fn count_wanted(patch: &PlanPatch) -> usize {
     count
 }
 
-/// Says whether the callbacks of a patch may find no room, if all that the catalog's callbacks add is there.
+/// Reports a patch whose callbacks may find no room for their variables. That is so if all variables that the catalog's
+/// callbacks add don't fit together. Returns how many findings that is.
 pub(crate) fn say_room<W: Write>(own: &LintedPatch<'_>, out: &mut W) -> io::Result<u64> {
     let mut all = 0usize;
     for patch in own.linted.patches {
@@ -187,7 +188,7 @@ fn is_alike(one: &PlanPatch, other: &PlanPatch) -> bool {
         })
 }
 
-/// The older patch that a patch is just like.
+/// The older patch to which a patch is equal in all but its name and its new functions.
 #[derive(Clone, Copy)]
 struct Alike<'a>(&'a str);
 
@@ -201,7 +202,7 @@ impl fmt::Display for Alike<'_> {
     }
 }
 
-/// Says the first older patch from which nothing distinguishes this one.
+/// Reports the first older patch that is just like this one.
 pub(crate) fn say_alike<W: Write>(own: &LintedPatch<'_>, out: &mut W) -> io::Result<u64> {
     let patches = own.linted.patches;
     for (number, older) in patches.iter().enumerate() {

@@ -1,4 +1,4 @@
-//! What becomes of patches that are loaded over others: each alone, over another one, and over two.
+//! What becomes of patches that are loaded over others. Each is loaded alone, over another patch, and over two.
 ghost use Rattle.std.specs.Prelude.{◌≡◌};
 ghost use Rattle.klp_core.specs.Journaled.{IsWellFormed};
 
@@ -16,7 +16,7 @@ use klp_types::{MAX_PATCHES, ObjId, PatchId, Which};
 use std::io::Write;
 use std::{fmt, io};
 
-/// The most events of one loading: two for each patch, an `Enable` and a poll, and four that follow them.
+/// The most events with which patches are loaded: an `Enable` and a poll for each patch, and four more behind them.
 pub(crate) const MAX_LOADING: usize = 2 * MAX_PATCHES + 4;
 
 /// Patches in the order in which they are loaded.
@@ -30,7 +30,7 @@ pub(crate) struct Loading {
 }
 
 impl Loading {
-    /// Adds an event. Does nothing if there are already as many as all patches need.
+    /// Adds an event. Does nothing if there are [`MAX_LOADING`] already.
     pub(crate) fn push(&mut self, event: Event) {
         if let Some(place) = self.events.get_mut(self.len) {
             *place = event;
@@ -43,7 +43,7 @@ impl Loading {
     }
 }
 
-/// What comes of loading a patch.
+/// What happens when a patch is loaded.
 #[derive(Clone, Copy, PartialEq, Eq)]
 pub(crate) enum Outcome {
     Started,
@@ -54,7 +54,7 @@ pub(crate) enum Outcome {
     Refused,
 }
 
-/// What comes of the transition of a patch that is loaded.
+/// How the transition of a loaded patch ends, or why it doesn't.
 #[derive(Clone, Copy, PartialEq, Eq)]
 pub(crate) enum End {
     Completed,
@@ -63,14 +63,14 @@ pub(crate) enum End {
     Other,
 }
 
-/// Asks a manager what it would answer after events.
+/// What a manager would answer to `event` after `events`.
 fn reply_to(manager: &mut Manager, events: &[Event], event: &Event) -> Result<Reply, Refusal>
     requires { IsWellFormed manager.old }
 {
     reply_behind(manager, events, event)
 }
 
-/// The events that load these patches, one after another, each until its transition completes.
+/// The events that load these patches one after another: an `Enable` and a poll for each.
 pub(crate) fn events_for(below: &[PatchId]) -> Loading {
     let mut loading = Loading {
         events: [Event::Poll; MAX_LOADING],
@@ -83,7 +83,7 @@ pub(crate) fn events_for(below: &[PatchId]) -> Loading {
     loading
 }
 
-/// What an answer to loading a patch comes to.
+/// The outcome for this answer to an `Enable`.
 fn outcome_of(answer: &Result<Reply, Refusal>) -> Outcome {
     match answer {
         Ok(Reply::PreFailed(_, object, status)) => Outcome::Failed {
@@ -98,14 +98,14 @@ fn outcome_of(answer: &Result<Reply, Refusal>) -> Outcome {
     }
 }
 
-/// What comes of loading a patch over these.
+/// The outcome of loading `patch` over the patches in `below`.
 pub(crate) fn outcome_over(manager: &mut Manager, below: &[PatchId], patch: PatchId) -> Outcome {
     let _for_its_clause = manager.mark();
     let answer = reply_to(manager, events_for(below).events(), &Event::Enable(patch));
     outcome_of(&answer)
 }
 
-/// What the last of these events, which is a poll, comes to.
+/// How the transition ends with a poll after these events.
 pub(crate) fn end_of(manager: &mut Manager, events: &[Event]) -> End {
     let _for_its_clause = manager.mark();
     match reply_to(manager, events, &Event::Poll) {
@@ -116,19 +116,19 @@ pub(crate) fn end_of(manager: &mut Manager, events: &[Event]) -> End {
     }
 }
 
-/// What comes of the transition of a patch that is loaded over these.
+/// How the transition of `patch` ends if it is loaded over the patches in `below`.
 pub(crate) fn end_over(manager: &mut Manager, below: &[PatchId], patch: PatchId) -> End {
     let mut events = events_for(below);
     events.push(Event::Enable(patch));
     end_of(manager, events.events())
 }
 
-/// Whether a patch is loaded over these, and its transition completes. A patch that isn't loaded has none.
+/// Whether a patch can be loaded over the patches in `below`, so that its transition completes.
 pub(crate) fn stands_over(manager: &mut Manager, below: &[PatchId], patch: PatchId) -> bool {
     end_over(manager, below, patch) == End::Completed
 }
 
-/// The patches that aren't installed.
+/// The patches that aren't installed, of the first `count`.
 fn not_installed(manager: &Manager, count: usize) -> Order {
     let mut free = ArrayVec::new();
     for number in 0..count {
@@ -169,7 +169,7 @@ impl fmt::Display for Why<'_> {
     }
 }
 
-/// A patch that isn't loaded over others.
+/// A patch that can't be loaded over others, or that is loaded and stays in transition.
 #[derive(Clone, Copy)]
 struct NotLoaded<'a> {
     below: Names<'a>,
@@ -188,7 +188,7 @@ impl fmt::Display for NotLoaded<'_> {
     }
 }
 
-/// How many were tried, and how many of them started.
+/// How often loading a patch was tried, and how often that started a transition.
 #[derive(Clone, Copy)]
 struct Tally {
     tried: u64,
@@ -204,7 +204,7 @@ impl Tally {
     }
 }
 
-/// How all patches go together.
+/// What becomes of all patches together.
 #[derive(Drop)]
 struct Together<'a> {
     alone: Tally,
@@ -232,7 +232,7 @@ impl fmt::Display for Together<'_> {
 }
 
 impl Together<'_> {
-    /// The first order in which all patches are loaded.
+    /// The first order found in which all patches can be loaded. It is empty if none was.
     fn first(&self) -> &[PatchId] {
         match &self.orders {
             Some(orders) => orders.first.as_slice(),
@@ -241,7 +241,7 @@ impl Together<'_> {
     }
 }
 
-/// Why a patch isn't loaded over these, if this is the outcome.
+/// Why a patch can't be loaded over the patches in `below`. The outcome of loading it is known.
 fn why_of<'a>(
     linted: Linted<'a>,
     manager: &Manager,
@@ -266,7 +266,7 @@ fn why_of<'a>(
     }
 }
 
-/// The line of a patch that shows why it isn't loaded.
+/// The catalog's line that shows why a patch can't be loaded.
 fn line_of_why(own: &LintedPatch<'_>, outcome: Outcome, why: Why<'_>) -> u64 {
     match (outcome, why) {
         (Outcome::Failed { object, .. }, _) => {
@@ -282,7 +282,8 @@ fn line_of_why(own: &LintedPatch<'_>, outcome: Outcome, why: Why<'_>) -> u64 {
     }
 }
 
-/// Says that a patch isn't loaded over these. Says nothing if a symbol isn't there: `say_unpicked` says that.
+/// Reports that a patch can't be loaded over the patches in `below`. Reports nothing if a symbol is missing, since
+/// `say_unpicked` does. Returns how many findings that is.
 fn say_outcome<W: Write>(
     own: &LintedPatch<'_>,
     manager: &Manager,
@@ -329,7 +330,7 @@ fn say_not_loaded<W: Write>(
     own.say(remark, &NotLoaded { below: names, why }, out)
 }
 
-/// Loads a patch alone, and says what is wrong with that. Returns how many findings there are.
+/// Loads a patch alone. If it can't be loaded, or stays in transition, reports that. Returns how many findings that is.
 fn try_alone<W: Write>(
     own: &LintedPatch<'_>,
     manager: &mut Manager,
@@ -350,7 +351,8 @@ fn try_alone<W: Write>(
     }
 }
 
-/// Loads a patch over another one, and says what comes of it, unless the same comes of it alone.
+/// Loads a patch over another one that stands alone. If it can't be loaded, reports that, unless the outcome is the
+/// same without the other patch. Returns how many findings that is.
 fn try_over_one<W: Write>(
     own: &LintedPatch<'_>,
     manager: &mut Manager,
@@ -370,7 +372,8 @@ fn try_over_one<W: Write>(
     say_outcome(own, manager, &[below], outcome, out)
 }
 
-/// Loads a patch over two others that stand, and says what comes of it, unless the same comes over one of them.
+/// Loads a patch over two others that stand. If it can't be loaded, reports that, unless the outcome is the same over
+/// one of the two. Returns how many findings that is.
 fn try_over_two<W: Write>(
     own: &LintedPatch<'_>,
     manager: &mut Manager,
@@ -390,7 +393,7 @@ fn try_over_two<W: Write>(
     say_outcome(own, manager, &pair, outcome, out)
 }
 
-/// Whether two patches stand together, the second over the first.
+/// Whether two patches stand together: the second can be loaded over the first, and doesn't replace it.
 fn is_pair(linted: Linted<'_>, manager: &mut Manager, first: PatchId, second: PatchId) -> bool {
     let replaces = match linted.patch(second) {
         Some(own) => {
@@ -405,7 +408,7 @@ fn is_pair(linted: Linted<'_>, manager: &mut Manager, first: PatchId, second: Pa
         && stands_over(manager, &[first], second)
 }
 
-/// Loads each patch over each pair that stands.
+/// Loads each patch over each two others that stand together. Returns how many findings there are.
 fn try_pairs<W: Write>(
     linted: Linted<'_>,
     manager: &mut Manager,
@@ -425,7 +428,7 @@ fn try_pairs<W: Write>(
     Ok(count)
 }
 
-/// Loads each other patch over a pair.
+/// Loads each patch that isn't in the pair over the pair. Returns how many findings there are.
 fn try_over<W: Write>(
     linted: Linted<'_>,
     manager: &mut Manager,
@@ -445,7 +448,7 @@ fn try_over<W: Write>(
     Ok(count)
 }
 
-/// Loads a patch alone and over each other one.
+/// Loads a patch alone, and over each other patch. Returns how many findings there are.
 fn try_one<W: Write>(
     own: &LintedPatch<'_>,
     manager: &mut Manager,
@@ -461,10 +464,12 @@ fn try_one<W: Write>(
     Ok(count.saturating_add(say_replacing(own, manager, free, out)?))
 }
 
-/// Loads the patches that aren't installed: each alone, over each other one, and over each pair that stands; and all of
-/// them, in each order. Says what comes of that, except for what just starts.
+/// Loads each patch that isn't installed: alone, over each other one, and over each two that stand together. Also loads
+/// all of them in each order. Reports those that can't be loaded, and at last how many can. Returns how many findings
+/// there are.
 ///
-/// Only asks the manager for its replies. Afterwards the manager is as before, except for the counts of its callbacks.
+/// The manager is only asked for its replies. Afterwards its state is as before, except for the counts of its
+/// callbacks.
 pub(crate) fn say_together<W: Write>(
     linted: Linted<'_>,
     manager: &mut Manager,

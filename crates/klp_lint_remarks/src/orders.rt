@@ -1,4 +1,4 @@
-//! In which orders all patches can be loaded.
+//! Finds the orders in which all patches can be loaded.
 ghost use Rattle.std.specs.Prelude.{◌≡◌};
 ghost use Rattle.klp_core.specs.Journaled.{IsWellFormed};
 
@@ -10,17 +10,17 @@ use klp_model::{Event, Reply};
 use klp_types::PatchId;
 use std::fmt;
 
-/// How many times a patch is loaded at most. All orders of six patches take 1,956 loadings.
+/// At most this many loadings are tried. All orders of six patches need 1,956.
 const MAX_LOADINGS: u32 = 2000;
 
-/// How many steps that takes at most: each loads a patch, skips a loaded one, or goes back.
+/// At most this many steps are done. A step loads a patch, skips one that is loaded already, or goes back.
 const MAX_STEPS: u32 = 40_000;
 
-/// How many events load a patch: it is enabled, and a poll completes its transition.
+/// How many events load a patch: an `Enable`, and a poll that completes its transition.
 const LOADING: u32 = 2;
 
-/// How many orders there are in which each of some patches is loaded over those before it, the first such order, and
-/// whether all orders were tried.
+/// The number of orders in which each of some patches can be loaded over those before it. Also has the first such
+/// order, and whether the search was cut off.
 #[derive(Drop)]
 pub(crate) struct Orders<'a> {
     patches: &'a [PlanPatch],
@@ -53,7 +53,7 @@ impl fmt::Display for Orders<'_> {
     }
 }
 
-/// Loads a patch, and returns whether its transition completes. If it doesn't, all is as before.
+/// Loads a patch. Returns whether its transition completes. If it doesn't, undoes the events.
 fn load(manager: &mut Manager, patch: PatchId) -> bool
     requires { IsWellFormed manager.old }
 {
@@ -66,15 +66,15 @@ fn load(manager: &mut Manager, patch: PatchId) -> bool
     stands
 }
 
-/// Takes back all events after the first so many.
+/// Undoes all events after the first `mark`.
 fn take_back(manager: &mut Manager, mark: u32)
     requires { IsWellFormed manager.old }
 {
     let _ = manager.rewind(mark);
 }
 
-/// The beginning of an order, whose patches are loaded, and the place of the patch that is tried next among those that
-/// aren't installed.
+/// A search for orders. `order` is the beginning of an order, and its patches are loaded. `next` is the place of the
+/// patch that is tried next, among those that are to be ordered.
 #[derive(Drop)]
 struct Search {
     mark: u32,
@@ -86,7 +86,7 @@ struct Search {
 }
 
 impl Search {
-    /// Takes the last patch out again. Returns whether there was one.
+    /// Undoes the loading of the last patch. Returns false if none is loaded.
     fn step_back(&mut self, manager: &mut Manager, free: &[PatchId]) -> bool {
         let Some(last) = self.order.pop() else {
             return false;
@@ -100,7 +100,7 @@ impl Search {
         true
     }
 
-    /// Does one step. Returns whether there is another one.
+    /// Does one step of the search. Returns whether there are further steps.
     fn step(&mut self, manager: &mut Manager, free: &[PatchId]) -> bool {
         let Some(patch) = free.get(self.next) else {
             return self.step_back(manager, free);
@@ -126,7 +126,7 @@ impl Search {
     }
 }
 
-/// Does steps until there are no more. Returns whether loadings or steps ran out.
+/// Does steps until the search ends. Returns whether it was cut off: there were too many loadings or steps.
 fn search_all(search: &mut Search, manager: &mut Manager, free: &[PatchId]) -> bool {
     for _ in 0..MAX_STEPS {
         if search.loadings == MAX_LOADINGS {
@@ -139,7 +139,7 @@ fn search_all(search: &mut Search, manager: &mut Manager, free: &[PatchId]) -> b
     true
 }
 
-/// Those of these patches whose transition completes if they are loaded alone.
+/// Those of the patches in `free` whose transition completes if they are loaded alone.
 fn standing_alone(manager: &mut Manager, free: &Order) -> Order {
     let mut standing = Order::new();
     for patch in free.as_slice() {
@@ -150,8 +150,8 @@ fn standing_alone(manager: &mut Manager, free: &Order) -> Order {
     standing
 }
 
-/// Loads those of these patches that stand alone in one order after another, and counts the orders in which each is
-/// loaded and its transition completes. `None` if there are fewer than two.
+/// Counts the orders in which certain patches can be loaded, so that each transition completes. They are those of
+/// `free` that stand if they are loaded alone. `None` if there are fewer than two.
 pub(crate) fn count_orders<'a>(
     patches: &'a [PlanPatch],
     manager: &mut Manager,

@@ -1,18 +1,18 @@
-//! What is said, in words or for programs.
+//! What is reported, in words or for programs.
 
 use klp_catalog_text::PlanPatch;
 use klp_types::{PatchId, ShadowKey};
 use std::io::Write;
 use std::{fmt, io};
 
-/// How it is said: a line of words, or an object of JSON, which is a line too.
+/// The form of a report: a line of words, or an object of JSON, which also has one line.
 #[derive(Clone, Copy, PartialEq, Eq)]
 pub enum Form {
     Words,
     Json,
 }
 
-/// What kind of thing is said of a patch, or of all of them.
+/// The kind of a report. The last one is about all patches together, each other one about one patch.
 #[derive(Clone, Copy, PartialEq, Eq)]
 pub(crate) enum Kind {
     Clean,
@@ -34,7 +34,7 @@ pub(crate) enum Kind {
 }
 
 impl Kind {
-    /// The word by which a program knows it.
+    /// The word for this kind, for programs.
     fn word(self) -> &'static str {
         match self {
             Kind::Clean => "clean",
@@ -56,7 +56,8 @@ impl Kind {
         }
     }
 
-    /// Whether something is wrong with the patch. The other kinds only say how things are.
+    /// Whether a report of this kind is a finding: something may be wrong with the patch. The others only say how
+    /// things are.
     pub(crate) fn is_finding(self) -> bool {
         !matches!(
             self,
@@ -70,7 +71,7 @@ impl Kind {
     }
 }
 
-/// What is said: its kind, the line of the catalog, and what it is about, as far as that has a name or a number.
+/// A report: its kind, the line of the catalog, and the names and numbers of what it is about.
 #[derive(Clone, Copy)]
 pub(crate) struct Remark<'a> {
     pub(crate) kind: Kind,
@@ -94,7 +95,7 @@ impl Remark<'_> {
     }
 }
 
-/// A text as JSON has it between its quotes.
+/// Writes a text as it stands between the quotes of a JSON string.
 #[derive(Clone, Copy)]
 pub(crate) struct Escaped<'a>(pub(crate) &'a str);
 
@@ -121,7 +122,7 @@ pub(crate) fn name_of_patch(patches: &[PlanPatch], patch: PatchId) -> &str {
     }
 }
 
-/// The names of patches, as words have them: `p`, `p and q`, `p, q and r`.
+/// Writes the names of patches as a sentence has them: `p`, `p and q`, `p, q and r`.
 #[derive(Clone, Copy)]
 pub(crate) struct Names<'a> {
     pub(crate) patches: &'a [PlanPatch],
@@ -144,7 +145,7 @@ impl fmt::Display for Names<'_> {
     }
 }
 
-/// Writes what else a finding is about. The names of a catalog have no byte that JSON escapes.
+/// Writes the names and numbers that a report is about, as JSON. No byte of a catalog's names must be escaped there.
 pub(crate) fn write_about<W: Write>(
     remark: Remark<'_>,
     patches: &[PlanPatch],
@@ -170,7 +171,7 @@ pub(crate) fn write_about<W: Write>(
     write!(out, "]")
 }
 
-/// Writes the beginning of an object of JSON: what kind of thing is said, and of which catalog.
+/// Writes the beginning of a JSON object: the kind of the report, and the catalog.
 pub(crate) fn write_kind<W: Write>(kind: Kind, catalog: &str, out: &mut W) -> io::Result<()> {
     let (word, is_finding) = (kind.word(), kind.is_finding());
     let catalog = Escaped(catalog);

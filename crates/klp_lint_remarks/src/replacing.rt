@@ -15,7 +15,7 @@ use klp_types::{PatchId, ShadowKey, ShadowValue};
 use std::io::Write;
 use std::{fmt, io};
 
-/// Which patches a cumulative one takes out, and which system states of theirs it takes over.
+/// The patches that a cumulative one takes out, and those of their system states that it takes over.
 #[derive(Clone, Copy)]
 struct TakesOut<'a> {
     patch: &'a PlanPatch,
@@ -42,7 +42,7 @@ impl fmt::Display for TakesOut<'_> {
     }
 }
 
-/// A system state whose value goes with the patch that is taken out.
+/// A system state whose value is lost when its patch is taken out.
 #[derive(Clone, Copy)]
 struct ForgetsState<'a> {
     id: u64,
@@ -59,7 +59,7 @@ impl fmt::Display for ForgetsState<'_> {
     }
 }
 
-/// A variable that stays for good when its patch is taken out.
+/// A shadow variable that nobody frees any more after its patch was taken out.
 #[derive(Clone, Copy)]
 struct LeavesVariable<'a> {
     key: ShadowKey,
@@ -77,14 +77,15 @@ impl fmt::Display for LeavesVariable<'_> {
     }
 }
 
-/// Asks a manager which value a variable would have after events.
+/// The value that a shadow variable would have after these events, by this manager.
 fn value_of(manager: &mut Manager, events: &[Event], key: ShadowKey) -> Option<ShadowValue>
     requires { IsWellFormed manager.old }
 {
     value_behind(manager, events, key)
 }
 
-/// The patches that are loaded, and then taken out by this one.
+/// The patches that this one takes out. They are the installed ones if it can be loaded now, and each of `free` over
+/// which it can be loaded.
 fn taken_out(own: &LintedPatch<'_>, manager: &mut Manager, free: &Order) -> Order {
     let patch = patch_id(own.number);
     let mut gone = manager.installed();
@@ -102,7 +103,8 @@ fn taken_out(own: &LintedPatch<'_>, manager: &mut Manager, free: &Order) -> Orde
     gone
 }
 
-/// Says the system states of a patch that is taken out whose values go with it.
+/// Reports those system states of a patch whose values are lost when `own` takes the patch out. Returns how many
+/// findings that is.
 fn say_forgotten<W: Write>(own: &LintedPatch<'_>, other: PatchId, out: &mut W) -> io::Result<u64> {
     let mut count = 0u64;
     let Some(gone) = own.linted.patch(other) else {
@@ -130,14 +132,15 @@ fn say_forgotten<W: Write>(own: &LintedPatch<'_>, other: PatchId, out: &mut W) -
     Ok(count)
 }
 
-/// The events that load `below`, and `patch` over it, and then withdraw `patch`, except the last poll.
+/// Events that load `below`, load `patch` over it, and then disable `patch`. The last poll isn't among them.
 fn replacing(below: PatchId, patch: PatchId) -> Loading {
     let mut events = events_for(&[below, patch]);
     events.push(Event::SetEnabled(patch, false));
     events
 }
 
-/// Says which variables of a patch that is taken out are still there once this one is gone too.
+/// Reports the shadow variables of a patch that are still there after `own` has taken the patch out, and has left
+/// itself. Returns how many findings that is.
 fn say_left<W: Write>(
     own: &LintedPatch<'_>,
     manager: &mut Manager,
@@ -172,7 +175,7 @@ fn say_left<W: Write>(
     Ok(count)
 }
 
-/// Says of a cumulative patch what it takes out, and what of that stays behind.
+/// Reports which patches a cumulative one takes out, and what stays behind of them.
 pub(crate) fn say_replacing<W: Write>(
     own: &LintedPatch<'_>,
     manager: &mut Manager,

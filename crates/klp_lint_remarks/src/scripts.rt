@@ -4,10 +4,10 @@ use arrayvec::ArrayVec;
 use klp_catalog_text::{PlanCallback, PlanPatch};
 use klp_types::{Edit, MAX_EDITS, MAX_TARGETS, ShadowKey, Which};
 
-/// How many variables the callbacks of a patch can add while it comes.
+/// The most shadow variables that the callbacks of a patch can add while it is applied.
 const MAX_ADDED: usize = 2 * MAX_TARGETS * MAX_EDITS;
 
-/// The edits that a callback makes: none if its status isn't 0.
+/// The edits that a callback makes. It makes none if its status isn't 0.
 pub(crate) fn edits_made(callback: &PlanCallback) -> &[Edit] {
     if callback.script.status == 0 {
         callback.script.edits.as_slice()
@@ -16,12 +16,12 @@ pub(crate) fn edits_made(callback: &PlanCallback) -> &[Edit] {
     }
 }
 
-/// Whether the callback runs while its patch comes.
+/// Whether callbacks of this kind run while their patch is applied.
 pub(crate) fn is_coming(which: Which) -> bool {
     which == Which::Pre || which == Which::Post
 }
 
-/// How many variables a callback adds at most.
+/// The most shadow variables that a callback can add.
 pub(crate) fn count_added(callback: &PlanCallback) -> usize {
     edits_made(callback)
         .iter()
@@ -29,7 +29,7 @@ pub(crate) fn count_added(callback: &PlanCallback) -> usize {
         .count()
 }
 
-/// How many variables all callbacks of a patch add at most.
+/// The most shadow variables that all callbacks of a patch can add.
 pub(crate) fn count_all_added(patch: &PlanPatch) -> usize {
     let mut count = 0usize;
     for target in patch.targets.iter() {
@@ -40,7 +40,7 @@ pub(crate) fn count_all_added(patch: &PlanPatch) -> usize {
     count
 }
 
-/// The variables that a patch may add while it comes, each once.
+/// The shadow variables that the callbacks of a patch may add while it is applied, each once.
 pub(crate) fn keys_added(patch: &PlanPatch) -> ArrayVec<ShadowKey, MAX_ADDED> {
     let mut keys = ArrayVec::new();
     for target in patch.targets.iter() {
@@ -63,7 +63,7 @@ fn add_key(keys: &mut ArrayVec<ShadowKey, MAX_ADDED>, edit: &Edit) {
     }
 }
 
-/// What the edits of a patch do with a system state of its own.
+/// What the edits of a patch do with one of its system states.
 #[derive(Clone, Copy, PartialEq, Eq)]
 pub(crate) enum Change {
     Nothing,
@@ -79,8 +79,8 @@ fn change_by(id: u64, edit: &Edit) -> Change {
     }
 }
 
-/// What the callbacks of a patch do with this system state while the patch comes. Taking the value over counts before
-/// setting it.
+/// What the callbacks of a patch do with this system state while the patch is applied. If they take over its value and
+/// also set it, the result is that they take it over.
 pub(crate) fn change_of(patch: &PlanPatch, id: u64) -> Change {
     let mut change = Change::Nothing;
     for target in patch.targets.iter() {

@@ -1,4 +1,4 @@
-//! Which system state keeps a patch from being loaded over others.
+//! Finds the system state that keeps a patch from being loaded over others.
 
 use crate::remark::name_of_patch;
 use arrayvec::ArrayVec;
@@ -6,16 +6,17 @@ use klp_catalog_text::{PlanPatch, SystemState};
 use klp_types::{MAX_PATCHES, PatchId};
 use std::fmt;
 
-/// A system state of an installed patch that another patch doesn't name, or names in a lower version.
+/// A system state of an installed patch that doesn't fit another patch. The other patch has it in a lower version, or
+/// is cumulative and doesn't have it.
 #[derive(Clone, Copy)]
 pub(crate) struct Conflict<'a> {
     pub(crate) id: u64,
-    /// The version of the installed patch.
+    /// The version that the installed patch has.
     there: u32,
     installed: &'a str,
-    /// The version of the other patch.
+    /// The version that the other patch has, if it has the system state.
     own: Option<u32>,
-    /// Which of its states that is.
+    /// The index of this system state among those of the other patch.
     pub(crate) place: Option<usize>,
 }
 
@@ -35,7 +36,7 @@ impl fmt::Display for Conflict<'_> {
     }
 }
 
-/// The patches that are installed after others were loaded: a cumulative one takes out the older ones.
+/// The patches that are installed after those in `below` are loaded. A cumulative one takes out all older ones.
 fn standing(
     patches: &[PlanPatch],
     installed: &[PatchId],
@@ -56,7 +57,7 @@ fn standing(
     standing
 }
 
-/// What keeps a patch from standing beside this state of another one.
+/// The conflict between a patch and this system state of an installed one. `None` if they fit.
 fn conflict_of<'a>(
     own: &PlanPatch,
     state: &SystemState,
@@ -83,8 +84,8 @@ fn conflict_of<'a>(
     })
 }
 
-/// The first system state that keeps a patch from being loaded if these patches are installed, and those of `below` are
-/// loaded over them.
+/// The first system state that keeps `patch` from being loaded after those in `below`. The patches in `installed` are
+/// installed before these. `None` if there is no such state.
 pub(crate) fn conflict_with<'a>(
     patches: &'a [PlanPatch],
     installed: &[PatchId],

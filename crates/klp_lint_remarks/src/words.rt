@@ -1,4 +1,4 @@
-//! What is found of the round trip, in words.
+//! Reports what was found about loading and withdrawing each patch, in words.
 
 use crate::catalog_line::{CatalogPlace, line_of, word_of};
 use crate::remark::{Form, Kind, Remark, write_about, write_kind};
@@ -9,7 +9,7 @@ use klp_types::{ObjId, ObjectText, PatchId, ShadowKey, ShadowValue, Which};
 use std::io::Write;
 use std::{fmt, io};
 
-/// A catalog: what its file is called, its bytes, and how it is reported.
+/// A catalog: the name of its file, its bytes, and the form of the reports about it.
 #[derive(Clone, Copy)]
 pub struct CatalogText<'a> {
     pub name: &'a str,
@@ -17,7 +17,7 @@ pub struct CatalogText<'a> {
     pub form: Form,
 }
 
-/// What a catalog says: its text, and what was read of it.
+/// A catalog's text, and what was read from it.
 #[derive(Clone, Copy)]
 pub(crate) struct Linted<'a> {
     pub(crate) text: CatalogText<'a>,
@@ -26,7 +26,7 @@ pub(crate) struct Linted<'a> {
     pub(crate) patches: &'a [PlanPatch],
 }
 
-/// A value of a variable, as a catalog spells it, or that there is none.
+/// Writes the value of a shadow variable as a catalog spells it, or that it isn't there.
 #[derive(Clone, Copy)]
 struct Shown(Option<ShadowValue>);
 
@@ -48,7 +48,7 @@ impl fmt::Display for Shown {
     }
 }
 
-/// The callbacks of a pair: the first, and the one that has to undo it.
+/// The two callbacks of a pair. The second has to undo what the first does.
 fn callbacks_of(pair: Pair) -> (Which, Which) {
     match pair {
         Pair::Pre => (Which::Pre, Which::PostUn),
@@ -56,7 +56,7 @@ fn callbacks_of(pair: Pair) -> (Which, Which) {
     }
 }
 
-/// What a callback of this kind is called.
+/// The name of this kind of callback.
 pub(crate) fn name_of(which: Which) -> &'static str {
     match which {
         Which::Pre => "pre-patch",
@@ -66,8 +66,8 @@ pub(crate) fn name_of(which: Which) -> &'static str {
     }
 }
 
-/// A pair of callbacks that leaves a variable with another value than it had. The line of the first is 0 if only the
-/// other one is reported.
+/// A pair of callbacks behind which a shadow variable has another value than before. `first` is the line of the first
+/// callback. It is 0 if the catalog has no such line, or if the report itself names it.
 #[derive(Clone, Copy)]
 struct NotUndone<'a> {
     object: &'a str,
@@ -98,7 +98,7 @@ impl fmt::Display for NotUndone<'_> {
     }
 }
 
-/// Two objects whose callbacks touch a variable. That of the first stands at this line.
+/// Two objects whose callbacks change the same shadow variable. `line` is that of the first object's target.
 #[derive(Clone, Copy)]
 struct NotApart<'a> {
     one: &'a str,
@@ -118,7 +118,7 @@ impl fmt::Display for NotApart<'_> {
     }
 }
 
-/// A patch of the catalog, of which klplint says whether it keeps its promises.
+/// A patch of the catalog, about which something is reported.
 #[derive(Clone, Copy)]
 pub(crate) struct LintedPatch<'a> {
     pub(crate) linted: Linted<'a>,
@@ -131,7 +131,7 @@ impl<'a> LintedPatch<'a> {
         self.line_behind(target, word, 0)
     }
 
-    /// The line after so many that begin with the same word.
+    /// The line of a target or of the whole patch that begins with this word, behind `before` others that do.
     pub(crate) fn line_behind(
         &self,
         target: Option<usize>,
@@ -156,7 +156,7 @@ impl<'a> LintedPatch<'a> {
         }
     }
 
-    /// Says something of the patch, and returns how many findings that is.
+    /// Reports something about the patch. Returns how many findings that is: 1 or 0.
     pub(crate) fn say<W: Write, S: fmt::Display>(
         &self,
         remark: Remark<'_>,
@@ -178,7 +178,7 @@ impl<'a> LintedPatch<'a> {
         Ok(u64::from(remark.kind.is_finding()))
     }
 
-    /// Says something of the whole patch.
+    /// Reports something about the whole patch, at the line with which it begins.
     pub(crate) fn say_whole<W: Write, S: fmt::Display>(
         &self,
         kind: Kind,
@@ -197,7 +197,7 @@ impl<'a> LintedPatch<'a> {
         self.say_whole(Kind::Clean, &sentence, out)
     }
 
-    /// Says a premise that fails.
+    /// Reports a premise that doesn't hold.
     pub(crate) fn say_failing<W: Write>(
         &self,
         manager: &Manager,
@@ -299,7 +299,7 @@ impl<'a> Linted<'a> {
         }
     }
 
-    /// Says something of all patches together, and of these above all.
+    /// Reports something about all patches together. A program also gets the names of those in `others`.
     pub(crate) fn say<W: Write, S: fmt::Display>(
         &self,
         sentence: &S,
@@ -323,7 +323,7 @@ impl<'a> Linted<'a> {
     }
 }
 
-/// The number of a patch as events have it.
+/// The number of a patch, in the type that events use.
 pub(crate) fn patch_id(number: usize) -> PatchId {
     PatchId(u8::try_from(number).unwrap_or(u8::MAX))
 }

@@ -12,13 +12,13 @@ use left_right::writer::Writer;
 use std::marker::Model;
 use std::sync::Wait;
 
-/// The end of the board that publishes.
+/// The publishing end of the board.
 pub type Changes<S> = Writer<Published, Option<News>, View, S>;
 
-/// The end of the board that reads. Each seat has one.
+/// The reading end of the board. Each seat has one.
 pub type Place<S> = Reader<Published, View, S>;
 
-/// Appends what is to be published next. Would wait for memory, but callers have kept room before, so it never waits.
+/// Appends what is to be published next. It would wait for memory, but the caller has reserved room, so it never waits.
 pub fn push<S: Start + Protocol<Published, View>, W: Wait>(
     rt: &W,
     changes: &mut Changes<S>,
@@ -38,7 +38,7 @@ pub fn push<S: Start + Protocol<Published, View>, W: Wait>(
     unreachable!()
 }
 
-/// Publishes one row. The caller has kept room for it.
+/// Publishes one row. The caller must have reserved room for it.
 pub fn announce<S: Start + Protocol<Published, View>, W: Wait>(
     rt: &W,
     changes: Changes<S>,
@@ -58,7 +58,7 @@ pub fn announce<S: Start + Protocol<Published, View>, W: Wait>(
 }
 
 /// The publishing end of the board. Dropping it must wait for its readers. A value under a lock is dropped without
-/// arguments, so the board keeps the handle for waiting.
+/// arguments, so the board stores the handle for waiting.
 pub struct Board<S: Start + Protocol<Published, View>, R: Wait + Drop> {
     changes: Changes<S>,
     rt: R,
@@ -95,7 +95,7 @@ impl<S: Start + Protocol<Published, View>, R: Wait + Drop> Board<S, R> {
         Board { changes, rt }
     }
 
-    /// Keeps room for one row. Returns whether there was memory for it.
+    /// Reserves room for one row. Returns whether there was memory for it.
     pub fn reserve(&mut self) -> bool
         requires { self.old.pending ≡ [] }
         ensures { MatchBool result (self.new ≡ record self.old { pending = None ∷ [] }) (self.new ≡ self.old) }
@@ -103,7 +103,7 @@ impl<S: Start + Protocol<Published, View>, R: Wait + Drop> Board<S, R> {
         self.changes.append(None).is_ok()
     }
 
-    /// Publishes one row. The caller has kept room for it.
+    /// Publishes one row. The caller must have reserved room for it.
     pub fn announce<W: Wait>(&mut self, rt: &W, news: News)
         requires rule { RuleIs S.holds S.first S.setting S.base S.book }
         requires room { self.old.pending ≡ None ∷ [] }

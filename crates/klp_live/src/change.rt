@@ -113,7 +113,8 @@ pub fn change_of<M: Machine>(alloc: Global, machine: &M) -> Result<Change, Alloc
     Ok(Change::All(all))
 }
 
-/// If an event may change one task's state and nothing else in a table, returns that task. None for other events.
+/// Returns the task whose state an event may change, if the event changes nothing else in a table. Returns `None` for
+/// other events.
 fn task_of(event: &Event) -> Option<TaskId>
     ensures { result ≡ task_in event.now }
 {
@@ -143,7 +144,7 @@ fn is_of_variables(event: &Event) -> bool
 }
 
 /// Returns the patch whose entries or transition an event changes. `moving` is the patch that was in transition before
-/// it.
+/// the event.
 fn patch_moved(event: &Event, moving: Option<PatchId>) -> Option<PatchId>
     ensures { result ≡ patch_moved_by moving event.now }
 {
@@ -165,7 +166,7 @@ fn module_moved(event: &Event) -> Option<ObjId>
     }
 }
 
-/// Appends the present row of a site to the list, which must have room. Does nothing without a site.
+/// Appends the present row of a site to the list, which must have room. Does nothing if `site` is `None`.
 fn add_row<M: Machine>(machine: &M, site: Option<Site>, rows: &mut Vec<NewRow>)
     requires room { vec_len rows.old < vec_capacity rows.old }
     ensures rows { let managed = (M.journaled machine.now).managed in
@@ -243,8 +244,8 @@ fn moved<M: Machine>(
     Ok(moved)
 }
 
-/// Returns what an event that was just taken changed in the table. The event must be about patches or modules, and not
-/// about one task or variables. `moving` is the patch that was in transition before it.
+/// Returns what an event that was just accepted changed in the table. The event must be about patches or modules, and
+/// not about one task or about variables. `moving` is the patch that was in transition before the event.
 fn change_of_patches<M: Machine>(
     alloc: Global,
     machine: &M,
@@ -271,9 +272,9 @@ fn change_of_patches<M: Machine>(
     }
 }
 
-/// Returns what an event that was just taken changed in the table. `moving` is the patch that was in transition before
-/// it. The cost grows with the event's own sites, or for a cumulative patch with all sites, and with all tasks if the
-/// event may change all of them.
+/// Returns what an event that was just accepted changed in the table. `moving` is the patch that was in transition
+/// before the event. The cost grows with the number of the event's own sites, or for a cumulative patch with that of
+/// all sites. If the event may change all tasks, it also grows with their number.
 pub fn change_after<M: Machine>(
     alloc: Global,
     machine: &M,

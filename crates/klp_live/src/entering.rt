@@ -41,7 +41,7 @@ pub struct Answer<S: Start> {
     front: Front<S>,
 }
 
-/// Reads the published table once, and returns the reader with the answer. No answer if the book has ended.
+/// Reads the published table once, and returns the reader with the answer. There is no answer if the book has ended.
 #[inline(always)]
 fn look<S: Start + Protocol<Published, View>>(
     reader: Place<S>,
@@ -112,8 +112,8 @@ impl<S: Start + Protocol<Published, View>> Seat<S> {
     }
 }
 
-/// A running task with its seat, by which the task's thread knows what happened. A pass is for one task, so `enter`
-/// needs no task number.
+/// A running task with its seat. Through the seat the task's thread knows what happened. A pass is for one task, so
+/// `enter` needs no task number.
 #[derive(Drop)]
 pub struct TaskPass<S: Start + Protocol<Published, View>> {
     task: TaskId,
@@ -151,7 +151,7 @@ impl<S: Start + Protocol<Published, View>> TaskPass<S> {
         self.seat.rows()
     }
 
-    /// Gives the seat back. The seat still knows what the pass knew, and another task may take it.
+    /// Returns the seat. It still knows what the pass knew, and can be given to another task.
     pub fn detach(self) -> Seat<S>
         ensures { result ≡ self.knows }
     {
@@ -159,8 +159,9 @@ impl<S: Start + Protocol<Published, View>> TaskPass<S> {
         seat
     }
 
-    /// Submits an event. Takes the lock, and so may wait. Afterwards the pass knows the history up to its own event, or
-    /// the history after which the event was refused. If memory ran out, it knows what it knew.
+    /// Submits an event. This takes the lock, and so may wait. If the event is accepted, the pass then knows the
+    /// history up to it. If the event is refused, the pass knows the history after which it was refused. If memory ran
+    /// out, the pass knows what it knew before.
     pub fn submit<M: Machine + Drop, R: Wait + Drop, W: Wait>(
         &mut self,
         rt: &W,
@@ -174,7 +175,7 @@ impl<S: Start + Protocol<Published, View>> TaskPass<S> {
         live.admit(rt, alloc, &mut self.seat, event)
     }
 
-    /// Learns of the event of a receipt: each later `enter` of this pass sees it, and all events before it.
+    /// Learns of the event of a receipt: each later `enter` of this pass sees this event, and all events before it.
     pub fn hear(&mut self, receipt: &Receipt<S>)
         ensures own { IsPrefix self.old.knows.list self.new.knows.list }
         ensures heard { IsPrefix receipt.now.list self.new.knows.list }

@@ -87,7 +87,7 @@ pub struct Head<S: Start> {
     ghost head_is: { word ≡ head_of S.book },
 }
 
-/// A beginning of the history that someone has seen.
+/// A beginning of the history: the rows, from the first up to some row, that someone has seen.
 #[derive(Drop)]
 pub struct Front<S: Start> {
     pub(crate) rows: u64,
@@ -138,8 +138,8 @@ impl<S: Start> Front<S> {
         other.rows <= self.rows
     }
 
-    /// Adds a row behind all that this front has seen. Returns false, and adds nothing, if the history has more rows
-    /// than that.
+    /// Adds a row to the history, right after the rows that this front has seen. If the history has more rows than
+    /// these, adds nothing and returns false.
     pub fn add(&mut self, head: &Head<S>, row: Accepted) -> bool
         requires room { length self.old < 2 ^ 62 }
         requires legal { answer S.setting (state_after_history S.setting S.base self.old) row.0 ≡ Ok row.1 }
@@ -174,8 +174,8 @@ impl<S: Start> Front<S> {
     }
 }
 
-/// Never returns. Called if two structures disagree, such as a history that is longer than what its only writer knows.
-/// They always agree, but their contracts don't say so.
+/// Never returns. Called if two structures disagree: for example, if a history is longer than its only writer knows.
+/// Structures always agree, but their contracts don't say so.
 fn stop<W: Wait>(rt: &W)
     ensures { ⊥ }
 {

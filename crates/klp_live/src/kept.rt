@@ -1,4 +1,4 @@
-//! The row that a receipt keeps.
+//! The row of the history that a receipt has.
 ghost use Rattle.std.specs.Prelude.{◌≡◌, IfOk};
 ghost use Rattle.klp_live.specs.Kept.{event_kept, reply_kept};
 
@@ -7,7 +7,7 @@ use klp_model::{Event, Reply};
 use klp_types::TaskId;
 use std::alloc::{AllocError, Global};
 
-/// An event of a task, without frames. The variants stand for those of [`Event`].
+/// An event of a task that has no frames. The variants stand for those of [`Event`].
 #[derive(Clone, Copy)]
 pub enum TaskEvent {
     New(TaskId),
@@ -17,8 +17,8 @@ pub enum TaskEvent {
     ExitToUser(TaskId),
 }
 
-/// A row, in a small form for the most frequent task events. A whole event and a whole reply each have room for the
-/// frames of a task, and receipts are passed from step to step.
+/// A row, with a small form for the most frequent task events. A whole event and a whole reply each have room for the
+/// frames of a task, but receipts are passed from step to step.
 #[derive(Drop)]
 pub enum Kept {
     /// An event with the reply `Done`.
@@ -28,7 +28,7 @@ pub enum Kept {
 }
 
 impl Kept {
-    /// Keeps the row of an event with this reply. An error means that memory ran out.
+    /// Makes the row of an event with this reply. An error means that memory ran out.
     pub(crate) fn of(alloc: Global, event: &Event, reply: &Reply) -> Result<Kept, AllocError>
         ensures event { IfOk result (λ kept. event_kept kept ≡ event.now) }
         ensures reply { IfOk result (λ kept. reply_kept kept ≡ reply.now) }

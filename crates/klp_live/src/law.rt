@@ -28,7 +28,7 @@ impl StoredEvent {
     }
 }
 
-/// The rule that the logbook keeps for the history: its word is the number of rows.
+/// The rule that `logbook` enforces for the history: its word is the number of rows.
 pub struct Law;
 
 impl Rule<Accepted, u64> for Law {
@@ -49,7 +49,7 @@ impl Rule<Accepted, u64> for Law {
     ghost moves = { λ ask before after answer. Unit {0} };
 }
 
-/// Callers gain and give nothing by a step.
+/// A step neither gives anything to its caller nor takes anything from it.
 pub struct Nothing;
 
 impl Gain<Accepted, u64> for Nothing {
@@ -67,7 +67,7 @@ impl Play<Accepted, u64> for Add {
     ghost then = { Adds };
 }
 
-/// A step asks for the row that it adds.
+/// The step takes the row that it adds as its argument.
 impl Plain<StoredEvent, Accepted, u64> for Add {
     ghost use Rattle.std.specs.Prelude.{None};
 

@@ -1,13 +1,13 @@
 //! The book: a manager that task threads share, and what it publishes to them.
 //!
-//! [`Book::pair`] opens a book over a manager, with a seat for each thread. [`Book::admit`] takes an event for a seat
-//! (`specs/Admitting`). [`Seat::enter`] finds, without a lock, what a call of a task runs (`specs/Passing`). Every book
-//! keeps two promises: its manager's journal is the list of accepted events, and the published table is the dispatch
-//! table (`specs/Dispatch`) after that list (`specs/Shown`).
+//! [`Book::pair`] opens a book over a manager, with a seat for each thread. [`Book::admit`] passes an event to the
+//! manager for a seat (`specs/Admitting`). [`Seat::enter`] finds out, without a lock, what a call of a task runs
+//! (`specs/Passing`). Two things hold of every book: its manager's journal is the list of accepted events, and the
+//! published table is the dispatch table (`specs/Dispatch`) after that list (`specs/Shown`).
 //!
-//! `history` has the list, and `kept` a row as a receipt keeps it. `publisher`, `published`, `rules` and `board`
-//! publish a table, `change` computes what an event changes in it, `entering` reads it, and `target` has what a call
-//! finds in it. docs/THREADS.md explains all of it.
+//! `history` has the list, and `kept` a row as a receipt has it. `publisher`, `published`, `rules` and `board` publish
+//! a table, `change` computes what an event changes in it, `entering` reads it, and `target` has what a call finds in
+//! it. docs/THREADS.md explains all of it.
 #![tactic(auto)]
 
 mod board;

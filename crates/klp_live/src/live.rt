@@ -25,8 +25,8 @@ use std::marker::PhantomData;
 use std::sync::ledger::{Blank, Share};
 use std::sync::{Mutex, MutexGuard, Wait};
 
-/// How many seats a start has: as many as its ledger has parts. Kept apart from the ledger: a struct that owns the
-/// ledger can't mention the number.
+/// How many seats a start has: as many as its ledger has parts. This is a separate struct, because a struct that owns
+/// the ledger can't mention the number.
 #[derive(Drop)]
 struct Places<S: Start> {
     count: usize,
@@ -46,22 +46,22 @@ pub struct Live<S: Start + Protocol<Published, View>, M: Machine + Drop, R: Wait
 #[derive(Clone, Copy, Debug)]
 pub struct BadTask;
 
-/// The error that a start can't be closed, since seats are missing. Hands the start and the seats back.
+/// The error that a start can't be closed, since seats are missing. It has the start and the seats that were passed in.
 #[derive(Drop)]
 pub struct CloseFault<S: Start + Protocol<Published, View>, M: Machine + Drop, R: Wait + Drop> {
     pub live: Live<S, M, R>,
     pub seats: Vec<Seat<S>>,
 }
 
-/// How many times a thread that found the lock taken spins before it first looks again, and how many times it looks
-/// before it may sleep.
+/// How many times a thread that found the lock taken spins before it looks again. `LOOKS` is how many times it then
+/// looks before it may sleep.
 const FIRST_WAITS: u32 = 4;
 
 const LOOKS: u32 = 6;
 
-/// Takes the lock. If another thread has it, this one spins for the time of a few events before it looks again, and
-/// twice as long each time. So the other may admit several events in a row while book and journal are in its
-/// processor's cache, which takes less time than if the two took turns.
+/// Takes the lock. If another thread has it, this thread spins for the time of a few events before it looks again, and
+/// then twice as long before each further look. Meanwhile the other thread may admit several events in a row, with book
+/// and journal in its processor's cache. This takes less time than if the two threads took turns.
 fn locked<'b, S: Start + Protocol<Published, View>, M: Machine + Drop, R: Wait + Drop, W: Wait>(
     book: &'b Mutex<Book<S, M, R>>,
     rt: &W,
@@ -137,7 +137,8 @@ fn shares_of<S: Start + Protocol<Published, View>, W: Wait>(
 }
 
 impl<S: Start + Protocol<Published, View>, M: Machine + Drop, R: Wait + Drop> Live<S, M, R> {
-    /// Starts over a manager: publishes its table, and hands out the seats. On a fault, returns the manager unchanged.
+    /// Makes a start from a manager: publishes the manager's table, and makes the seats. On a fault, returns the
+    /// manager unchanged.
     pub fn start(
         rt: R,
         alloc: Global,
@@ -171,8 +172,8 @@ impl<S: Start + Protocol<Published, View>, M: Machine + Drop, R: Wait + Drop> Li
         }
     }
 
-    /// Gives a task a seat, and returns its pass. Returns the seat and `BadTask` if the number is too large. Doesn't
-    /// check that the task exists: a task may have its pass before it begins.
+    /// Gives a seat to a task, and returns the task's pass. If the number is too large, returns the seat and `BadTask`.
+    /// Doesn't check that the task exists: a task may have its pass before it begins.
     pub fn attach(&self, seat: Seat<S>, task: TaskId) -> Result<TaskPass<S>, (Seat<S>, BadTask)>
         ensures { MatchResult result
             (λ pass. (pass ≡ record { task = task; knows = seat }) × (task < MAX_TASKS))
@@ -215,7 +216,7 @@ impl<S: Start + Protocol<Published, View>, M: Machine + Drop, R: Wait + Drop> Li
     }
 }
 
-/// Ends a book and returns its manager. All seats are handed in, so the numbers of their accepted events add up to the
+/// Ends a book and returns its manager. All seats are passed in, so the numbers of their accepted events add up to the
 /// length of the history.
 fn closed<S: Start + Protocol<Published, View>, M: Machine + Drop, R: Wait + Drop, W: Wait>(
     rt: &W,

@@ -51,7 +51,7 @@ fn first_of(table: &Table, seen: &Seen<Accepted, u64, Law>) -> Published
     }
 }
 
-/// Returns the table that a change makes. The change must not depend on the table before.
+/// Returns the table that a change makes. The change must not depend on an earlier table.
 fn table_by<S: Start>(change: Change) -> Table
     requires { Makes S.setting S.base change }
     ensures { IsDispatch S.setting S.base result }
@@ -151,9 +151,9 @@ fn seats<S: Start + Protocol<Published, View>>(
 }
 
 impl<S: Start + Protocol<Published, View>, M: Machine + Drop, R: Wait + Drop> Book<S, M, R> {
-    /// Opens a book over a manager whose journal is empty: publishes its table and makes the seats. Looks at every
-    /// site. `blank` and `opened` become the ledger and the history of the start. If memory runs out, or `left_right`
-    /// has no place for a reader, the manager is returned unchanged.
+    /// Opens a book over a manager whose journal is empty: publishes the manager's table and makes the seats. Looks at
+    /// every site. `blank` and `opened` become the ledger and the history of the start. If memory runs out, or
+    /// `left_right` has no place for a reader, the manager is returned unchanged.
     pub fn pair(
         rt: R,
         alloc: Global,

@@ -3,7 +3,7 @@ use crate::law::{Accepted, Law};
 use crate::table::{Change, Table};
 use logbook::Seen;
 
-/// The dispatch table after a history. There are two copies, which take turns: readers use one while the other is
+/// The dispatch table after a history. There are two copies, which swap their roles: readers use one while the other is
 /// changed.
 #[derive(Drop)]
 pub struct Published {
@@ -14,7 +14,7 @@ pub struct Published {
     pub seen: Seen<Accepted, u64, Law>,
 }
 
-/// One more row of the history, as it is published: its changes of the table, and the history that ends with it.
+/// One more row of the history, as it is published: its changes of the table, and the history up to this row.
 #[derive(Drop)]
 pub struct News {
     pub change: Change,

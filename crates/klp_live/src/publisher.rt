@@ -23,7 +23,8 @@ use std::marker::Model;
 use std::sync::Wait;
 use std::sync::ledger::{Book as Ledger, Share};
 
-/// The history with its board, and with the number of accepted events of all seats. Nobody else can add to the history.
+/// The history with its board, and with the number of accepted events of all seats. Only the publisher can add to the
+/// history.
 #[derive(Drop)]
 pub struct Publisher<S: Start + Protocol<Published, View>, R: Wait + Drop> {
     pub(crate) board: Board<S, R>,
@@ -61,7 +62,7 @@ fn news<S: Start>(change: Change, front: &Front<S>) -> News
     }
 }
 
-/// Appends a row to the history and publishes it. Returns false, and changes nothing, if there is no memory for that.
+/// Appends a row to the history and publishes it. If there is no memory for that, changes nothing and returns false.
 fn append<S: Start + Protocol<Published, View>, R: Wait + Drop, W: Wait>(
     rt: &W,
     board: &mut Board<S, R>,
@@ -116,7 +117,7 @@ impl<S: Start + Protocol<Published, View>, R: Wait + Drop> Publisher<S, R> {
         &self.front
     }
 
-    /// Returns only if the seat knows a beginning of the history.
+    /// Returns only if the history begins with all that the seat knows.
     pub fn must_cover<W: Wait>(&self, rt: &W, seat: &Seat<S>)
         ensures { IsPrefix seat.now.list self.now }
     {
@@ -130,8 +131,8 @@ impl<S: Start + Protocol<Published, View>, R: Wait + Drop> Publisher<S, R> {
         seat.front = self.front.again();
     }
 
-    /// Appends the row of an event that was accepted, publishes it, and counts it for the seat, which then knows it.
-    /// Returns None, and changes nothing, if there is no memory for that.
+    /// Appends the row of an event that was accepted, publishes the row, and counts it for the seat. Then the seat
+    /// knows the row. If there is no memory for this, changes nothing and returns `None`.
     pub fn publish<W: Wait>(
         &mut self,
         rt: &W,

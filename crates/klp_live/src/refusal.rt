@@ -13,12 +13,12 @@ use klp_model::Refusal;
 pub enum LiveRefusal {
     /// The manager refuses it.
     Refused(Refusal),
-    /// There was no memory to publish it, so it was taken back. It may be tried again.
+    /// There was no memory to publish the event, so it was taken back. It may be submitted again.
     NoMemory,
 }
 
-/// Three events never fill a journal: a history for which the journal has no room has more than three. A function here
-/// does nothing: its contract is the law.
+/// Three events never fill a journal: if the journal has no room after a history, the history has more than three
+/// events. A function here does nothing: its contract is the law.
 pub fn few_events_leave_room()
     ensures { (setting : Setting) (base : State) (list : History) (event : Event)
         → FindsNoRoom setting base list event → 3 < length list }

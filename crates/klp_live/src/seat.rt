@@ -37,8 +37,8 @@ impl<S: Start + Protocol<Published, View>> Model for Seat<S> {
 }
 
 impl<S: Start + Protocol<Published, View>> Seat<S> {
-    /// Returns how many rows of the history the seat knows: those of its last receipt or refusal, or of the last table
-    /// that it read.
+    /// Returns how many rows of the history the seat knows. It knows those up to its last receipt or refusal, or of the
+    /// last table that it read.
     pub fn rows(&self) -> u64
         ensures rows { result ≡ length self.now.list }
         ensures legal { IsLegal S.setting S.base self.now.list }

@@ -19,7 +19,7 @@ pub enum EnterFault {
     NoSite,
     /// There is no such task.
     NoTask,
-    /// The book has ended, or the table was older than what the seat knows. No proof rules the latter out.
+    /// The book has ended, or the table was older than what the seat knows. No proof excludes that the table is older.
     NoTable,
 }
 
@@ -35,7 +35,7 @@ fn chosen(site: Site, row: &SiteRow, state: i8) -> Target
     }
 }
 
-/// Returns what a task runs at a site, as a table says. Takes two lookups, whatever is installed.
+/// Returns what a task runs at a site, by the table. The cost is two lookups, whatever is installed.
 #[inline(always)]
 pub fn target_of(table: &Table, task: TaskId, site: Site) -> Result<Target, EnterFault>
     ensures { result ≡ found table.now task site }
@@ -51,7 +51,7 @@ pub fn target_of(table: &Table, task: TaskId, site: Site) -> Result<Target, Ente
     Ok(chosen(site, row, state))
 }
 
-/// A call finds the same in a state's table as in the state itself.
+/// A call finds the same target in the table of a state as in the state itself.
 pub fn tables_answer_what_the_machine_picks()
     ensures { (setting : Setting) (state : State) (table : AnyTable) (task site : ℕ)
         → IsDispatch setting state table → found table task site ≡ entered setting state task site }

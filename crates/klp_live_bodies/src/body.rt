@@ -11,7 +11,7 @@ use klp_live::{Live, Published, Start, TaskPass, View};
 use std::alloc::Global;
 use std::sync::Wait;
 
-/// A task's pass, with the gate that is asked before each of its steps.
+/// A task's pass, with the gate that decides before each step whether the task may go on.
 #[derive(Drop)]
 pub struct TaskBody<S: Start + Protocol<Published, View>, G: Gate + Drop> {
     pub pass: TaskPass<S>,
@@ -39,9 +39,9 @@ impl<S: Start + Protocol<Published, View>, G: Gate + Drop> TaskBody<S, G> {
         pass
     }
 
-    /// Does the steps one after the other, each once the gate lets the task in. Appends the outcome of each to `out`.
-    /// Submitting an event may wait. If the body stops before the last step, `out` has the outcomes of the steps that
-    /// were done.
+    /// Does the steps one after the other. Before each step it waits until the gate lets the task in. Appends the
+    /// outcome of each step to `out`. Submitting an event may wait. If the body stops before the last step, `out` has
+    /// the outcomes of the steps that were done.
     pub fn run<M: Machine + Drop, R: Wait + Drop, W: Wait>(
         self,
         rt: &W,

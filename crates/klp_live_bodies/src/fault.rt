@@ -5,9 +5,9 @@ use klp_live::{Published, Start, TaskPass, View};
 /// Why a body has stopped.
 #[derive(Clone, Copy, Debug)]
 pub enum BodyCause {
-    /// The gate was asked 1,000,000 times before a step, and didn't let the task in.
+    /// The gate was asked 1,000,000 times before a step, and never let the task in.
     Held,
-    /// There was no memory for the outcomes of all steps, or to admit an event; that event changed nothing.
+    /// There was no memory for the outcomes of all steps, or to admit an event. That event changed nothing.
     NoMemory,
 }
 

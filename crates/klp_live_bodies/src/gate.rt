@@ -1,15 +1,15 @@
 //! Holding a task up before a step.
 use klp_types::TaskId;
 
-/// Decides when a task may take its next step. It is asked before each step until it lets the task in. Steps count from
-/// 0.
+/// Decides when a task may do its next step. The gate is asked before each step until it lets the task in. Steps are
+/// counted from 0.
 pub trait Gate {
     ghost use Rattle.std.specs.Prelude.{ℕ, Bool};
 
-    /// Which answers it may give to a task before a step. Without a definition it may give any.
+    /// Which answers the gate may give to a task before a step. Without a definition it may give any answer.
     ghost answers: { Self → ℕ → ℕ → Bool → Type 0 } = { λ _ _ _ _. Unit {0} };
 
-    /// Whether the task may take this step now.
+    /// Whether the task may do this step now.
     fn before(&self, task: TaskId, step: u32) -> bool
         ensures { answers self.now task step result };
 }

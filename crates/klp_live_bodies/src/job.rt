@@ -42,7 +42,7 @@ impl<S: Start + Protocol<Published, View>, G: Gate + Drop> Job<S, G> {
         }
     }
 
-    /// Returns how its body ended, and the outcomes of its steps. For a job that hasn't run, returns its pass and no
+    /// Returns how the job's body ended, and the outcomes of its steps. If the job hasn't run, returns its pass and no
     /// outcomes.
     pub fn end(self) -> (Result<TaskPass<S>, BodyFault<S>>, Vec<Outcome>)
         ensures outcomes { result.1.items ≡ outcomes_of self }

@@ -12,9 +12,9 @@ ghost use Rattle.klp_live_bodies.specs.declared.step.Step.{Step};
 ghost use Rattle.klp_live_bodies.specs.declared.step.What.TheVariants.{Receipt};
 ghost use Rattle.klp_live_bodies.specs.Running.{AreDone};
 
-/// The number of known events in the outcomes never falls, and stays between the numbers known at the start and in the
-/// end. The number of a receipt is greater than all numbers known before it. At that number the history has the
-/// receipt's event and reply.
+/// From outcome to outcome, the number of known events never falls. It is at least the number known at the start, and
+/// at most the number known in the end. The number of a receipt is greater than all numbers known before it. At that
+/// number the history has the receipt's event and reply.
 pub fn outcomes_are_reported_in_order()
     ensures within { (setting : Setting) (base : State) (task : ℕ) (list : History) (before : ℕ) (frames : List Version)
         (steps : List Step) (outcomes : List Outcome) (place : ℕ) (outcome : Outcome)

@@ -1,6 +1,6 @@
-//! Bodies of task threads: lists of steps, each list done by one task over a start that threads share.
+//! Bodies of task threads. A body is a list of steps that one task does on a start, which threads share.
 //!
-//! A [`TaskBody`] does its steps one after the other, each once its [`Gate`] lets the task in, and reports the outcome
+//! A [`TaskBody`] does its steps one after the other, each when its [`Gate`] lets the task in, and reports the outcome
 //! of each (`specs/Steps`, `specs/Running`). [`run_two`] runs two [`Job`]s at once. docs/THREADS.md explains it.
 #![tactic(auto)]
 

@@ -34,7 +34,7 @@ fn waits_for_gate<G: Gate>(gate: &G, task: TaskId, step: u32) -> bool
     gate.before(task, step)
 }
 
-/// Submits an event and returns what it came to, or None if there was no memory.
+/// Submits an event and returns its result. Returns `None` if there was no memory.
 fn submitted<S: Start + Protocol<Published, View>, M: Machine + Drop, R: Wait + Drop, W: Wait>(
     rt: &W,
     alloc: Global,
@@ -58,15 +58,15 @@ fn submitted<S: Start + Protocol<Published, View>, M: Machine + Drop, R: Wait + 
     }
 }
 
-/// Whether the task is inside of as many versions as a frame list can keep.
+/// Whether the task is inside of as many versions as a list of frames can have.
 fn is_full(frames: &Frames) -> bool
     ensures { MatchBool result (length frames.now ≡ MAX_FRAMES) (length frames.now < MAX_FRAMES) }
 {
     frames.count() >= MAX_FRAMES
 }
 
-/// Calls the function at a site, and returns what it came to: the entered version, why no version was entered, or
-/// `Deep` if the list of frames is full.
+/// Calls the function at a site, and returns the result: the entered version, why no version was entered, or `Deep` if
+/// the list of frames is full.
 fn called<S: Start + Protocol<Published, View>>(
     pass: &mut TaskPass<S>,
     frames: &mut Frames,
@@ -89,7 +89,7 @@ fn called<S: Start + Protocol<Published, View>>(
     }
 }
 
-/// Does a step and returns what it came to, or None if there was no memory.
+/// Does a step and returns its result. Returns `None` if there was no memory.
 fn came_to<S: Start + Protocol<Published, View>, M: Machine + Drop, R: Wait + Drop, W: Wait>(
     rt: &W,
     alloc: Global,
@@ -116,7 +116,8 @@ fn came_to<S: Start + Protocol<Published, View>, M: Machine + Drop, R: Wait + Dr
     }
 }
 
-/// Does a step and returns its outcome, with the number of events known then, or None if there was no memory.
+/// Does a step. Returns its outcome, with how many events the task knew of after it. Returns `None` if there was no
+/// memory.
 fn done<S: Start + Protocol<Published, View>, M: Machine + Drop, R: Wait + Drop, W: Wait>(
     rt: &W,
     alloc: Global,

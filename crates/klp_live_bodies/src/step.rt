@@ -27,7 +27,7 @@ pub struct Accepted {
 /// The result of a step.
 #[derive(Clone, Copy)]
 pub enum What {
-    /// The event was accepted.
+    /// The event was accepted; this is its receipt.
     Receipt(Accepted),
     /// The event was refused.
     Refused(Refusal),
@@ -37,11 +37,11 @@ pub enum What {
     NoEntry(EnterFault),
     /// The task has returned, or wasn't inside of any version.
     Returned,
-    /// The task was inside of as many versions as can be kept, so nothing was entered.
+    /// The task was inside of as many versions as can be stored, so nothing was entered.
     Deep,
 }
 
-/// An outcome of a step: what the step came to, and how many events the task knew after it.
+/// The outcome of a step: its result, and how many events the task knew of after it.
 #[derive(Clone, Copy)]
 pub struct Outcome {
     pub known: u64,

@@ -1,4 +1,4 @@
-//! Why the steps of two tasks aren't run.
+//! The reasons why the steps of two tasks aren't run.
 
 ghost use Rattle.std.specs.Prelude.{◌≡◌};
 ghost use Rattle.klp_live_run.specs.declared.fault.ReadFault.TheVariants.{NoMemory};
@@ -13,15 +13,15 @@ use thiserror::Error;
 /// What is wrong with a line of the steps.
 #[derive(Clone, Copy, Debug, Error)]
 pub enum StepsFaultKind {
-    /// The line is no step of task 1 or 2, or has an unknown name.
+    /// The line isn't a step of task 1 or 2, or it has an unknown name.
     #[error("BadStep")]
     BadStep,
-    /// The line's task already has as many steps as it may have.
+    /// The line's task already has as many steps as are allowed.
     #[error("TooMany")]
     TooMany,
 }
 
-/// The first line of the steps that is at fault.
+/// The first faulty line of the steps.
 #[derive(Clone, Copy, Debug, Error)]
 #[error("line {line}: {kind}")]
 pub struct StepsFault {
@@ -50,10 +50,10 @@ impl<T: Drop> From<AllocFailed<T>> for ReadFault {
 /// Why the run of two tasks failed.
 #[derive(Clone, Copy, Debug, Error)]
 pub enum LiveFault {
-    /// No manager could be booted over the catalog's text, or writing the output failed.
+    /// The catalog's text boots no manager, or the output couldn't be written.
     #[error(transparent)]
     Program(Fault),
-    /// The text of the steps has a line at fault.
+    /// The text of the steps has a faulty line.
     #[error(transparent)]
     Steps(StepsFault),
     #[error("NoMemory")]
@@ -64,7 +64,7 @@ pub enum LiveFault {
 }
 
 impl LiveFault {
-    /// Converts the cause of a failed start.
+    /// Returns the fault for this cause of a failed start.
     pub(crate) fn of_start(cause: StartCause) -> LiveFault
         ensures value { result ≡ start_fault cause }
         ensures fault { IsRunFault result }
@@ -75,7 +75,7 @@ impl LiveFault {
         }
     }
 
-    /// Converts the fault of reading the steps.
+    /// Returns the fault for steps that couldn't be read.
     pub(crate) fn of_reading(fault: ReadFault) -> LiveFault
         ensures { result ≡ read_fault fault }
     {

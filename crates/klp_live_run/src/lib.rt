@@ -1,4 +1,4 @@
-//! Running two task threads over a catalog. The steps of both are read from one text (`src/step_lines.rt`).
+//! Runs two task threads over a catalog. The steps of both are in one text (`src/step_lines.rt`).
 #![tactic(auto)]
 
 mod fault;

@@ -1,4 +1,4 @@
-//! Running the steps of two task threads over one machine, and taking back all that was accepted.
+//! Runs the steps of two task threads over one machine, and undoes all events that were accepted.
 ghost use Rattle.std.specs.Prelude.{◌≡◌, ◌<◌, ◌≤◌, [], ◌∷◌, ◌++◌, vec_len, Some, Ok, IsSomeAnd, IfOk, IfErr, OnOk};
 ghost use Rattle.klp_types.specs.declared.limits.TheConstants.{MAX_TASKS};
 ghost use Rattle.klp_live.specs.Opening.{IsFresh};
@@ -24,12 +24,12 @@ use std::sync::Wait;
 use std::sync::ledger::Blank;
 use std::thread::Threads;
 
-/// The numbers of the two tasks.
+/// The number of the first task. `SECOND` is that of the other.
 pub(crate) const FIRST: TaskId = TaskId(1);
 
 pub(crate) const SECOND: TaskId = TaskId(2);
 
-/// A gate that always lets a task in.
+/// A gate that never stops a task.
 #[derive(Clone, Copy)]
 struct Open;
 
@@ -43,14 +43,14 @@ impl Gate for Open {
     }
 }
 
-/// The outcomes of the steps of each task. All steps are done.
+/// The outcomes of the steps of each task, after all steps are done.
 #[derive(Drop)]
 pub(crate) struct Done {
     pub(crate) first: Vec<Outcome>,
     pub(crate) second: Vec<Outcome>,
 }
 
-/// Gives a seat to a task, and returns the job of its steps.
+/// Gives a task this seat, and returns the job of the task's steps.
 fn job_of<S: Start + Protocol<Published, View>, M: Machine + Drop, R: Wait + Drop>(
     alloc: Global,
     live: &Live<S, M, R>,
@@ -69,8 +69,8 @@ fn job_of<S: Start + Protocol<Published, View>, M: Machine + Drop, R: Wait + Dro
     }
 }
 
-/// Returns the seat of a job that has run, and the outcomes of its steps, or `NoMemory` if it stopped. The gate always
-/// lets a task in, so a job stops for no other reason.
+/// Returns the seat of a job that has run, and the outcomes of its steps. If the job stopped, returns `NoMemory`: it
+/// can't have any other reason, since the gate never stops a task.
 fn ended<S: Start + Protocol<Published, View>>(
     job: Job<S, Open>,
 ) -> Result<(Seat<S>, Vec<Outcome>), LiveFault>
@@ -89,7 +89,7 @@ fn ended<S: Start + Protocol<Published, View>>(
     }
 }
 
-/// Puts both seats back into the list.
+/// Puts both seats back into the list of seats.
 fn give_back<S: Start + Protocol<Published, View>>(
     seats: &mut Vec<Seat<S>>,
     first: Seat<S>,
@@ -102,7 +102,7 @@ fn give_back<S: Start + Protocol<Published, View>>(
     Ok(())
 }
 
-/// Runs the steps of both tasks, and returns the seats with the outcomes. The seats must not know of any event before.
+/// Runs the steps of both tasks. Returns the seats and the outcomes. Before this, the seats must not know of any event.
 fn run_both<
     S: Start + Protocol<Published, View> + Send + Sync,
     M: Machine + Drop + Send,
@@ -138,7 +138,8 @@ fn run_both<
     Ok((seats, Done { first, second }))
 }
 
-/// Starts over the machine, runs the steps of both tasks, closes the start, and returns the machine with the outcomes.
+/// Makes a start over the machine, runs the steps of both tasks, and closes the start. Returns the machine and the
+/// outcomes.
 fn run_over_start<
     S: Start + Protocol<Published, View> + Send + Sync,
     M: Machine + Drop + Send,
@@ -173,8 +174,8 @@ fn run_over_start<
     }
 }
 
-/// Runs the steps of both tasks over a machine with an empty journal, and takes back all that was accepted. The start
-/// is chosen here, where the machine is owned.
+/// Runs the steps of both tasks over a machine whose journal is empty, and undoes all events that were accepted. The
+/// kind of start is chosen in this function, since it owns the machine.
 pub(crate) fn run_and_rewind<M: Machine + Drop + Send, R: Threads + Wait + Sync>(
     rt: &R,
     alloc: Global,
@@ -199,7 +200,7 @@ pub(crate) fn run_and_rewind<M: Machine + Drop + Send, R: Threads + Wait + Sync>
     Ok((rewound_machine(machine), done))
 }
 
-/// Takes back all accepted events, and returns the machine.
+/// Undoes all accepted events, and returns the machine.
 fn rewound_machine<M: Machine>(machine: M) -> M
     ensures setting { setting_of (M.journaled result).managed ≡ setting_of (M.journaled machine).managed }
     ensures rewound { IsRewound (M.journaled machine) (M.journaled result) 0 }

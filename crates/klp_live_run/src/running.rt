@@ -1,4 +1,4 @@
-//! Booting a manager over a catalog's text, and running the steps of another text over it in two task threads.
+//! Boots a manager over a catalog's text, and runs the steps of another text over it, in two task threads.
 ghost use Rattle.std.specs.Prelude.{◌≡◌, ◌≤◌, ◌++◌, [], false, length, vec_len, slice_get, slice_index_or, IfOk, IfErr};
 ghost use Rattle.std.specs.Prelude.{OnOk, MatchResult};
 ghost use Rattle.std.specs.Str.Lines.{lines};
@@ -32,7 +32,7 @@ use std::sync::Wait;
 use std::sync::ledger::{Blank, Ledger};
 use std::thread::Threads;
 
-/// Adds the console line that asks for the text of an object, if the object is loaded.
+/// Adds the console line that asks for the text of an object. Adds nothing if the object isn't loaded.
 fn add_ask(
     alloc: Global,
     modules: &Modules,
@@ -65,7 +65,7 @@ fn texts(alloc: Global, manager: &Manager) -> Result<Vec<u8>, AllocError>
     Ok(lines)
 }
 
-/// Returns the two lines that say how many steps of each task are done.
+/// Returns two lines, which say how many steps each task has done.
 fn counts(alloc: Global, done: &Done) -> io::Result<Vec<u8>>
     ensures { IfOk result (λ text. text.items
         ≡ counts_text (length done.now.first.items) (length done.now.second.items)) }
@@ -76,7 +76,7 @@ fn counts(alloc: Global, done: &Done) -> io::Result<Vec<u8>>
     Ok(text)
 }
 
-/// Returns `front` followed by the console's answers to these lines.
+/// Returns `front`, with the console's answers to these lines behind it.
 fn answered<L: Ledger, M: Ledger>(
     manager: &mut Manager,
     lines: &[u8],
@@ -98,8 +98,8 @@ fn answered<L: Ledger, M: Ledger>(
     }
 }
 
-/// Returns how many steps of each task are done, and the text of each loaded object. An error means that memory ran
-/// out: console lines made here are never cut off or too long.
+/// Returns the lines that say how many steps each task has done, and the text of each loaded object. `Err` if memory
+/// runs out. Serving can't fail otherwise: the lines to it are made here, and none is cut off or too long.
 fn shown(alloc: Global, manager: &mut Manager, done: &Done) -> Result<Vec<u8>, AllocError>
     ensures { IfOk result (λ text. IsShown manager.old done.now text.items) }
 {
@@ -110,22 +110,22 @@ fn shown(alloc: Global, manager: &mut Manager, done: &Done) -> Result<Vec<u8>, A
     )
 }
 
-/// What is done with a manager before and after its tasks run. It is a trait, since the functions that run tasks don't
-/// name the manager's type: a library can't pass a manager to a function that needs a trait of it (docs/DECISIONS.md,
+/// What is done with a manager before its tasks run, and after. It is a trait since the functions that run tasks don't
+/// name the manager's type. A library can't pass a manager to a function that needs a trait of it (docs/DECISIONS.md,
 /// "A manager that runs tasks").
 trait Runs: Machine {
-    /// Reads the steps from a text, and looks up its names.
+    /// Reads the steps from a text. Names are looked up in the manager.
     fn steps(&self, alloc: Global, text: &[u8]) -> Result<Steps, ReadFault>
         ensures steps { MatchResult result
             (λ steps. AreSteps (Self.journaled self.now) (lines text.now) steps.first.items steps.second.items)
             (λ fault. IsReadFault (Self.journaled self.now) (lines text.now) fault) };
 
-    /// Begins both tasks, and then seals the journal, so that a rewind keeps the tasks.
+    /// Begins both tasks, and then seals the journal. So a rewind doesn't undo the begin of the tasks.
     fn prepare(&mut self)
         requires room { length (Self.journaled self.old).groups ≤ MAX_GROUPS }
         ensures prepared { IsPrepared (Self.journaled self.old) (Self.journaled self.new) };
 
-    /// Writes how many steps of each task are done, and the text of each loaded object.
+    /// Writes how many steps each task has done, and the text of each loaded object.
     fn show<W: Write>(&mut self, alloc: Global, done: &Done, out: &mut W) -> Result<(), LiveFault>
         requires room { length (Self.journaled self.old).groups ≤ MAX_GROUPS }
         ensures shown { OnOk result (IsShownOn (Self.journaled self.old) done.now (W.contents out.old)
@@ -154,8 +154,8 @@ impl Runs for Manager {
     }
 }
 
-/// Runs the steps of both tasks, and takes back all accepted events. Only then writes how many steps of each task are
-/// done, and the text of each loaded object. The machine is dropped at the end.
+/// Runs the steps of both tasks, and undoes all accepted events. Only after that, writes how many steps each task has
+/// done, and the text of each loaded object. At the end the machine is dropped.
 fn race<M: Runs + Drop + Send, W: Write, R: Threads + Wait + Sync>(
     rt: &R,
     alloc: Global,
@@ -182,8 +182,8 @@ fn race<M: Runs + Drop + Send, W: Write, R: Threads + Wait + Sync>(
     }
 }
 
-/// Reads the steps from a text, runs them, takes all events back, and writes how many steps were done and the text of
-/// the objects.
+/// Reads the steps from a text, runs them, and undoes all events. Then writes how many steps were done, and the text of
+/// each loaded object.
 fn live_over_manager<M: Runs + Drop + Send, W: Write, R: Threads + Wait + Sync>(
     rt: &R,
     alloc: Global,
@@ -225,9 +225,9 @@ fn live_over_plan<W: Write, R: Threads + Wait + Sync>(
     live_over_manager::<Manager, W, R>(rt, alloc, manager, text, out)
 }
 
-/// Boots a manager over the catalog's text, and runs the steps of the other text: those of task 1 and those of task 2
-/// in a thread each. The threads run at once if a second one can be made. Then takes back all accepted events. Only
-/// then writes how many steps of each task are done, and the text of each loaded object.
+/// Boots a manager over the catalog's text, and runs the steps of the other text. The steps of task 1 and those of task
+/// 2 have a thread each. If a second thread can be made, both run at the same time. Then undoes all accepted events.
+/// Only after that, writes how many steps each task has done, and the text of each loaded object.
 pub(crate) fn live_over_text<W: Write, R: Threads + Wait + Sync>(
     rt: &R,
     alloc: Global,
@@ -243,7 +243,8 @@ pub(crate) fn live_over_text<W: Write, R: Threads + Wait + Sync>(
     }
 }
 
-/// Does the same as `live_over_text`, and returns the exit status: 0, or 1 after a line on `err` that names the fault.
+/// Does what `live_over_text` does, and returns the exit status. It is 0, or 1 after a fault, about which a line is
+/// written to `err`.
 pub fn live<W: Write, E: Write, R: Threads + Wait + Sync>(
     rt: &R,
     alloc: Global,

@@ -1,5 +1,5 @@
-//! Reading the steps of two tasks from a text. Each line is a step of one of them: `1` or `2`, and then `call SYMBOL`,
-//! `return`, `nap`, or a console line that asks for an event.
+//! Reads the steps of two tasks from a text. Each line is a step of one task. It has `1` or `2`, and then `call
+//! SYMBOL`, `return`, `nap`, or a console line that asks for an event.
 ghost use Rattle.std.specs.Prelude.{◌≡◌, ◌<◌, ◌≤◌, ◌==◌, not, ◌++◌, [], ◌∷◌, length, position, MatchResult};
 ghost use Rattle.std.specs.Str.Lines.{lines};
 ghost use Rattle.klp_live_run.specs.Steps.{unindented, call_of, alone, step_of, half_of, task_step, count_of, AreSteps};
@@ -16,7 +16,7 @@ use klp_types::MAX_CONSOLE_LINE;
 use klp_words::{LineWords, Separators, cut};
 use std::alloc::Global;
 
-/// How many steps a task may have.
+/// The most steps that a task may have.
 pub const MAX_STEPS: usize = 1_000;
 
 /// The steps of both tasks.
@@ -35,7 +35,7 @@ enum Half {
     Second,
 }
 
-/// Returns the place of the first byte that isn't a space, or None if there is none.
+/// Returns the index of the first byte that isn't a space. Returns `None` if there is no such byte.
 fn start_of(line: &[u8]) -> Option<usize>
     ensures { result ≡ position (λ b. not (b == 32)) line.now }
 {
@@ -52,7 +52,7 @@ fn unindented(line: &[u8]) -> &[u8]
     }
 }
 
-/// Reads the symbol behind `call`, which must be the last word. None if it isn't, or if there is no such symbol.
+/// Reads the symbol behind `call`. Returns `None` if a further word follows it, or if there is no such symbol.
 fn call_of(words: &mut LineWords<'_>, manager: &Manager) -> Option<Step>
     ensures { result ≡ call_of manager.now words.old }
 {
@@ -62,7 +62,7 @@ fn call_of(words: &mut LineWords<'_>, manager: &Manager) -> Option<Step>
     Some(Step::Call(site_of(symbol, manager)?))
 }
 
-/// Returns the step, or None if a word follows its name.
+/// Returns the step if no word follows its name. Otherwise returns `None`.
 fn alone(step: Step, words: &mut LineWords<'_>) -> Option<Step>
     ensures { result ≡ alone step words.old }
 {
@@ -72,8 +72,8 @@ fn alone(step: Step, words: &mut LineWords<'_>) -> Option<Step>
     }
 }
 
-/// Reads a step from the part of a line behind the task's number. None if it isn't a step. Looks up names, but the
-/// manager's state makes no difference.
+/// Reads a step from the part of a line that follows the task's number. Returns `None` if it isn't a step. Names are
+/// looked up in the manager, but its state makes no difference.
 fn step_of(line: &[u8], manager: &Manager) -> Option<Step>
     ensures { result ≡ step_of manager.now line.now }
 {
@@ -93,7 +93,7 @@ fn step_of(line: &[u8], manager: &Manager) -> Option<Step>
     }
 }
 
-/// Returns the task whose number this word is, or None.
+/// Returns the task that has this number. Returns `None` for any other word.
 fn half_of(number: &[u8]) -> Option<Half>
     ensures { result ≡ half_of number.now }
 {
@@ -106,7 +106,7 @@ fn half_of(number: &[u8]) -> Option<Half>
     }
 }
 
-/// Reads the task's number and the step of a line. None if it has no such number or no step.
+/// Reads the task's number and the step from a line. Returns `None` if either is missing.
 fn task_step(line: &[u8], manager: &Manager) -> Option<(Half, Step)>
     ensures { result ≡ task_step manager.now line.now }
 {
@@ -116,7 +116,8 @@ fn task_step(line: &[u8], manager: &Manager) -> Option<(Half, Step)>
     Some((half, step))
 }
 
-/// Appends a step, or returns `TooMany` if the list is full. Generic, since the proof doesn't depend on what a step is.
+/// Appends a step. If the list is full, returns `TooMany`. It is generic, since the proof doesn't depend on what a step
+/// is.
 fn push<T: Copy>(steps: &mut Vec<T>, step: T, line: u64) -> Result<(), ReadFault>
     requires { length steps.old.items ≤ MAX_STEPS }
     ensures { MatchResult result
@@ -134,8 +135,8 @@ fn push<T: Copy>(steps: &mut Vec<T>, step: T, line: u64) -> Result<(), ReadFault
 }
 
 impl Steps {
-    /// Appends a step to the list of its task, or returns `TooMany` if that is full. `line` is the number of the step's
-    /// line.
+    /// Appends a step to the list of its task. If that list is full, returns `TooMany`. `line` is the number of the
+    /// step's line.
     fn add(&mut self, half: Half, step: Step, line: u64) -> Result<(), ReadFault>
         requires first { length self.old.first.items ≤ MAX_STEPS }
         requires second { length self.old.second.items ≤ MAX_STEPS }
@@ -151,9 +152,9 @@ impl Steps {
     }
 }
 
-/// Reads the steps of both tasks. The text may have any bytes, and its lines end as those of a catalog. Returns the
-/// first line at fault. A bad step is reported as `BadStep` even if its task may have no more steps. Uses only the
-/// manager's names. The time is linear in the length of the text.
+/// Reads the steps of both tasks. The text may have any bytes. Its lines end as those of a catalog do. If a line is
+/// faulty, returns the first that is. A bad step is reported as `BadStep`, even if its task has no room for more steps.
+/// Of the manager, only the names are used. The time is linear in the length of the text.
 pub fn steps_of(alloc: Global, text: &[u8], manager: &Manager) -> Result<Steps, ReadFault>
     ensures { MatchResult result
         (λ steps. AreSteps manager.now (lines text.now) steps.first.items steps.second.items)

@@ -1,4 +1,4 @@
-//! Bodies of two tasks, one after the other in one thread.
+//! Runs the bodies of two tasks in one thread, one after the other.
 ghost use Rattle.std.specs.Prelude.{◌<◌, ◌^◌, length};
 ghost use Rattle.klp_types.specs.declared.limits.TheConstants.{MAX_TASKS};
 
@@ -18,12 +18,12 @@ use std::io;
 use std::sync::Wait;
 use std::sync::atomic::{AtomicU64, Ordering};
 
-/// The steps of both tasks; how often their shared gate refuses, or None if it never does and isn't reported on; and
-/// how much is printed of the outcomes.
+/// The steps of both tasks, how often their shared gate refuses, and how much is printed of the outcomes. If there is
+/// no number of refusals, the gate never refuses, and nothing is printed about it.
 #[derive(Clone, Copy)]
 struct Bodies<'a>(&'a [Step], &'a [Step], Option<u64>, Detail);
 
-/// What a task does: its steps, each once the gate lets it in.
+/// The steps of a task. Each is done as soon as the gate lets the task in.
 #[derive(Drop)]
 struct Body<'a, G> {
     task: TaskId,
@@ -31,7 +31,7 @@ struct Body<'a, G> {
     steps: &'a [Step],
 }
 
-/// How a body ended: the outcomes of its steps, and why it stopped early, if it did.
+/// How a body ended: the outcomes of its steps, and the cause if it stopped early.
 #[derive(Drop)]
 struct Ended {
     outcomes: Vec<Outcome>,
@@ -45,13 +45,13 @@ fn few(steps: &[Step]) -> &[Step]
     steps.get(..100).unwrap_or(steps)
 }
 
-/// Prints how a body with this many steps ended.
+/// Prints how a body ended, which has `steps` steps.
 fn show_ended<R: Print>(rt: &R, steps: usize, ended: &Ended, detail: Detail) -> io::Result<()> {
     show_outcomes(rt, steps, &ended.outcomes, detail)?;
     show_cause(rt, ended.cause)
 }
 
-/// The first task enables a patch, and runs it after it has left the kernel once.
+/// The first task enables a patch. It leaves the kernel once, and after that runs the patch.
 fn enables() -> [Step; 5] {
     const ALL: [Step; 5] = [
         Step::Submit(Event::Enable(PATCH)),
@@ -63,8 +63,8 @@ fn enables() -> [Step; 5] {
     ALL
 }
 
-/// The second task isn't told of that. It runs the original, since it hasn't left the kernel; it can't enable the patch
-/// again; and once it has left the kernel it runs the patch.
+/// The second task isn't told that the patch was enabled. It first runs the original, since it hasn't left the kernel
+/// yet. It can't enable the patch again. After it has left the kernel once, it runs the patch.
 fn hears_nothing() -> [Step; 5] {
     const ALL: [Step; 5] = [
         Step::Call(PATCHED),
@@ -76,7 +76,8 @@ fn hears_nothing() -> [Step; 5] {
     ALL
 }
 
-/// A task falls asleep inside of the versions that it entered and hasn't returned from, and wakes up.
+/// A task falls asleep and wakes up. While it sleeps, it is inside of the versions that it entered and hasn't returned
+/// from.
 fn naps() -> [Step; 13] {
     const ALL: [Step; 13] = [
         Step::Return,
@@ -96,7 +97,7 @@ fn naps() -> [Step; 13] {
     ALL
 }
 
-/// Calls until the list of frames is full, returns from all versions, and returns once more.
+/// A task calls until its list of frames is full, returns from all versions, and then returns once too often.
 fn goes_deep() -> [Step; 71] {
     let mut steps = [Step::Call(PATCHED); 71];
     steps[34] = Step::Return;
@@ -106,7 +107,7 @@ fn goes_deep() -> [Step; 71] {
     steps
 }
 
-/// Prints how often the gate was asked, unless `refuses` is None.
+/// Prints how often the gate was asked. Prints nothing if `refuses` is `None`.
 fn show_asked<R: Print>(rt: &R, refuses: Option<u64>, asked: &AtomicU64) -> io::Result<()> {
     if refuses.is_none() {
         return Ok(());
@@ -120,7 +121,7 @@ where
     M: Machine + Drop,
     R: Wait + Print,
 {
-    /// Takes a seat for a task, does its steps, and gives the seat back.
+    /// Gives a task this seat, does the task's steps, and returns the seat.
     fn run_body<G: Gate + Drop>(&self, seat: Seat<S>, body: Body<'_, G>) -> (Seat<S>, Ended)
         requires { body.task < MAX_TASKS }
     {
@@ -133,7 +134,7 @@ where
         (seat, Ended { outcomes, cause })
     }
 
-    /// Takes a seat for a task, does its steps, shows what they come to, and gives the seat back.
+    /// Gives a task this seat, does the task's steps, prints their outcomes, and returns the seat.
     fn show_body<G: Gate + Drop>(
         &self,
         seat: Seat<S>,
@@ -147,7 +148,7 @@ where
         (seat, show_ended(self.rt, count, &ended, detail))
     }
 
-    /// Shows the body of the first task, and then that of the second.
+    /// Runs the body of the first task, then that of the second, and prints the outcomes of both.
     pub(crate) fn show_both<G: Gate + Drop>(
         &self,
         seats: TwoSeats<S>,
@@ -170,7 +171,7 @@ where
         ((first, second), came.and(heard))
     }
 
-    /// Shows bodies over a gate that counts how often it is asked.
+    /// Runs bodies whose gate counts how often it is asked, and prints their outcomes.
     fn show_counted(
         &self,
         seats: TwoSeats<S>,
@@ -186,7 +187,7 @@ where
         (seats, came.and(show_asked(self.rt, refuses, &asked)))
     }
 
-    /// Shows what the tasks do, one after the other.
+    /// Runs each of these pairs of bodies, and prints their outcomes.
     fn show_each(&self, seats: TwoSeats<S>, all: &[Bodies<'_>]) -> (TwoSeats<S>, io::Result<()>) {
         let mut seats = seats;
         let mut came = Ok(());
@@ -198,7 +199,8 @@ where
         (seats, came)
     }
 
-    /// Shows a patch that is enabled, a nap, deep calls, and a gate that lets the task in late or never.
+    /// Runs all these bodies. They enable a patch, nap, and call deep, and they have a gate that lets a task in late or
+    /// never.
     pub(crate) fn show_bodies(&self, seats: TwoSeats<S>) -> (TwoSeats<S>, io::Result<()>) {
         let (enables, hears_nothing) = (enables(), hears_nothing());
         let (naps, deep) = (naps(), goes_deep());

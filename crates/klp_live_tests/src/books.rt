@@ -1,4 +1,4 @@
-//! A book over a machine. The machine is handed back. The owner of a machine picks the start.
+//! Opens a book over a machine, uses it, and returns the machine. The kind of start is chosen by who owns the machine.
 ghost use Rattle.std.specs.Prelude.{◌≡◌, ◌<◌, ◌≤◌, []};
 ghost use Rattle.klp_live.specs.Opening.{IsFresh};
 ghost use Rattle.klp_live.specs.Shown.{RuleIs};
@@ -18,16 +18,16 @@ use std::sync::ledger::Blank;
 /// What is done with a book and its seats.
 #[derive(Drop)]
 pub(crate) enum Use<'a> {
-    /// The tests' turns of two seats.
+    /// Two seats take the turns of the tests.
     Turns,
-    /// One seat submits events, and these are timed.
+    /// One seat submits events, and their times are measured.
     Events(&'a mut Times),
-    /// Seats enter while another seat submits events, and the entries are timed.
+    /// Seats enter functions while another seat submits events. The times of the entries are measured.
     Entries(&'a mut Crowd),
 }
 
 impl Use<'_> {
-    /// How many seats it takes.
+    /// How many seats this use needs.
     fn places(&self) -> usize
         ensures { (0 < result) × (result ≤ 64) }
     {
@@ -39,7 +39,7 @@ impl Use<'_> {
     }
 }
 
-/// Does this with the book, and ends it.
+/// Uses the book in this way, and then ends it.
 fn used<S: Start + Protocol<Published, View> + Send, M: Shows + Drop, R: Runtime>(
     rt: &R,
     alloc: Global,
@@ -68,7 +68,7 @@ fn used<S: Start + Protocol<Published, View> + Send, M: Shows + Drop, R: Runtime
     }
 }
 
-/// Opens a book for this use.
+/// Opens a book for this use, uses it, and returns the machine.
 fn opened<S: Start + Protocol<Published, View> + Send, M: Shows + Drop, R: Runtime>(
     rt: &R,
     alloc: Global,
@@ -94,7 +94,7 @@ fn opened<S: Start + Protocol<Published, View> + Send, M: Shows + Drop, R: Runti
     }
 }
 
-/// Opens a book over a machine with an empty journal.
+/// Opens a book over a machine whose journal is empty, and uses it.
 fn over<M: Shows + Drop, R: Runtime>(
     rt: &R,
     alloc: Global,
@@ -108,8 +108,8 @@ fn over<M: Shows + Drop, R: Runtime>(
     opened::<Brand, M, R>(rt, alloc, machine, how, blank, Opened::new(), places)
 }
 
-/// Takes back all events of a machine, and opens a book over it. Returns what came of that, or why there is no book. If
-/// there is no memory for a book, the machine must be as before.
+/// Undoes all events of a machine, opens a book over it, and uses the book. Returns the machine, and what came of the
+/// use, or why there is no book. If there is none, the machine must be as before, and otherwise a line is printed.
 pub(crate) fn booked<M: Shows + Drop, R: Runtime>(
     rt: &R,
     alloc: Global,

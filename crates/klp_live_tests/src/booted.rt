@@ -1,10 +1,10 @@
-//! The catalogs that managers are booted over, and why the tests end early.
+//! The catalogs over which managers are booted, and the reasons why the tests end early.
 ghost use Rattle.std.specs.Prelude.{◌<◌};
 
 use std::alloc::{AllocError, Global};
 use std::io;
 
-/// Two patches of the kernel and of a module, and one that replaces them.
+/// Two patches, which change the kernel and a module, and a third one that replaces both.
 pub(crate) const CATALOG: &[u8] = b"\
 handler ffffffff81000000
 object vmlinux
@@ -80,7 +80,7 @@ fn add_lines(alloc: Global, text: &mut String) -> Result<(), AllocError> {
     Ok(())
 }
 
-/// A catalog of 256 sites, with a patch of 64 functions.
+/// A catalog of 256 sites. Its patch has 64 functions.
 pub(crate) fn large(alloc: Global) -> io::Result<String> {
     let mut text = String::new(alloc);
     add_lines(alloc, &mut text)?;

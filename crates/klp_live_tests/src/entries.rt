@@ -1,5 +1,5 @@
-//! What an entry costs, alone and beside others while one thread submits, and what a look at the same table costs under
-//! a read lock.
+//! Measures what an entry costs: with no other thread, and with others beside it while one thread submits. For
+//! comparison, measures a look at the same table under a read lock.
 use crate::books::{Use, booked};
 use crate::handles::Runtime;
 use crate::measure::{Seated, Takes, since, turn};
@@ -20,22 +20,23 @@ use std::time::Instant;
 /// How often each thread looks in a round. The events submitted in a round must fit into the journal.
 const LOOKS: u64 = 20_000;
 
-/// How often the submitting thread must submit two events in a round. If other programs hold it up, the round doesn't
-/// count.
+/// How often the submitting thread must submit two events during a round. It does so less often if other programs hold
+/// it up, and then the round doesn't count.
 const TURNS: u64 = 200;
 
-/// In how many rounds entries are timed alone. The best round counts.
+/// The number of rounds in which entries are timed with no other thread. The best of them counts.
 const ALONE: u64 = 20;
 
-/// An entry that waits would cost at least this many times as much as a look under a read lock. A thousand turns of a
-/// loop cost some twenty times as much.
+/// An entry that waits would cost at least this many times as much as a look under a read lock. For scale: a loop of a
+/// thousand turns costs some twenty times as much as such a look.
 const DEAR: u64 = 10;
 
-/// How many threads look at most.
+/// The most threads that look at the same time.
 const LOOKERS: usize = 4;
 
-/// How many threads look while another one submits, and how many nanoseconds the slowest of them took in the best
-/// round: by a seat, and under a lock. With 0 threads, one looks alone.
+/// How many threads look while another one submits, and the nanoseconds of the slowest of them in the best round.
+/// `seats` is for looks by a seat, and `lock` for looks under a lock. If there are 0 threads, one looks and none
+/// submits.
 #[derive(Clone, Copy)]
 pub(crate) struct Crowd {
     threads: usize,
@@ -44,7 +45,7 @@ pub(crate) struct Crowd {
 }
 
 impl Crowd {
-    /// Before the first round.
+    /// Returns the times before the first round.
     pub(crate) fn of(threads: usize) -> Crowd {
         Crowd {
             threads,
@@ -54,7 +55,7 @@ impl Crowd {
     }
 }
 
-/// Finds what a call of a patched function runs, while the patch is in transition.
+/// Finds which version a call of a patched function runs. The patch is in transition.
 trait Looks<R> {
     fn look(&mut self, rt: &R) -> bool;
 }
@@ -65,7 +66,7 @@ impl<S: Start + Protocol<Published, View>, R> Looks<R> for Seat<S> {
     }
 }
 
-/// Looks at a table under a read lock.
+/// Looks at a table under its read lock.
 #[derive(Clone, Copy)]
 struct ByLock<'a> {
     table: &'a RwLock<Table>,
@@ -78,7 +79,7 @@ impl<R: Wait> Looks<R> for ByLock<'_> {
     }
 }
 
-/// Applies events, and writes the task's state under the lock.
+/// Applies events to a machine. After each, writes the task's state to the table under its lock.
 #[derive(Drop)]
 struct Writes<'a, M: Machine> {
     table: &'a RwLock<Table>,
@@ -93,7 +94,7 @@ impl<M: Machine, R: Wait> Takes<R> for Writes<'_, M> {
 
 fn write<M: Machine, R: Wait>(rt: &R, table: &RwLock<Table>, machine: &mut M, event: Event) {
     if !apply(machine, event) {
-        // The journal is full: all events are taken back, and task and patch begin anew.
+        // The journal is full: all events are undone, the task begins again, and the patch is enabled again.
         empty(machine);
         begin(machine);
         return;
@@ -110,13 +111,13 @@ fn table_of<M: Machine>(machine: &M) -> Table {
     table
 }
 
-/// Begins the task, and enables the patch.
+/// Begins the first task, and enables the patch.
 fn begin<M: Machine>(machine: &mut M) {
     apply(machine, Event::NewTask(FIRST));
     apply(machine, Event::Enable(PATCH));
 }
 
-/// Returns how many nanoseconds all looks took, or `u64::MAX` if one of them found nothing.
+/// Returns how many nanoseconds all looks took. Returns `u64::MAX` if one of them found nothing.
 fn timed<L: Looks<R>, R: Clock>(rt: &R, looker: &mut L) -> io::Result<u64> {
     let start = Instant::now(rt)?;
     let mut found = 0u64;
@@ -127,7 +128,7 @@ fn timed<L: Looks<R>, R: Clock>(rt: &R, looker: &mut L) -> io::Result<u64> {
     Ok(if found == LOOKS { took } else { u64::MAX })
 }
 
-/// How many threads have looked, and how long the slowest of them took.
+/// How many threads have finished their looks, and how long the slowest of them took.
 #[derive(Drop)]
 struct Looked {
     done: AtomicU64,
@@ -141,8 +142,8 @@ fn look_often<L: Looks<R> + Drop, R: Clock>(rt: &R, looked: &Looked, looker: L) 
     looked.done.fetch_add(1, Ordering::SeqCst);
 }
 
-/// All look, each in a thread of its own, which owns its looker: lookers side by side in memory would share what each
-/// writes. If there is no memory for that, nothing counts.
+/// Lets all lookers look, each in a thread that owns its looker. If they stood side by side in memory, threads would
+/// share what they write. If there is no memory for that, the round doesn't count.
 fn look_all<L: Looks<R> + Drop + Send, R: Threads + Clock + Sync>(
     rt: &R,
     looked: &Looked,
@@ -155,7 +156,7 @@ fn look_all<L: Looks<R> + Drop + Send, R: Threads + Clock + Sync>(
     }
 }
 
-/// Submits until `wanted` threads have looked, and returns how often.
+/// Submits two events again and again until `wanted` threads have finished. Returns how often, except the last time.
 fn submit_until<T: Takes<R>, R>(rt: &R, looked: &Looked, wanted: u64, takes: &mut T) -> u64 {
     let mut turns = 0;
     for count in 0..u64::MAX {
@@ -168,7 +169,8 @@ fn submit_until<T: Takes<R>, R>(rt: &R, looked: &Looked, wanted: u64, takes: &mu
     turns
 }
 
-/// Returns how long the slowest thread looked, or `u64::MAX` if the other one submitted too seldom.
+/// Lets all lookers look while `takes` submits. Returns how long the slowest of them took. Returns `u64::MAX` if there
+/// were too few submissions.
 fn beside<L: Looks<R> + Drop + Send, T: Takes<R>, R: Threads + Clock + Sync>(
     rt: &R,
     lookers: Vec<L>,
@@ -190,7 +192,7 @@ fn beside<L: Looks<R> + Drop + Send, T: Takes<R>, R: Threads + Clock + Sync>(
     looked.slowest.load(Ordering::SeqCst)
 }
 
-/// Does the same with this many threads.
+/// Does what `beside` does, with the first `threads` lookers. If `threads` is 0, one looks and none submits.
 fn look_by<L: Looks<R> + Drop + Send, T: Takes<R>, R: Threads + Clock + Sync>(
     rt: &R,
     threads: usize,
@@ -208,7 +210,7 @@ fn look_by<L: Looks<R> + Drop + Send, T: Takes<R>, R: Threads + Clock + Sync>(
     beside(rt, lookers, takes)
 }
 
-/// Seats enter while another one submits, and then the book ends.
+/// Lets seats enter while another one submits, and then ends the book.
 pub(crate) fn entered<
     S: Start + Protocol<Published, View> + Send,
     M: Machine + Drop,
@@ -231,7 +233,7 @@ pub(crate) fn entered<
     seated.end()
 }
 
-/// Threads look under a read lock while another one writes.
+/// Lets threads look under a read lock while another one writes.
 fn locked<M: Machine, R: Threads + Wait + Clock + Sync>(
     rt: &R,
     alloc: Global,
@@ -266,7 +268,7 @@ pub(crate) fn crowds<M: Shows + Drop, R: Runtime>(
     machine
 }
 
-/// Prints whether an entry costs so little that it waits for nobody.
+/// Prints whether an entry costs so little that it can't have waited for anybody.
 pub(crate) fn show_quick<M: Shows + Drop, R: Runtime>(
     rt: &R,
     alloc: Global,
@@ -285,7 +287,7 @@ pub(crate) fn show_quick<M: Shows + Drop, R: Runtime>(
     )
 }
 
-/// Returns the nanoseconds of 1,000 looks, or 0 if no round counted.
+/// Returns the nanoseconds of 1,000 looks. Returns 0 if no round counted.
 fn by_thousand(took: u64) -> u64 {
     if took == u64::MAX {
         return 0;

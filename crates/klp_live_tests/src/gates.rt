@@ -4,13 +4,13 @@ use klp_types::TaskId;
 use std::sync::atomic::{AtomicBool, AtomicU64, Ordering};
 use std::thread;
 
-/// How often a task looks whether the other one is there.
+/// How often a task looks for the other's flag.
 const LOOKS: u32 = 1_000_000;
 
 /// The step before which two tasks meet.
 const MEETING: u32 = 1;
 
-/// Lets each task in.
+/// A gate that always lets a task in.
 #[derive(Clone, Copy)]
 pub(crate) struct Open;
 
@@ -20,9 +20,9 @@ impl Gate for Open {
     }
 }
 
-/// A gate where two tasks meet: before one step, each raises its own flag, and then looks for the other's. The gate
-/// lets the task in if it saw that flag, and answers the same from then on. So two bodies pass it only if both are
-/// before that step at the same time.
+/// A gate where two tasks meet. Before a certain step, each task raises its flag, and then looks for the other's. If
+/// the gate saw that flag, it lets the task in. It gives the same answer ever after. So two bodies pass their gates
+/// only if both are before that step at the same time.
 #[derive(Drop)]
 pub(crate) struct Meeting<'a> {
     own: &'a AtomicBool,
@@ -38,7 +38,7 @@ pub(crate) struct Flags {
 }
 
 impl Flags {
-    /// Makes two flags, neither raised.
+    /// Returns two flags that aren't raised.
     pub(crate) fn new() -> Flags {
         Flags {
             first: AtomicBool::new(false),
@@ -46,7 +46,7 @@ impl Flags {
         }
     }
 
-    /// The gate of each task.
+    /// Returns the gates of both tasks.
     pub(crate) fn gates(&self) -> (Meeting<'_>, Meeting<'_>) {
         (
             Meeting::new(&self.first, &self.second),
@@ -88,7 +88,7 @@ impl Gate for Meeting<'_> {
     }
 }
 
-/// Lets a task in after `refuses` refusals, and counts how often it was asked.
+/// A gate that lets a task in after `refuses` refusals. It counts how often it was asked.
 #[derive(Clone, Copy)]
 pub(crate) struct Slow<'a> {
     pub(crate) asked: &'a AtomicU64,

@@ -1,5 +1,5 @@
-//! Runs the steps of each file in two tasks, over its catalog, as the program `klpsim` does. The output must equal the
-//! `.output` file, however the two threads are scheduled.
+//! Runs two tasks over a catalog with the steps of a file, for each file of the index, as `klpsim` does. The output
+//! must equal the `.output` file, whichever thread runs first.
 
 use klp_live_run::live;
 use std::alloc::Global;
@@ -8,17 +8,17 @@ use std::sync::Wait;
 use std::thread::Threads;
 use std::{fs, io};
 
-/// The files, a line each: the name of the steps and of the output, `NAME.steps` and `NAME.output`, and the name of the
-/// catalog, `CATALOG.catalog`. Lines that begin with `#` say what the next ones show.
+/// The index of the files. Each line has a name, for `NAME.steps` and `NAME.output`, and the name of a catalog, for
+/// `CATALOG.catalog`. A line that begins with `#` says what the lines behind it show.
 const INDEX: &str = "lives";
 
-/// Reads a file of two tasks.
+/// Reads the file with this name and ending from the folder of the tests.
 fn file_of<R: Files + AllocGlobal>(rt: &R, name: &str, ending: &str) -> io::Result<Vec<u8>> {
     let name = format!(in rt.alloc(); "{name}.{ending}")?;
     fs::read(rt, name.as_str())
 }
 
-/// Whether a run writes exactly `output`: to standard output, or to standard error if there is a fault.
+/// Whether a run writes exactly `output`. It goes to standard output, or to standard error if there is a fault.
 fn is_written<R: Threads + Wait + Sync>(
     rt: &R,
     alloc: Global,
@@ -34,7 +34,7 @@ fn is_written<R: Threads + Wait + Sync>(
     }
 }
 
-/// Whether the steps of this line of the index write what their output file says.
+/// Whether the steps that this line of the index names write exactly what their output file has.
 fn holds<R: Threads + Wait + Sync + Files + AllocGlobal>(rt: &R, line: &str) -> io::Result<bool> {
     let (name, catalog) = line.split_once(' ').unwrap_or((line, line));
     let catalog = file_of(rt, catalog, "catalog")?;
@@ -43,7 +43,7 @@ fn holds<R: Threads + Wait + Sync + Files + AllocGlobal>(rt: &R, line: &str) -> 
     Ok(is_written(rt, rt.alloc(), &catalog, &steps, &output))
 }
 
-/// Prints whether a line of the index holds.
+/// Prints whether the run of this line of the index writes what it should.
 fn print_line<R: Threads + Wait + Sync + Files + Print + AllocGlobal>(
     rt: &R,
     line: &str,
@@ -59,7 +59,7 @@ fn print_line<R: Threads + Wait + Sync + Files + Print + AllocGlobal>(
     println!(rt; "{line}: {came}")
 }
 
-/// Prints for each line of the index whether it holds.
+/// Prints for each line of the index whether its run writes what it should.
 pub(crate) fn run<R: Threads + Wait + Sync + Files + Print + AllocGlobal>(
     rt: &R,
 ) -> io::Result<()> {

@@ -1,16 +1,17 @@
-//! Tests of task threads over a real manager, of what no contract can say.
+//! Tests of task threads over a real manager. They test what no contract can say.
 //!
-//! Of the book, starts and passes: that calls succeed while there is memory, and what is left if it is refused. The
-//! program prints the answers that two seats got. With `rt try --fail-alloc N`, which refuses one allocation of the
-//! book, it prints the same, since it makes the refused call again, over what that left. With the argument `book` it
-//! does no more, so that each allocation can be refused in its turn (`tools/hostile live`).
+//! The first tests are about the book, starts and passes: calls must succeed while there is memory, and a call that
+//! gets none must change nothing. The program prints the answers that two seats got. With `rt try --fail-alloc N`, one
+//! allocation of the book is refused. The program then makes the refused call again, and so must print the same. With
+//! the argument `book`, it does only these tests, so that each allocation can be refused in its turn (`tools/hostile
+//! live`).
 //!
-//! Of bodies and jobs: that two threads run over one lock and are inside of their bodies at the same time, that a call
-//! reads what is published and not only what its task was told, and that events are taken and gates pass where they
-//! should. The program also runs the files of steps in its folder as `klpsim live` does.
+//! The others are about bodies and jobs. Two threads run over one lock, and must be inside of their bodies at the same
+//! time. A call must read what is published, and not only what its task was told. Events must be accepted, and gates
+//! passed, where they should. The program also runs the files of steps in its folder, as `klpsim live` does.
 //!
-//! With a number as its argument it prints what an event and an entry cost, and how many of them two bodies do in a
-//! second, in the best of that many rounds (docs/PERFORMANCE.md).
+//! If the argument is a number, the program measures. In the best of that many rounds, it prints what an event and an
+//! entry cost, and how many of them two bodies do in a second (docs/PERFORMANCE.md).
 #![tactic(auto)]
 
 mod bodies;
@@ -44,7 +45,7 @@ use std::alloc::Global;
 use std::env;
 use std::rt::Files;
 
-/// The tests of the book, and of passes at starts with different numbers of seats.
+/// The tests of the book, and those of passes at starts with various numbers of seats.
 const BOOK: [Work; 7] = [
     Work::Turns,
     Work::Passes(2, Story::Heard),
@@ -55,7 +56,7 @@ const BOOK: [Work; 7] = [
     Work::Passes(64, Story::Idle),
 ];
 
-/// The tests of the book, each over a manager of its own.
+/// Runs the tests of the book. Each has a new manager.
 fn run_book<R: Runtime>(rt: &R, alloc: Global) -> Result<(), Fault> {
     for work in BOOK {
         managed(rt, alloc, CATALOG, work)?;
@@ -63,14 +64,14 @@ fn run_book<R: Runtime>(rt: &R, alloc: Global) -> Result<(), Fault> {
     Ok(())
 }
 
-/// Measures this many rounds of the book over a large catalog, and of two bodies.
+/// Measures `rounds` rounds of the book over a large catalog, and as many of two bodies.
 fn measured<R: Runtime>(rt: &R, alloc: Global, rounds: u64) -> Result<(), Fault> {
     let text = large(alloc)?;
     managed(rt, alloc, text.as_str().as_bytes(), Work::Costs(rounds))?;
     managed(rt, alloc, SMALL, Work::Rates(rounds))
 }
 
-/// Does what the program's argument says: runs the tests of the book, or measures that many rounds.
+/// Does what the program's argument says: runs the tests of the book, or measures as many rounds as the argument says.
 fn run_word<R: Runtime>(rt: &R, alloc: Global, word: &str) -> Result<(), Fault> {
     if word == "book" {
         return run_book(rt, alloc);

@@ -1,4 +1,4 @@
-//! What an event costs if it is admitted, and what it costs if it is only applied.
+//! Measures what an event costs if it is admitted by a book, and if it is only applied to a machine.
 use crate::books::{Use, booked};
 use crate::entries::{Crowd, crowds, tell_crowd};
 use crate::handles::Runtime;
@@ -14,13 +14,13 @@ use std::rt::Clock;
 use std::sync::Wait;
 use std::time::Instant;
 
-/// How often a task enters the kernel and leaves it.
+/// How often a task enters and leaves the kernel.
 const TURNS: u64 = 1_000;
 
-/// How often a patch comes and goes.
+/// How often a patch is enabled and disabled.
 const CYCLES: u64 = 30;
 
-/// Takes events, and ignores the answers.
+/// Takes an event in some way, and ignores the answer.
 pub(crate) trait Takes<R> {
     fn take(&mut self, rt: &R, event: Event);
 }
@@ -37,7 +37,7 @@ impl<M: Machine, R> Takes<R> for Alone<'_, M> {
     }
 }
 
-/// A book, with one of its seats.
+/// A book, and one of its seats.
 #[derive(Drop)]
 pub(crate) struct Seated<S: Start + Protocol<Published, View>, M: Machine + Drop, B: Wait + Drop> {
     pub(crate) alloc: Global,
@@ -63,7 +63,7 @@ impl<S: Start + Protocol<Published, View>, M: Machine + Drop, B: Wait + Drop, R:
     }
 }
 
-/// The shortest times, in nanoseconds: of all task events, and of one `Enable`.
+/// The shortest times in nanoseconds: that of all task events, and that of one `Enable`.
 #[derive(Clone, Copy)]
 pub(crate) struct Times {
     tasks: u64,
@@ -77,13 +77,13 @@ impl Times {
     };
 }
 
-/// Returns the nanoseconds since `start`.
+/// Returns the nanoseconds that have passed since `start`.
 pub(crate) fn since<R: Clock>(rt: &R, start: Instant) -> io::Result<u64> {
     let took = Instant::now(rt)?.saturating_duration_since(start);
     Ok(u64::try_from(took.as_nanos()).unwrap_or(u64::MAX))
 }
 
-/// A task enters the kernel and leaves it.
+/// Lets a task enter the kernel and leave it.
 pub(crate) fn turn<T: Takes<R>, R>(rt: &R, takes: &mut T) {
     takes.take(rt, Event::EnterKernel(FIRST));
     takes.take(rt, Event::ExitToUser(FIRST));
@@ -117,7 +117,7 @@ fn take_all<T: Takes<R>, R: Clock>(rt: &R, takes: &mut T, best: &mut Times) -> i
     take_cycles(rt, takes, best)
 }
 
-/// Submits all events for a seat, and ends the book.
+/// Submits all events from one seat, and then ends the book.
 pub(crate) fn admitted<
     S: Start + Protocol<Published, View>,
     M: Machine + Drop,
@@ -144,7 +144,7 @@ struct Figures {
 }
 
 impl Figures {
-    /// Before the first round.
+    /// Returns the figures before the first round.
     fn new() -> Figures {
         Figures {
             applied: Times::NONE,
@@ -154,8 +154,8 @@ impl Figures {
     }
 }
 
-/// Measures one round: applies all events, admits them, and enters functions. What needs a book doesn't count if there
-/// is no memory for one.
+/// Measures one round. Applies all events, admits them, and enters functions. If there is no memory for a book, what
+/// needs one isn't counted.
 fn round<M: Shows + Drop + Send, R: Runtime>(
     rt: &R,
     alloc: Global,
@@ -173,7 +173,7 @@ fn round<M: Shows + Drop + Send, R: Runtime>(
     (machine, applied.and(admitted.unwrap_or(Ok(()))))
 }
 
-/// Measures this many rounds over a machine, and prints the best.
+/// Measures `rounds` rounds over a machine, and prints the best figures.
 pub(crate) fn rounds_of<M: Shows + Drop + Send, R: Runtime>(
     rt: &R,
     alloc: Global,

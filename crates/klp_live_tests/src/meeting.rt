@@ -1,4 +1,4 @@
-//! Two bodies that pass their gates only if both are inside at the same time.
+//! Runs two bodies that can pass their gates only if both are inside at the same time.
 use crate::gates::Flags;
 use crate::handles::Runtime;
 use crate::names::{FIRST, SECOND};
@@ -15,10 +15,10 @@ use std::alloc::{AllocError, Global};
 use std::io;
 use std::sync::Wait;
 
-/// How often the two meet.
+/// How often the two bodies are run.
 const ROUNDS: u64 = 1_000;
 
-/// A task enters the kernel and leaves it.
+/// Returns steps in which a task enters the kernel and leaves it.
 fn turn(task: TaskId) -> [Step; 2] {
     [
         Step::Submit(Event::EnterKernel(task)),
@@ -38,13 +38,14 @@ where
     M: Machine + Drop + Send,
     R: Runtime,
 {
-    /// Runs both tasks in threads of their own.
+    /// Runs both tasks, each in its own thread.
     fn meet(&self, seats: TwoSeats<S>) -> (TwoSeats<S>, io::Result<Ran>) {
         let flags = Flags::new();
         self.run_pair(seats, flags.gates(), turns(self.alloc))
     }
 
-    /// Lets the two meet again and again, and prints how often they did. They have met if both bodies have ended.
+    /// Lets the two tasks meet again and again, and prints how often they did. They have met if neither body stopped
+    /// early.
     pub(crate) fn show_meetings(&self, seats: TwoSeats<S>) -> (TwoSeats<S>, io::Result<()>) {
         let mut seats = seats;
         let mut count: u64 = 0;
@@ -65,7 +66,7 @@ where
     M: Machine + Drop,
     R: Wait + Print,
 {
-    /// Runs the two one after the other in one thread. The first is held, since it is alone.
+    /// Runs the two bodies in one thread, one after the other. The gate holds the first, since no other is there.
     pub(crate) fn show_apart(&self, seats: TwoSeats<S>) -> (TwoSeats<S>, io::Result<()>) {
         let flags = Flags::new();
         let steps = (turn(FIRST), turn(SECOND));
@@ -73,7 +74,7 @@ where
     }
 }
 
-/// Asks the gates by turns in one thread. The gate that was asked first never lets its task in.
+/// Asks the two gates in turn, in one thread. The one that is asked first never lets its task in.
 pub(crate) fn show_turns<R: Print>(rt: &R) -> io::Result<()> {
     let flags = Flags::new();
     let (one, two) = flags.gates();

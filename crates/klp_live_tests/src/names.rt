@@ -5,13 +5,13 @@ pub(crate) const FIRST: TaskId = TaskId(1);
 
 pub(crate) const SECOND: TaskId = TaskId(2);
 
-/// A task that doesn't exist at a start.
+/// A task that doesn't exist when a start begins.
 pub(crate) const LATER: TaskId = TaskId(5);
 
 /// The first patch of each catalog.
 pub(crate) const PATCH: PatchId = PatchId(0);
 
-/// The kernel's function that the patch replaces.
+/// The kernel's function that this patch replaces.
 pub(crate) const PATCHED: Site = Site(0);
 
 /// A site that only the large image has.

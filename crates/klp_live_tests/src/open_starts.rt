@@ -1,4 +1,4 @@
-//! A start that is open. Its methods are the tests, each in the module of what it tests.
+//! An open start. Its methods are the tests; each is in the module of what it tests.
 ghost use Rattle.std.specs.Prelude.{◌<◌};
 ghost use Rattle.klp_types.specs.declared.limits.TheConstants.{MAX_TASKS};
 
@@ -9,10 +9,10 @@ use klp_types::TaskId;
 use std::alloc::Global;
 use std::sync::Wait;
 
-/// The seats of the two tasks. A test takes both and hands them back.
+/// The seats of the two tasks. Each test gets both, and returns both.
 pub(crate) type TwoSeats<S> = (Seat<S>, Seat<S>);
 
-/// A start that is open, with the runtime and the memory that its tasks use.
+/// An open start, with the runtime and the memory for its tasks.
 #[derive_where(Clone, Copy)]
 pub(crate) struct OpenStart<'l, 'r, S, M, R>
 where
@@ -31,7 +31,7 @@ where
     M: Machine + Drop,
     R: Wait,
 {
-    /// Gives a task a seat, and returns its pass.
+    /// Gives a task this seat, and returns the task's pass.
     pub(crate) fn attached(&self, seat: Seat<S>, task: TaskId) -> TaskPass<S>
         requires { task < MAX_TASKS }
     {

@@ -5,11 +5,11 @@ use klp_model::Reply;
 use klp_types::Target;
 use std::io;
 
-/// The number and the reply of an event, or why it isn't admitted: as plain data, which costs the prover less than a
-/// receipt.
+/// The number and the reply of an event, or why the event isn't admitted. This is plain data, which costs the prover
+/// less than a receipt.
 pub(crate) type Answered = Result<(u64, Reply), LiveRefusal>;
 
-/// Returns the answer to an event.
+/// Returns the answer in a receipt, as plain data.
 pub(crate) fn answer_of<S: Start>(came: Result<Receipt<S>, LiveRefusal>) -> Answered {
     match came {
         Ok(receipt) => Ok((receipt.number(), receipt.reply())),
@@ -24,7 +24,7 @@ pub(crate) fn show_answer<R: Print>(rt: &R, came: &Answered) -> io::Result<()> {
     }
 }
 
-/// Prints what a call of a pass runs, or why it runs nothing.
+/// Prints which version a call of a pass runs, or why it runs none.
 pub(crate) fn show_found<R: Print>(rt: &R, found: &Result<Target, EnterFault>) -> io::Result<()> {
     match found {
         Ok(Target { version, address }) => println!(rt; "{version:?} {address:x}"),
@@ -60,7 +60,7 @@ pub(crate) fn show_outcomes<R: Print>(
     }
 }
 
-/// Prints the answer to an accepted event; of the frames of a woken task, only their versions.
+/// Prints the answer to an accepted event. If a task was woken, prints only the versions in its frames.
 fn show_receipt<R: Print>(rt: &R, known: u64, accepted: &Accepted) -> io::Result<()> {
     let Accepted {
         number,
@@ -73,7 +73,7 @@ fn show_receipt<R: Print>(rt: &R, known: u64, accepted: &Accepted) -> io::Result
     }
 }
 
-/// Prints how many events were known after a step, and what it came to.
+/// Prints the outcome of a step, and how many events were known after the step.
 fn show_outcome<R: Print>(rt: &R, outcome: &Outcome) -> io::Result<()> {
     let known = outcome.known;
     match &outcome.what {
@@ -87,7 +87,7 @@ fn show_outcome<R: Print>(rt: &R, outcome: &Outcome) -> io::Result<()> {
     }
 }
 
-/// The kind of an outcome.
+/// Returns the word for this kind of outcome.
 fn kind(what: &What) -> &'static str {
     match what {
         What::Receipt(_) => "receipt",
@@ -99,7 +99,7 @@ fn kind(what: &What) -> &'static str {
     }
 }
 
-/// Prints each run of outcomes of one kind, with its length.
+/// Prints each sequence of outcomes of the same kind, as its length and the kind.
 fn show_kinds<R: Print>(rt: &R, outcomes: &[Outcome]) -> io::Result<()> {
     let mut count: u64 = 0;
     let mut last = "outcomes";

@@ -1,4 +1,5 @@
-//! The only owner of a manager: it boots one, and passes it to functions that are generic over it and so see no box.
+//! The only owner of a manager. It boots one, and passes it to functions that are generic over the machine, and so
+//! don't see the manager's boxes.
 use crate::booted::Fault;
 use crate::handles::Runtime;
 use crate::runs::{Work, do_work};
@@ -8,7 +9,7 @@ use klp_program::boot;
 use std::alloc::Global;
 use std::io;
 
-/// Boots a manager over a catalog without callbacks: the tests make none.
+/// Boots a manager over a catalog. The catalog must have no callbacks, since the tests make none.
 fn booted(alloc: Global, text: &[u8]) -> Result<Manager, klp_program::Fault> {
     let plan = Catalog::read(alloc, text)?;
     if let Some(_script) = plan.script(0) {
@@ -17,12 +18,12 @@ fn booted(alloc: Global, text: &[u8]) -> Result<Manager, klp_program::Fault> {
     boot(alloc, plan, Vec::new(alloc))
 }
 
-/// Hands a manager to `do_work`, which takes any machine that can be sent to another thread.
+/// Passes a manager to `do_work`, which accepts any machine that can be sent to another thread.
 fn hand_on<R: Runtime>(rt: &R, alloc: Global, manager: Manager, work: Work) -> io::Result<()> {
     do_work::<Manager, R>(rt, alloc, manager, work)
 }
 
-/// Boots a manager over a catalog, and does something with it.
+/// Boots a manager over a catalog, and does this work with it.
 pub(crate) fn managed<R: Runtime>(
     rt: &R,
     alloc: Global,

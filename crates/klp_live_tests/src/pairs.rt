@@ -1,5 +1,5 @@
-//! What becomes of the seats of two tasks. A function that has a seat passes it on, and has no other return before
-//! that, since each return is proved on its own.
+//! Jobs of two tasks, and what becomes of their seats. A function that has a seat passes it on before it can return in
+//! any other way, since each return is proved on its own.
 ghost use Rattle.std.specs.Prelude.{◌<◌, ◌^◌, IsSome, vec_len};
 ghost use Rattle.klp_types.specs.declared.limits.TheConstants.{MAX_TASKS};
 ghost use Rattle.klp_live_bodies.specs.Jobs.{body_of};
@@ -18,7 +18,7 @@ use std::io;
 use std::sync::Wait;
 use std::time::Instant;
 
-/// More steps than any job of the tests has.
+/// A number of steps that no job of the tests reaches.
 const STEPS: usize = 100_000;
 
 /// The steps of both tasks.
@@ -28,7 +28,7 @@ pub(crate) struct Steps {
     pub(crate) second: Vec<Step>,
 }
 
-/// Returns the seat of a body that has ended, and why it stopped early, if it did.
+/// Returns the seat of a body that has ended. If the body stopped early, also returns the cause.
 pub(crate) fn seat_of<S: Start + Protocol<Published, View>>(
     ended: Result<TaskPass<S>, BodyFault<S>>,
 ) -> (Seat<S>, Option<BodyCause>) {
@@ -38,7 +38,7 @@ pub(crate) fn seat_of<S: Start + Protocol<Published, View>>(
     }
 }
 
-/// Prints why a body stopped early, if it did.
+/// Prints the cause for which a body stopped early. Prints nothing if there is none.
 pub(crate) fn show_cause<R: Print>(rt: &R, cause: Option<BodyCause>) -> io::Result<()> {
     match cause {
         Some(cause) => println!(rt; "{cause:?}"),
@@ -46,15 +46,15 @@ pub(crate) fn show_cause<R: Print>(rt: &R, cause: Option<BodyCause>) -> io::Resu
     }
 }
 
-/// What two jobs came to.
+/// How two jobs ended.
 #[derive(Clone, Copy)]
 pub(crate) struct Ran {
     pub(crate) have_ended: bool,
-    /// The nanoseconds until both had ended.
+    /// How many nanoseconds passed until both had ended.
     pub(crate) took: u64,
 }
 
-/// Returns the seat of a job, and why its body stopped early, if it did.
+/// Returns the seat of a job. If the job's body stopped early, also returns the cause.
 fn end_of<S: Start + Protocol<Published, View>, G: Gate + Drop>(
     job: Job<S, G>,
 ) -> (Seat<S>, Option<BodyCause>) {
@@ -62,7 +62,7 @@ fn end_of<S: Start + Protocol<Published, View>, G: Gate + Drop>(
     seat_of(ended)
 }
 
-/// Prints why each of two jobs stopped early, if it did, and returns what they came to.
+/// Prints the cause for each of two jobs that stopped early. Returns how the jobs ended.
 fn show_ran<R: Print>(
     rt: &R,
     causes: (Option<BodyCause>, Option<BodyCause>),
@@ -76,7 +76,7 @@ fn show_ran<R: Print>(
     })
 }
 
-/// Returns the seats of two jobs, and what the jobs came to.
+/// Returns the seats of two jobs, and how the jobs ended.
 fn ends_of<S: Start + Protocol<Published, View>, G: Gate + Drop, R: Print>(
     rt: &R,
     one: Job<S, G>,
@@ -94,7 +94,7 @@ where
     M: Machine + Drop,
     R: Wait,
 {
-    /// Makes the job of a task.
+    /// Returns the job of a task, which has this seat.
     fn job_of<G: Gate + Drop>(
         &self,
         seat: Seat<S>,
@@ -118,7 +118,7 @@ where
     M: Machine + Drop + Send,
     R: Runtime,
 {
-    /// Runs two jobs, and returns the nanoseconds that both take.
+    /// Runs two jobs, and returns how many nanoseconds passed until both had ended.
     fn run_timed<G: Gate + Drop + Send>(
         &self,
         one: &mut Job<S, G>,
@@ -134,7 +134,8 @@ where
         since(rt, start?)
     }
 
-    /// Lets both tasks do their steps in threads of their own, if there was memory for the steps.
+    /// Lets both tasks do their steps, each in its own thread. `steps` is `Err` if there was no memory for them, and
+    /// then nothing is run.
     pub(crate) fn run_pair<G: Gate + Drop + Send>(
         &self,
         seats: TwoSeats<S>,

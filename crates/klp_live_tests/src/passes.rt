@@ -1,4 +1,4 @@
-//! Passes of two tasks at one start: what each is told, and what its calls run.
+//! Tests the passes of two tasks at one start: what each is told, and which versions its calls run.
 ghost use Rattle.std.specs.Prelude.{◌<◌};
 ghost use Rattle.klp_types.specs.declared.limits.TheConstants.{MAX_TASKS};
 
@@ -16,13 +16,13 @@ use std::sync::Wait;
 /// What the passes of a start do.
 #[derive(Clone, Copy)]
 pub(crate) enum Story {
-    /// The second task hears of what the first one enabled.
+    /// The first task enables a patch, and the second one is told.
     Heard,
-    /// The second task hears nothing, and is switched by the first one's events.
+    /// The first task's events switch the second one, which isn't told.
     Unheard,
-    /// A seat is taken by a task that doesn't exist yet.
+    /// A task takes a seat before it exists.
     Absent,
-    /// All seats are handed in at once.
+    /// All seats are returned at once, without any use.
     Idle,
 }
 
@@ -33,19 +33,19 @@ enum Act {
     Enter(Site),
     /// Submits an event.
     Submit(Event),
-    /// Submits an event, of which the other pass hears.
+    /// Submits an event, and tells the other pass of it.
     SubmitHeard(Event),
 }
 
-/// Which pass acts, the first or the second, and what it does.
+/// The pass that acts, which is the first or the second, and what it does.
 #[derive(Clone, Copy)]
 enum Turn {
     First(Act),
     Second(Act),
 }
 
-/// The first task enables a patch, and runs it after it has left the kernel once. The second hears of that, but still
-/// runs the original, since it hasn't left the kernel.
+/// The first task enables a patch. It leaves the kernel once, and after that runs the patch. The second task is told
+/// that the patch was enabled. It still runs the original, since it hasn't left the kernel.
 fn heard() -> [Turn; 7] {
     const ALL: [Turn; 7] = [
         Turn::First(Act::SubmitHeard(Event::Enable(PATCH))),
@@ -59,7 +59,7 @@ fn heard() -> [Turn; 7] {
     ALL
 }
 
-/// The first task's events switch the second one, which sees that without being told.
+/// The first task's events switch the second task. That one runs the right version without being told.
 fn unheard() -> [Turn; 8] {
     const ALL: [Turn; 8] = [
         Turn::First(Act::Submit(Event::Enable(PATCH))),
@@ -74,7 +74,7 @@ fn unheard() -> [Turn; 8] {
     ALL
 }
 
-/// A task that doesn't exist enters nothing, before it begins and after it has ended.
+/// A task enters no function before it begins, and none after it has ended.
 fn absent() -> [Turn; 6] {
     const ALL: [Turn; 6] = [
         Turn::First(Act::Enter(PATCHED)),
@@ -87,7 +87,7 @@ fn absent() -> [Turn; 6] {
     ALL
 }
 
-/// The task that takes the first seat.
+/// Returns the task that gets the first seat.
 fn first_of(story: Story) -> TaskId
     ensures { result < MAX_TASKS }
 {
@@ -103,7 +103,7 @@ where
     M: Machine + Drop,
     R: Wait + Print,
 {
-    /// Submits an event. The other pass hears of it if `is_heard` says so.
+    /// Submits an event from `pass`. If `is_heard`, tells the other pass of it.
     fn submitted(
         &self,
         pass: &mut TaskPass<S>,
@@ -119,7 +119,7 @@ where
         answer_of(came)
     }
 
-    /// Lets a pass act, and prints what comes of it.
+    /// Lets `pass` do this, and prints the result.
     fn show_act(
         &self,
         pass: &mut TaskPass<S>,
@@ -134,7 +134,7 @@ where
         }
     }
 
-    /// Lets the passes take these turns.
+    /// Lets the two passes take these turns.
     fn show_turns(
         &self,
         first: &mut TaskPass<S>,
@@ -165,7 +165,7 @@ where
         }
     }
 
-    /// Has two tasks take the two seats, and hand them back.
+    /// Gives the two seats to two tasks, lets them do what the story says, and returns the seats.
     pub(crate) fn passed(&self, seats: TwoSeats<S>, story: Story) -> (TwoSeats<S>, io::Result<()>) {
         let mut first = self.attached(seats.0, first_of(story));
         let mut second = self.attached(seats.1, SECOND);

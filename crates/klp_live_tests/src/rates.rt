@@ -1,5 +1,5 @@
-//! How much two bodies do in a second: both submit events under the one lock, both enter functions, or one submits
-//! while the other enters.
+//! Measures how much two bodies do in a second. Either both submit events under the one lock, or both enter functions,
+//! or one submits while the other enters.
 ghost use Rattle.std.specs.Prelude.{◌≡◌, []};
 
 use crate::gates::Open;
@@ -18,10 +18,10 @@ use klp_types::TaskId;
 use std::alloc::{AllocError, Global};
 use std::io;
 
-/// How many events a body submits in a round: two bodies fill half of the journal.
+/// How many events a body submits in a round. Those of two bodies fill half of the journal.
 const EVENTS: u64 = 1_000;
 
-/// How many functions a body enters in a round, and returns from.
+/// How many functions a body enters and leaves in a round.
 const ENTRIES: u64 = 2_500;
 
 /// What a body does.
@@ -31,7 +31,7 @@ enum Work {
     Enters,
 }
 
-/// What both do, and the nanoseconds that they took in the best round.
+/// What the two bodies do, and how many nanoseconds they took in the best round.
 #[derive(Clone, Copy)]
 struct Timed {
     works: (Work, Work),
@@ -39,7 +39,7 @@ struct Timed {
 }
 
 impl Timed {
-    /// Before the first round.
+    /// Returns the time before the first round.
     fn of(first: Work, second: Work) -> Timed {
         Timed {
             works: (first, second),
@@ -48,12 +48,12 @@ impl Timed {
     }
 }
 
-/// The best of all rounds.
+/// The best times of all rounds.
 #[derive(Clone, Copy)]
 pub(crate) struct Best([Timed; 3]);
 
 impl Best {
-    /// Before the first round.
+    /// Returns the times before the first round.
     pub(crate) fn new() -> Best {
         Best([
             Timed::of(Work::Submits, Work::Submits),
@@ -63,7 +63,7 @@ impl Best {
     }
 }
 
-/// The steps of a body.
+/// Returns the steps of a body that does this.
 fn steps_of(alloc: Global, task: TaskId, work: Work) -> Result<Vec<Step>, AllocError> {
     let (pair, times) = match work {
         Work::Submits => (
@@ -93,7 +93,7 @@ fn keep(timed: &mut Timed, ran: io::Result<Ran>) -> io::Result<()> {
     Ok(())
 }
 
-/// Returns the rate per second.
+/// Returns how many are done in a second, if `count` took `took` nanoseconds.
 fn rate(count: u64, took: u64) -> u128 {
     u128::from(count) * 1_000_000_000 / u128::from(took.max(1))
 }
@@ -104,7 +104,7 @@ where
     M: Machine + Drop + Send,
     R: Runtime,
 {
-    /// Runs one round of each pair of works over the two seats.
+    /// Runs one round with the two seats: each pair of works once.
     pub(crate) fn round(
         &self,
         seats: TwoSeats<S>,
@@ -122,7 +122,7 @@ where
     }
 }
 
-/// Takes back all events of a machine, and measures one round over it.
+/// Undoes all events of a machine, and measures one round over it.
 fn measured<M: Shows + Drop + Send, R: Runtime>(
     rt: &R,
     alloc: Global,
@@ -134,7 +134,7 @@ fn measured<M: Shows + Drop + Send, R: Runtime>(
     started(rt, alloc, machine, 2, Run::Round(best))
 }
 
-/// Measures this many rounds over a machine with two tasks, and prints the best.
+/// Measures `rounds` rounds over a machine with two tasks, and prints the best times.
 pub(crate) fn rounds_of<M: Shows + Drop + Send, R: Runtime>(
     rt: &R,
     alloc: Global,

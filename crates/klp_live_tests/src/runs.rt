@@ -1,4 +1,4 @@
-//! What is done with a machine: a test, or a number of rounds that are measured.
+//! What is done with a machine: one test, or a number of measured rounds.
 use crate::handles::Runtime;
 use crate::passes::Story;
 use crate::shows::Shows;
@@ -9,17 +9,17 @@ use std::io;
 
 #[derive(Clone, Copy)]
 pub(crate) enum Work {
-    /// Two seats at a book.
+    /// Two seats of a book take turns.
     Turns,
-    /// A start with this many seats.
+    /// The passes of a start with this many seats do what the story says.
     Passes(usize, Story),
-    /// A start with the bodies and jobs of two tasks.
+    /// The two tasks of a start run bodies and jobs.
     Bodies,
-    /// Entries, beside looks under a lock.
+    /// Entries are compared with looks under a lock.
     Entries,
-    /// Rounds that measure what an event and an entry cost.
+    /// This many rounds measure what an event and an entry cost.
     Costs(u64),
-    /// Rounds that measure how much two bodies do in a second.
+    /// This many rounds measure how much two bodies do in a second.
     Rates(u64),
 }
 

@@ -1,4 +1,5 @@
-//! What the tests ask of a machine besides what a book does, and what must not change if an event isn't taken.
+//! What the tests need of a machine besides what a book needs, and what of it must stay the same if an event isn't
+//! accepted.
 ghost use Rattle.std.specs.Prelude.{◌≡◌, ◌≤◌, [], length};
 ghost use Rattle.klp_types.specs.declared.limits.TheConstants.{MAX_GROUPS};
 
@@ -7,7 +8,7 @@ use klp_core::{Machine, Manager};
 use klp_model::Event;
 use klp_types::{PatchId, Site, SiteRow, Target, TaskId};
 
-/// A machine's mark and transition, three of its rows, and three patch states.
+/// What is compared of a machine: its mark, its transition, three of its rows, and three patch states.
 #[derive(Clone, Copy, PartialEq)]
 pub(crate) struct Shown {
     mark: u32,
@@ -35,12 +36,12 @@ impl Shown {
     }
 }
 
-/// A machine that picks versions itself, and can close its journal.
+/// A machine that can pick versions itself, and can seal its journal.
 pub(crate) trait Shows: Machine {
-    /// Returns what the manager itself picks for a task at a site.
+    /// Returns what the manager picks for a task at a site.
     fn picked(&self, task: TaskId, site: Site) -> Option<Target>;
 
-    /// Makes the present state the base.
+    /// Seals the journal: the present state becomes the base.
     fn close_journal(&mut self)
         requires { length (Self.journaled self.old).groups ≤ MAX_GROUPS }
         ensures { (Self.journaled self.new).groups ≡ [] };
@@ -62,7 +63,7 @@ pub(crate) fn apply<M: Machine>(machine: &mut M, event: Event) -> bool {
     machine.apply(event).is_ok()
 }
 
-/// Begins two tasks, and closes the journal, so that a rewind keeps them.
+/// Begins two tasks, and seals the journal. So a rewind doesn't undo the begin of the tasks.
 pub(crate) fn prepare<M: Shows>(machine: &mut M)
     ensures { (M.journaled machine.new).groups ≡ [] }
 {
@@ -72,7 +73,7 @@ pub(crate) fn prepare<M: Shows>(machine: &mut M)
     machine.close_journal();
 }
 
-/// Takes back all that was accepted.
+/// Undoes all events in the journal.
 pub(crate) fn empty<M: Machine>(machine: &mut M)
     ensures { (M.journaled machine.new).groups ≡ [] }
 {

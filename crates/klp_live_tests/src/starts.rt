@@ -1,4 +1,5 @@
-//! A start over a machine, from its opening to its end. The owner of a machine picks the start.
+//! Begins a start over a machine, runs something in it, and ends it. The kind of start is chosen by who owns the
+//! machine.
 ghost use Rattle.std.specs.Prelude.{◌≡◌, ◌<◌, ◌≤◌, []};
 ghost use Rattle.klp_live.specs.Opening.{IsFresh};
 ghost use Rattle.klp_live.specs.Shown.{RuleIs};
@@ -21,14 +22,14 @@ use std::sync::ledger::Blank;
 pub(crate) enum Run<'a> {
     Passes(Story),
     Bodies,
-    /// A round that is measured.
+    /// They do one round, whose times are measured.
     Round(&'a mut Best),
 }
 
-/// The machine, or what is printed if it is lost; and what came of the run.
+/// The machine, and the result of the run. If the machine is lost, has what is printed about that.
 pub(crate) type HandedBack<M> = (Result<M, &'static str>, io::Result<()>);
 
-/// Takes out the last two seats, if there are two.
+/// Removes the last two seats, and returns them. Returns `None`, and removes nothing, if there are fewer.
 fn take_two<S: Start + Protocol<Published, View>>(seats: &mut Vec<Seat<S>>) -> Option<TwoSeats<S>> {
     if seats.len() < 2 {
         return None;
@@ -38,7 +39,7 @@ fn take_two<S: Start + Protocol<Published, View>>(seats: &mut Vec<Seat<S>>) -> O
     Some((first, second))
 }
 
-/// Puts two seats back. There is room for them, so no push fails; otherwise the start wouldn't end.
+/// Puts two seats back. There is room for both, so no push fails. If one did, the start couldn't end.
 fn put_back<S: Start + Protocol<Published, View>>(seats: &mut Vec<Seat<S>>, two: TwoSeats<S>) {
     let _ = seats.push(two.0);
     let _ = seats.push(two.1);
@@ -58,7 +59,7 @@ where
         (seats, came.and(apart).and(met))
     }
 
-    /// Does what two seats do in this run.
+    /// Lets two seats do what this run says.
     fn both_run(&self, seats: TwoSeats<S>, run: Run<'_>) -> (TwoSeats<S>, io::Result<()>) {
         match run {
             Run::Passes(story) => self.passed(seats, story),
@@ -67,7 +68,7 @@ where
         }
     }
 
-    /// Does the run with two of the seats, if there are two.
+    /// Lets two of the seats do what this run says. Does nothing if there are fewer than two.
     fn all_run(&self, seats: &mut Vec<Seat<S>>, run: Run<'_>) -> io::Result<()> {
         let Some(two) = take_two(seats) else {
             return Ok(());
@@ -78,7 +79,7 @@ where
     }
 }
 
-/// Returns what is printed if there is no start. There are as many places as seats, so `NoPlace` never occurs.
+/// Returns what is printed if there is no start. `NoPlace` never occurs, since there are as many places as seats.
 fn why_no_start(cause: StartCause) -> &'static str {
     match cause {
         StartCause::NoMemory => "no start",
@@ -86,8 +87,8 @@ fn why_no_start(cause: StartCause) -> &'static str {
     }
 }
 
-/// Starts, does the run, and ends. Returns no machine if there was no memory for a start, or if a seat is missing in
-/// the end, but says which of the two.
+/// Begins a start, does the run, and ends the start. The machine is lost if there is no memory for a start, or if a
+/// seat is missing at the end. Then returns what to print about it.
 fn opened<S: Start + Protocol<Published, View> + Send + Sync, M: Machine + Drop + Send, R: Runtime>(
     rt: &R,
     alloc: Global,
@@ -119,7 +120,7 @@ fn opened<S: Start + Protocol<Published, View> + Send + Sync, M: Machine + Drop 
     }
 }
 
-/// Starts over a machine with an empty journal, with 1 to 64 seats.
+/// Begins a start over a machine whose journal is empty, does the run, and ends the start. It has from 1 to 64 seats.
 pub(crate) fn started<M: Machine + Drop + Send, R: Runtime>(
     rt: &R,
     alloc: Global,
@@ -134,14 +135,15 @@ pub(crate) fn started<M: Machine + Drop + Send, R: Runtime>(
     opened::<Brand, M, R>(rt, alloc, blank, Opened::new(), machine, places, run)
 }
 
-/// Takes all events back, and prints how many there were and whether the machine is as before its start.
+/// Undoes all events. Prints how many there were, and whether the machine is as it was before its start.
 fn show_end<M: Machine, R: Print>(rt: &R, machine: &mut M, before: &Shown) -> io::Result<()> {
     let standing = machine.mark();
     let is_back = machine.rewind(0).is_ok() && Shown::of(machine) == *before;
     println!(rt; "{standing} standing, taken back: {is_back}")
 }
 
-/// Starts over a machine with two tasks. In the end all events are taken back, and the machine is as before.
+/// Does this run in a start over a machine with two tasks. At the end all events are undone, and the machine must be as
+/// before.
 pub(crate) fn show_start<M: Shows + Drop + Send, R: Runtime>(
     rt: &R,
     alloc: Global,

@@ -1,4 +1,4 @@
-//! Two seats at the book of a manager: the answer to each of their events, and what calls run after it.
+//! Lets two seats of a manager's book submit events. Checks the answer to each, and which versions calls run after it.
 use crate::books::{Use, booked};
 use crate::handles::Runtime;
 use crate::names::{FIRST, SECOND};
@@ -12,11 +12,11 @@ use std::alloc::Global;
 use std::io;
 use std::sync::Wait;
 
-/// Which seat has the event, and the event.
+/// The index of the seat that submits, and the event.
 #[derive(Clone, Copy)]
 struct Turn(usize, Event);
 
-/// Events of patches, modules and tasks, most of them by both seats in turn.
+/// Events of patches, modules and tasks. Most of them are submitted by the two seats in turn.
 fn first_turns() -> [Turn; 21] {
     const ALL: [Turn; 21] = [
         Turn(0, Event::NewTask(FIRST)),
@@ -44,10 +44,11 @@ fn first_turns() -> [Turn; 21] {
     ALL
 }
 
-/// The shadow variable that comes and goes.
+/// The shadow variable that is added and freed.
 const SHADOW: ShadowKey = ShadowKey { obj: 1, id: 9 };
 
-/// Events of shadow variables, and a module is unloaded. This is no constant, since a call makes the value.
+/// Events that add and free a shadow variable, and one that unloads a module. This can't be a constant, since the value
+/// is made by a call.
 fn last_turns() -> [Turn; 3] {
     [
         Turn(0, Event::ShadowAlloc(SHADOW, ShadowValue::of(5))),
@@ -59,7 +60,7 @@ fn last_turns() -> [Turn; 3] {
 /// How many sites the image has.
 const SITES: u16 = 3;
 
-/// What a refusal with `NoMemory` must not change: the machine, how many rows there are, and how many a seat knows.
+/// What a refusal with `NoMemory` must not change: the machine, the number of rows, and how many of them a seat knows.
 #[derive(Clone, Copy, PartialEq)]
 struct Standing {
     shown: Shown,
@@ -91,7 +92,7 @@ fn admitted<S: Start + Protocol<Published, View>, M: Shows + Drop, R: Wait>(
     answer_of(book.admit(rt, alloc, seat, event))
 }
 
-/// Does so again if memory is refused. Nothing may have changed then.
+/// Admits an event. If memory is refused, prints a line if anything has changed, and admits the event once more.
 fn taken<S: Start + Protocol<Published, View>, M: Shows + Drop, R: Wait + Print>(
     rt: &R,
     alloc: Global,
@@ -110,7 +111,7 @@ fn taken<S: Start + Protocol<Published, View>, M: Shows + Drop, R: Wait + Print>
     admitted(rt, alloc, book, seat, event)
 }
 
-/// Whether a call runs what the manager itself picks.
+/// Whether a call runs the version that the manager picks.
 fn is_picked<S: Start + Protocol<Published, View>, M: Shows>(
     machine: &M,
     seat: &mut Seat<S>,
@@ -120,7 +121,7 @@ fn is_picked<S: Start + Protocol<Published, View>, M: Shows>(
     seat.enter(task, site).ok() == machine.picked(task, site)
 }
 
-/// Whether all calls of both tasks do so.
+/// Whether all calls of both tasks run the version that the manager picks.
 fn all_picked<S: Start + Protocol<Published, View>, M: Shows>(
     machine: &M,
     seat: &mut Seat<S>,
@@ -135,7 +136,8 @@ fn all_picked<S: Start + Protocol<Published, View>, M: Shows>(
     all
 }
 
-/// Admits an event for a seat, and prints its answer, and whether calls then run what the manager picks.
+/// Admits an event for a seat, and prints the answer. If a call then runs another version than the manager picks, also
+/// prints that.
 fn show_turn<S: Start + Protocol<Published, View>, M: Shows + Drop, R: Wait + Print>(
     rt: &R,
     alloc: Global,
@@ -165,7 +167,7 @@ fn show_turns<S: Start + Protocol<Published, View>, M: Shows + Drop, R: Wait + P
     Ok(())
 }
 
-/// Prints how many of the rows each seat knows.
+/// Prints how many of the rows each seat knows. There are `rows` rows.
 fn show_rows<S: Start + Protocol<Published, View>, R: Print>(
     rt: &R,
     seats: &[Seat<S>],
@@ -177,7 +179,7 @@ fn show_rows<S: Start + Protocol<Published, View>, R: Print>(
     Ok(())
 }
 
-/// Takes all turns.
+/// Lets the seats take all turns.
 pub(crate) fn all_taken<S: Start + Protocol<Published, View>, M: Shows + Drop, R: Wait + Print>(
     rt: &R,
     alloc: Global,
@@ -189,7 +191,7 @@ pub(crate) fn all_taken<S: Start + Protocol<Published, View>, M: Shows + Drop, R
     show_rows(rt, seats, book.rows())
 }
 
-/// Opens a book over the machine for all turns, and once more if memory was refused.
+/// Opens a book over the machine, and takes all turns. If memory was refused for the book, tries that once more.
 pub(crate) fn twice<M: Shows + Drop, R: Runtime>(
     rt: &R,
     alloc: Global,

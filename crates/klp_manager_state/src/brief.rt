@@ -25,8 +25,8 @@ pub enum Brief {
 }
 
 /// A [`Reply`] that has no frames of a task and no value of a variable. It is smaller than `Reply`, which needs room
-/// for both. Most events reply in this form, because passing a whole `Reply` from step to step costs more than a
-/// refused event. In contracts a `BriefReply` is the `Reply` that it converts to.
+/// for both. Most events reply in this form, because passing a whole `Reply` from step to step costs more than refusing
+/// an event. In contracts a `BriefReply` is the `Reply` to which it is converted.
 #[derive(Drop)]
 pub struct BriefReply(pub Brief);
 

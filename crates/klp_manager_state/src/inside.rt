@@ -12,8 +12,8 @@ use crate::state::ManagerState;
 use klp_catalog::Catalog;
 use klp_types::{Frames, MAX_TASKS, Mode, ObjId, PatchId, Site, TaskId, Version};
 
-/// Returns the object of a patch's function, or None if the patch has no function of this number. Asks the catalog,
-/// since a function may have no site.
+/// Returns the object of a patch's function, or `None` if the patch has no function of this number. The object is read
+/// from the catalog, since a function may have no site.
 fn object_of_function(catalog: &Catalog, patch: PatchId, number: u16) -> Option<ObjId>
     ensures { result ≡ option_map (λ (f : FunctionOf). f.object) (slice_get
         (catalog_functions catalog.now patch) number) }
@@ -24,7 +24,7 @@ fn object_of_function(catalog: &Catalog, patch: PatchId, number: u16) -> Option<
 
 impl ManagerState {
     /// Whether a task sleeps inside of the module: in one of the module's functions, or in a new function for one of
-    /// these, which unloading the module would remove. Looks at each frame of each task.
+    /// them. Unloading the module would remove all of these. Looks at each frame of each task.
     pub fn is_in_use(&self, catalog: &Catalog, object: ObjId) -> bool
         requires { Invariant self.now catalog.now }
         ensures { result ≡ list_any (is_inside (setting_in self.now catalog.now) object) self.now.tasks }
@@ -37,7 +37,7 @@ impl ManagerState {
         false
     }
 
-    /// Whether this task sleeps inside of the module. A task that doesn't sleep has no frames to look at.
+    /// Whether this task sleeps inside of the module. False for a task that doesn't sleep, which has no frames here.
     fn is_inside(&self, catalog: &Catalog, object: ObjId, task: TaskId) -> bool
         requires { Invariant self.now catalog.now }
         ensures value { result ≡ is_inside (setting_in self.now catalog.now) object (task_at self.now.tasks task) }
@@ -77,8 +77,8 @@ impl ManagerState {
         }
     }
 
-    /// Returns the object that a version is in: the object of its site, or the object of a patch's new function. None
-    /// if neither the image nor the catalog has the version.
+    /// Returns the object that a version is in: the object of its site, or the object of a patch's new function.
+    /// Returns `None` if neither the image nor the catalog has the version.
     pub fn object_of(&self, catalog: &Catalog, version: Version) -> Option<ObjId>
         requires { Invariant self.now catalog.now }
         ensures { result ≡ object_of_version (setting_in self.now catalog.now) version }
@@ -89,7 +89,7 @@ impl ManagerState {
         }
     }
 
-    /// Returns the object of a site, or None if the image has no such site. Looks it up in the table of names.
+    /// Returns the object of a site, or `None` if the image has no such site. Looks it up in the table of names.
     fn object_of_site(&self, site: Site) -> Option<ObjId>
         ensures { result ≡ option_map (λ (s : Named). s.object) (symbol_at_site self.now.modules.names site) }
     {

@@ -23,9 +23,9 @@ ghost use Rattle.klp_types.specs.Entries.{is_empty};
 ghost use Rattle.klp_model.specs.Allowed.{Allowed};
 ghost use Rattle.klp_model.specs.Opening.{opening_state};
 
-/// World and catalog agree on the patch whose state a callback takes over: the newest patch that was installed before
-/// and names the state. The world finds it in its rows. They agree because in every manager each installed patch has
-/// the states that the catalog gives it.
+/// When a callback takes over the value of a state, world and catalog agree on the patch that has it: the newest patch
+/// that was installed before and names the state. The world finds this patch in its rows. The two agree because in
+/// every manager each installed patch has the states that the catalog gives it.
 pub fn previous_states_agree()
     ensures { (managed : Managed) (patch id : ℕ) → IsStated (setting_of managed) managed.state
         → previous_patch managed.state.world patch id
@@ -43,7 +43,8 @@ pub(crate) fn opening_keeps()
     klp_model::laws::installed_patches_have_their_states();
 }
 
-/// The facts that each step keeps. They are one law, so that each event's function calls one law and not three.
+/// The facts that hold after each step if they held before it. They are one law, so that each event's function calls
+/// one law and not three.
 pub fn steps_keep()
     ensures { StepLaws }
 {
@@ -52,16 +53,16 @@ pub fn steps_keep()
     klp_catalog::laws::runs_add_up();
 }
 
-/// If nothing refuses an event, and it runs no callback and changes rows of one kind alone, then making this change
-/// takes the event. The events of tasks and of shadow variables are proved by this.
+/// If nothing refuses an event, and the event runs no callback and changes only rows of one kind, then making this
+/// change is doing the event as the model defines it. The events of tasks and of shadow variables are proved by this.
 #[tactic(auto, using(crate::proofs::StepLemmas::tasks_taken, crate::proofs::StepLemmas::world_taken))]
 pub fn changes_of_one_kind_are_taken()
     ensures tasks { AreTasksTaken }
     ensures world { IsWorldTaken }
 {}
 
-/// If each record of a change has an effect, putting the records back gives the rows before the change, whatever is
-/// logged of other rows. So the records of each kind of rows are proved without those of the others.
+/// If each record of a change has an effect, putting the records back restores the rows before the change, whatever is
+/// logged of other rows. So proofs handle the records of each kind of rows without those of the others.
 #[tactic(auto, using(crate::proofs::RowLemmas::world_back, crate::proofs::RowLemmas::tasks_back))]
 pub fn what_is_logged_gives_the_rows_back()
     ensures world { (before after : World) (log_before log_after : RecordList) (rows : List Record)
@@ -75,8 +76,8 @@ pub fn what_is_logged_gives_the_rows_back()
 {}
 
 /// A record that has an effect changes the rows when it is put back, unless it is a hook's. The hook of a site follows
-/// its entries, so putting the hook's record back changes nothing. It counts as an effect because it comes right behind
-/// its entry's record.
+/// its entries, so putting the hook's record back changes nothing. This record still counts as having an effect,
+/// because it comes right after its entry's record.
 #[tactic(auto, using(crate::proofs::EffectLemmas::changed_if))]
 pub fn what_tells_a_change_has_an_effect()
     ensures { (rows : Rows) (row : Record) → has_effect rows row ≡ true → hook_of row ≡ None

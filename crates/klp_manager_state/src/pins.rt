@@ -9,8 +9,8 @@ use klp_types::{PatchId, Record};
 use std::alloc::{AllocError, Global};
 use std::marker::Model;
 
-/// Which patches are pinned, by a flag for each patch. Tasks may still be inside of a pinned patch's functions, since a
-/// transition was forced (livepatch, Force). Only undo clears a flag. [`Pins::new`] allocates all memory.
+/// Which patches are pinned, as a flag for each patch. After a forced transition, tasks may still be inside of a pinned
+/// patch's functions (livepatch, Force). Only undo clears a flag. [`Pins::new`] allocates all memory.
 #[derive(Drop)]
 pub struct Pins {
     flags: Vec<bool>,
@@ -44,8 +44,8 @@ impl Pins {
             .unwrap_or(false)
     }
 
-    /// Pins a patch, and logs that it wasn't pinned. Does nothing if the patch is pinned already, since an unchanged
-    /// row gets no record, or if the catalog has no such patch.
+    /// Pins a patch, and logs that it wasn't pinned. If the patch is pinned already, does nothing, since an unchanged
+    /// row gets no record. If the catalog has no such patch, does nothing either.
     pub fn pin(&mut self, patch: PatchId, log: &mut Records)
         requires { 0 < spare_of log.old }
         ensures flags { self.new ≡ slice_set self.old patch true }
@@ -60,7 +60,7 @@ impl Pins {
         }
     }
 
-    /// Pins these patches except for `patch`, which is the forced cumulative patch that replaces the others.
+    /// Pins all of these patches except `patch`, the forced cumulative patch that replaces the others.
     pub fn pin_others(&mut self, patches: &[PatchId], patch: PatchId, log: &mut Records)
         requires { length patches.now ≤ spare_of log.old }
         ensures flags { self.new ≡ pin_all (filter (λ p. not (p == patch)) patches.now) self.old }
@@ -74,7 +74,7 @@ impl Pins {
         }
     }
 
-    /// Puts back the flag that a record has. Ignores a record of another kind, as the definition does.
+    /// Restores the flag that the record names. Ignores a record of another kind, as the definition does.
     pub fn put_back(&mut self, row: Record)
         ensures { self.new ≡ put_pinned self.old row }
     {

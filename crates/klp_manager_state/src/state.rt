@@ -19,7 +19,7 @@ use klp_types::{MAX_RECORDS, Transition};
 use klp_world::World;
 use std::alloc::{AllocError, Global};
 
-/// All parts of a manager but its catalog and its journal. [`ManagerState::new`] allocates all memory.
+/// All parts of a manager except its catalog and its journal. [`ManagerState::new`] allocates all memory.
 #[derive(Drop)]
 pub struct ManagerState {
     /// The image with its text, and the function stacks of its sites.
@@ -33,10 +33,11 @@ pub struct ManagerState {
     pub moving: Option<Transition>,
     /// For each patch, whether it is pinned.
     pub pinned: Pins,
-    /// The versions that block sleepers. Filled while a transition is tried.
+    /// The versions that block sleepers. The set is filled when a transition is tried.
     pub blocked: VersionSet,
-    /// The rows that events changed, each as it was before, oldest first. The records of the event under way are behind
-    /// those that the journal keeps of earlier events. An event first drops all records that aren't kept.
+    /// Records of the rows that events changed, each as it was before, oldest first. Those of the events in the journal
+    /// come first, then those of the event under way. At its beginning, an event drops all records that aren't of the
+    /// journal.
     pub log: Records,
 }
 

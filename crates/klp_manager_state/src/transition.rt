@@ -8,7 +8,7 @@ ghost use Rattle.klp_manager_state.specs.Rows.{row_of_moving, rows_before, put_m
 use crate::state::ManagerState;
 use klp_types::{PatchId, Record, Transition};
 
-/// Returns the transition before the change, as the record has it. Returns `moving` for a record of another kind, as
+/// Returns the transition before the change, which the record has. For a record of another kind, returns `moving`, as
 /// the definition does.
 pub(crate) fn moving_before(moving: Option<Transition>, row: Record) -> Option<Transition>
     ensures { result ≡ put_moving moving row }
@@ -21,8 +21,8 @@ pub(crate) fn moving_before(moving: Option<Transition>, row: Record) -> Option<T
 }
 
 impl ManagerState {
-    /// Returns what the `enabled` file of an installed patch reads: false from the moment when the patch begins to
-    /// leave, true from the moment when it begins to come in.
+    /// Returns what the `enabled` file of an installed patch reads: false while the patch is in transition to target 0,
+    /// otherwise true.
     pub fn enabled_value(&self, patch: PatchId) -> bool
         ensures { result ≡ not (moves_out self.now.moving patch) }
     {
@@ -33,7 +33,7 @@ impl ManagerState {
     }
 
     /// Replaces the transition by another one, or by none, and logs the old transition, so that undo restores it. The
-    /// new one must differ, since an unchanged row gets no record.
+    /// new value must differ from the old, since an unchanged row gets no record.
     #[tactic(auto, using(crate::proofs::RowLemmas::moving_back))]
     pub fn set_moving(&mut self, moving: Option<Transition>)
         requires room { 0 < spare_of self.old.log }

@@ -1,4 +1,4 @@
-//! What a task is called.
+//! The names of tasks on a page.
 ghost use Rattle.std.specs.Prelude.{◌≡◌, ◌<◌, ◌≤◌, ◌++◌, length, take, codes, option_map};
 ghost use Rattle.klp_markup.specs.Adds.{Adds};
 ghost use Rattle.klp_markup.specs.Called.{goes_on, last_begin, shown_text, called_text};
@@ -10,7 +10,7 @@ use klp_types::TaskId;
 /// How many bytes of a task's name a page shows at most.
 pub const MAX_SHOWN: usize = 32;
 
-/// Whether this byte continues a character of UTF-8. Else it begins a character.
+/// Whether this byte continues a character of UTF-8. Any other byte begins a character.
 fn goes_on(byte: u8) -> bool
     ensures { result ≡ goes_on byte }
 {

@@ -1,11 +1,11 @@
-//! What a page is written on.
+//! The sheet on which a page is written.
 //!
-//! A [`Sheet`] takes markup, which stands in the program, and what comes from a run, which it escapes: so nothing that
-//! a catalog, a script or a trace says can be taken for markup (`specs/Escaped`). A sheet keeps whether memory ran out,
-//! so whoever adds ten pieces asks once, at the end (`specs/Adds`).
+//! A [`Sheet`] takes two kinds of text: markup, which is part of the program, and text that comes from a run, which it
+//! escapes. So nothing that a catalog, a script or a trace says can be mistaken for markup (`specs/Escaped`). A sheet
+//! stores whether memory ran out, so a caller that adds ten pieces checks this once, at the end (`specs/Adds`).
 //!
-//! The names of a catalog are spelled by `names` (`specs/Names`), lists of tasks by `tasks` (`specs/Tasks`), with
-//! what each task is called (`specs/Called`), and times by `times` (`specs/Times`).
+//! The names of a catalog are spelled by `names` (`specs/Names`), and times by `times` (`specs/Times`). Lists of tasks
+//! are spelled by `tasks` (`specs/Tasks`), with the tasks' names (`specs/Called`).
 #![tactic(auto)]
 
 mod called;

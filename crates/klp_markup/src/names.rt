@@ -11,21 +11,21 @@ use klp_catalog::Catalog;
 use klp_modules::Modules;
 use klp_types::{ObjId, PatchId, Site, Version};
 
-/// Returns the name of a patch; an empty name if there is no such patch.
+/// Returns the name of a patch. The name is empty if there is no such patch.
 pub fn patch_name(catalog: &Catalog, patch: PatchId) -> &[u8]
     ensures { result.now ≡ patch_name catalog.now patch }
 {
     catalog.patch_name(patch).unwrap_or("").as_bytes()
 }
 
-/// Returns the name of an object, loaded or not; an empty name if there is no such object.
+/// Returns the name of an object, loaded or not. The name is empty if there is no such object.
 pub fn object_name(modules: &Modules, object: ObjId) -> &[u8]
     ensures { result.now ≡ object_name modules.now.names object }
 {
     modules.object_name(object).unwrap_or("").as_bytes()
 }
 
-/// Returns the name of a patch's new function; an empty name if there is no such function. `number` counts the
+/// Returns the name of a patch's new function. The name is empty if there is no such function. `number` counts the
 /// functions of the patch from 0, over all its objects.
 pub fn function_name(catalog: &Catalog, patch: PatchId, number: u16) -> &[u8]
     ensures { result.now ≡ function_name catalog.now patch number }
@@ -47,7 +47,7 @@ fn add_owner(sheet: &mut Sheet, object: &[u8])
     sheet.markup(".<wbr>");
 }
 
-/// Adds a symbol of an object, with its position among those of the same name.
+/// Adds a symbol of an object, with its position among the object's symbols of the same name.
 fn add_symbol_of(sheet: &mut Sheet, object: &[u8], symbol: &[u8], position: u64)
     ensures { Adds sheet.old sheet.new (owner_text object.now ++ words_text symbol.now ++ codes ","
         ++ decimal position) }
@@ -85,7 +85,7 @@ fn add_new_function(sheet: &mut Sheet, patch: &[u8], number: u16, name: &[u8])
 }
 
 /// Adds a function that a task can sleep in: the symbol of an original function, or `PATCH:INDEX (NAME)` for a patch's
-/// new one. The catalog was assembled over these modules.
+/// new function. The catalog must have been assembled over these modules.
 pub fn add_version(sheet: &mut Sheet, catalog: &Catalog, modules: &Modules, version: Version)
     requires { catalog.now.names ≡ modules.now.names }
     ensures { Adds sheet.old sheet.new (version_text catalog.now version) }

@@ -8,7 +8,7 @@ use itoa::Buffer;
 use std::alloc::{AllocError, Global};
 use std::marker::Model;
 
-/// What is put into a gap of a template. `Markup` is text of the program's own; what comes from a run is escaped.
+/// What is put into a gap of a template. `Markup` is text of the program itself. Text that comes from a run is escaped.
 #[derive(Clone, Copy)]
 pub enum Value<'a> {
     Markup(&'static str),
@@ -17,7 +17,7 @@ pub enum Value<'a> {
     Text(&'a [u8]),
     /// A name, escaped, in which the browser may break the line behind each word.
     Words(&'a [u8]),
-    /// A name like that, in the font of code.
+    /// A name as in `Words`, in the font of code.
     Name(&'a [u8]),
 }
 
@@ -54,7 +54,7 @@ impl Sheet {
         }
     }
 
-    /// Adds these bytes as they are. If memory runs out, the sheet is short from then on.
+    /// Adds these bytes as they are. If memory runs out, they are missing, and the sheet counts as short from then on.
     fn add(&mut self, bytes: &[u8])
         ensures { Adds self.old self.new bytes.now }
     {
@@ -77,14 +77,14 @@ impl Sheet {
         }
     }
 
-    /// Adds markup of the program's own.
+    /// Adds markup that is part of the program.
     pub fn markup(&mut self, markup: &'static str)
         ensures { Adds self.old self.new markup.now }
     {
         self.add(markup.as_bytes());
     }
 
-    /// Adds text of a run, escaped.
+    /// Adds text that comes from a run, escaped.
     pub fn text(&mut self, text: &[u8])
         ensures { Adds self.old self.new (escaped text.now) }
     {
@@ -139,7 +139,7 @@ impl Sheet {
         self.markup("</span>");
     }
 
-    /// Adds a value in the way that its variant says.
+    /// Adds a value, in the form of its variant.
     fn value(&mut self, value: &Value<'_>) {
         match *value {
             Value::Markup(markup) => self.markup(markup),
@@ -163,7 +163,7 @@ impl Sheet {
         self.markup(rest);
     }
 
-    /// Adds the text of another sheet. If memory ran out for that sheet, this one is short too.
+    /// Adds the text of another sheet. If memory ran out for the other sheet, this sheet counts as short too.
     pub fn append(&mut self, other: &Sheet)
         ensures adds { Adds self.old self.new other.now.text }
         ensures short { other.now.is_short ≡ true → self.new.is_short ≡ true }
@@ -179,7 +179,7 @@ impl Sheet {
         self.bytes.is_empty()
     }
 
-    /// Returns the sheet's text. `Err` if memory ran out while it was written.
+    /// Returns the sheet's text. Returns `Err` if memory ran out while it was written.
     pub fn into_bytes(self) -> Result<Vec<u8>, AllocError>
         ensures { MatchResult result (λ bytes. (self.is_short ≡ false) × (bytes.items ≡ self.text))
             (λ _. self.is_short ≡ true) }

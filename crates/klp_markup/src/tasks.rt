@@ -9,7 +9,7 @@ use crate::sheet::Sheet;
 use klp_names::Names;
 use klp_types::TaskId;
 
-/// How many tasks a shortened list names. It says how many others there are.
+/// How many tasks a shortened list names. The list then says how many others there are.
 pub const MAX_NAMED: usize = 8;
 
 /// Returns the singular or the plural of a word.
@@ -19,7 +19,8 @@ pub fn plural(count: usize, one: &'static str, more: &'static str) -> &'static s
     if count == 1 { one } else { more }
 }
 
-/// Returns how many of `count` tasks a shortened list names. It names nine rather than eight and "1 more".
+/// Returns how many of `count` tasks a list names. A list of nine tasks isn't shortened to eight and "1 more": it names
+/// all.
 fn named(count: usize) -> usize
     ensures { result ≡ named count }
 {
@@ -30,7 +31,7 @@ fn named(count: usize) -> usize
     }
 }
 
-/// Returns what stands in a list of `count` tasks in front of the one at this place.
+/// Returns the text in front of the task at this place in a list of `count` tasks.
 fn join(place: usize, count: usize) -> &'static str
     requires { place < count }
     ensures { result.now ≡ join place count }
@@ -66,7 +67,7 @@ fn add_names(sheet: &mut Sheet, names: &Names, count: usize, tasks: &[TaskId])
     }
 }
 
-/// Adds how many tasks a shortened list leaves out. Adds nothing if it names all.
+/// Adds how many tasks a shortened list leaves out. Adds nothing if the list names all.
 fn add_more(sheet: &mut Sheet, count: usize)
     ensures { Adds sheet.old sheet.new (more_text count) }
 {

@@ -30,7 +30,7 @@ fn add_lasting(sheet: &mut Sheet, lasting: Option<u64>)
 }
 
 /// Adds a time since the first one, and a duration: ` (+3.0 s for 15.1 s)`. Adds nothing if the time isn't known, and
-/// no duration if that isn't.
+/// only the time if the duration isn't known.
 fn add_after(sheet: &mut Sheet, time: Option<u64>, lasting: Option<u64>)
     ensures { Adds sheet.old sheet.new (after_text time lasting) }
 {
@@ -43,14 +43,15 @@ fn add_after(sheet: &mut Sheet, time: Option<u64>, lasting: Option<u64>)
     }
 }
 
-/// Adds the time of a line since the first time: ` (+3.0 s)`. Adds nothing if it isn't known.
+/// Adds the time of a line since the first known time: ` (+3.0 s)`. Adds nothing if the line's time isn't known.
 pub fn add_line_time(sheet: &mut Sheet, names: &Names, line: u64)
     ensures { Adds sheet.old sheet.new (line_time names.now line) }
 {
     add_after(sheet, names.since_start(line), None);
 }
 
-/// Adds when something began that lasted from `line` to the line `to`, and for how long: ` (+0.0 s for 15.1 s)`.
+/// Adds when something began, and for how long it lasted: ` (+0.0 s for 15.1 s)`. It lasted from `line` to the line
+/// `to`.
 pub fn add_span_time(sheet: &mut Sheet, names: &Names, line: u64, to: Option<u64>)
     ensures { Adds sheet.old sheet.new (span_time names.now line to) }
 {

@@ -10,8 +10,8 @@ ghost use Rattle.klp_model.specs.Allowed.{Allowed};
 ghost use Rattle.klp_model.specs.Examples.{small_kernel, faulty, alone, move_of, installed, state_with, with_states};
 ghost use Rattle.klp_model.specs.Examples.{in_user, asleep_in};
 
-/// States that are allowed: a cumulative patch above others while it is in transition, or below others if it is the
-/// oldest. A sleeper may be inside of functions that aren't loaded.
+/// States that are allowed. A cumulative patch may be above others while it is in transition, or below others if it is
+/// the oldest. A sleeper may be inside of functions that aren't loaded.
 pub fn these_states_are_allowed()
     ensures replacing { Allowed small_kernel
         (state_with false (0 ∷ 1 ∷ []) (move_of 1 true) (alone (asleep_in (pos 1) (New 1 0 ∷ Original 2 ∷ [])))) }

@@ -1,4 +1,4 @@
-//! What is proved of honest observed runs, and examples of them. A function here does nothing: its contract is the
+//! What is proved of honest observed runs, and examples of such runs. A function here does nothing: its contract is the
 //! law or the example. The laws are in this crate because only they depend on which versions block a sleeper
 //! (docs/DECISIONS.md, "Where the theorems are").
 ghost use Rattle.std.specs.Prelude.{◌≡◌, ℕ, pos, negsuc, true, false, List, [], ◌∷◌, ◌++◌, Some, None};
@@ -28,32 +28,32 @@ pub fn frames_are_current()
         → AllCurrent setting (seen_from setting start first) }
 {}
 
-/// No task has a frame of a function whose entry has left the function stacks. So the code of a patch that is gone
-/// may be freed.
+/// No task has a frame of a function whose entry has left the function stacks. So the code of a patch that has left may
+/// be freed.
 pub fn none_has_left()
     ensures { (setting : Setting) (start : State) (first second : List Seen)
         → IsInPlace setting → IsHonestRun setting start (first ++ second)
         → NoneLeft setting (seen_from setting start first) }
 {}
 
-/// During a transition a task with patch state 0 has no frame of the patch's functions, and a task with state 1 has
-/// no frame of a version below an entry of the patch. So no task mixes the two.
+/// During a transition, a task with patch state 0 has no frame of the patch's functions. A task with state 1 has no
+/// frame of a version below an entry of the patch. So no task mixes old and new code.
 pub fn none_is_mixed()
     ensures { (setting : Setting) (start : State) (first second : List Seen)
         → IsInPlace setting → IsHonestRun setting start (first ++ second)
         → NoneMixed setting (seen_from setting start first) }
 {}
 
-/// In an honest observed run, the version of each frame is one of the site that was called: its original, or a patch's
-/// new function for it. So the versions alone tell the sites, and frames needn't store both.
+/// In an honest observed run, the version of each frame is a version of the site that was called: its original, or a
+/// patch's new function for it. So a version determines its site, and frames needn't store both.
 pub fn versions_name_their_sites()
     ensures { (setting : Setting) (start : State) (first second : List Seen)
         → IsInPlace setting → IsHonestRun setting start (first ++ second)
         → AllNamed setting (seen_from setting start first) }
 {}
 
-/// At the end of an honest observed run, each frame of each task is the version that the task would run at that
-/// site now. A call that does a list of items can promise the law in this form.
+/// At the end of an honest observed run, each frame of each task is the version that the task would run at that site
+/// now. In this form a function that handles a list of items can promise the law.
 pub fn frames_are_current_at_the_end()
     ensures { (setting : Setting) (start : State) (items : List Seen)
         → IsInPlace setting → IsHonestRun setting start items
@@ -66,8 +66,8 @@ pub fn state_is_that_of_the_events()
         → (seen_run setting w items).state ≡ run setting w.state (events_of items) }
 {}
 
-/// An honest observed run. A task sleeps in an original while the patch is enabled, and blocks the transition until
-/// it leaves the kernel.
+/// An honest observed run: a task sleeps in an original while the patch is being enabled. It blocks the transition
+/// until it leaves the kernel.
 pub fn a_sleeper_holds_the_transition()
     ensures in_place { IsInPlace kernel }
     ensures honest { IsHonestRun kernel start sleeper_run }
@@ -94,7 +94,7 @@ pub fn these_are_dishonest()
     ensures inside_at_the_start { IsHonestRun kernel (unpatched User no_frames).state [] → ⊥ }
 {}
 
-/// What the laws of consistency exclude: every frame counts, also one outside of others.
+/// What the laws of consistency exclude. Every frame counts, not only the innermost.
 pub fn these_are_inconsistent()
     ensures old { AllCurrent kernel (moving_in (pos 1) (inside_both (New 0 0) (Original 1))) → ⊥ }
     ensures left { NoneLeft kernel (unpatched Kernel (inside_both (Original 0) (New 0 1))) → ⊥ }
@@ -106,7 +106,7 @@ pub fn these_are_inconsistent()
     ensures out_of_place { IsInPlace stray_behind → ⊥ }
 {}
 
-/// A call adds a frame to its task, with the version that it got, and a return removes the innermost one. A forked
+/// A call adds a frame to its task, with the version that the call got. A return removes the innermost frame. A forked
 /// child is inside of nothing, and so is a new task.
 pub fn calls_go_on_the_frames()
     ensures called { (seen_next kernel (unpatched Kernel (inside 0 (Original 0))) (Calls 1 1)).stacks 1
@@ -132,8 +132,8 @@ pub fn a_stray_function_outlives_its_site()
         ≡ None }
 {}
 
-/// Why the version *below* blocks a sleeper towards target 1: if the new version did instead, a sleeper in the
-/// original would be switched, and be inside of code that it doesn't run any more.
+/// Why the version *below* the patch's entry blocks a sleeper towards target 1. If the new version blocked it instead,
+/// a sleeper in the original would be switched, and would be inside of code that its calls don't run any more.
 pub fn the_rule_turned_round_lets_a_sleeper_through()
     ensures turned { is_held (New 0 0 ∷ New 0 1 ∷ []) in_original ≡ false }
     ensures completed { version_now kernel (state_of false (0 ∷ []) None (one_task Asleep (negsuc 0) in_original)) 1 0

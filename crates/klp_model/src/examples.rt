@@ -32,8 +32,8 @@ ghost use Rattle.klp_model.specs.Examples.{small_kernel, module_kernel, taking_o
 ghost use Rattle.klp_model.specs.Examples.{faulty, alone, move_of, state_with, with_state, with_states, in_user};
 ghost use Rattle.klp_model.specs.Examples.{in_kernel, asleep_in, ran_by};
 
-/// A reversal runs no callback, towards either target, and the tasks keep their patch states: what was set up is
-/// still there, and each task goes back from where it is.
+/// A reversal runs no callback, towards either target, and the tasks keep their patch states. What callbacks set up is
+/// still there, and each task is switched back from its present state.
 pub fn a_reversal_runs_nothing()
     ensures enabling { calls small_kernel (state_with true (0 ∷ []) (move_of 0 true) []) (SetEnabled 0 false) ≡ [] }
     ensures disabling { calls small_kernel (state_with true (0 ∷ []) (move_of 0 false) []) (SetEnabled 0 true) ≡ [] }
@@ -44,7 +44,7 @@ pub fn a_reversal_runs_nothing()
         ≡ state_with true (0 ∷ []) (move_of 0 false) (in_kernel (pos 1) ∷ []) }
 {}
 
-/// Disabling starts with pre-unpatch. Every task still runs the patch, since no entry has gone yet.
+/// Disabling starts with pre-unpatch. Every task still runs the patch then, since all of its entries are still there.
 pub fn a_disabling_starts_with_pre_unpatch()
     ensures runs { ran (calls small_kernel (state_with true (0 ∷ []) None []) (SetEnabled 0 false))
         ≡ (0, PreUn) ∷ (1, PreUn) ∷ [] }
@@ -91,8 +91,8 @@ pub fn objects_before_the_one_that_refuses_get_post_unpatch()
         ≡ state_with true [] None (in_kernel (negsuc 0) ∷ []) }
 {}
 
-/// When a cumulative patch completes, the older patches leave the list, and its nops over their functions go too,
-/// since nothing is left below them; newer patches stay. If the cumulative patch is withdrawn instead, only it
+/// When a cumulative patch completes, the older patches leave the list. Its nops over their functions are taken out
+/// too, since no entries are left below them. Newer patches stay. If the cumulative patch is withdrawn instead, only it
 /// leaves.
 pub fn a_replacement_takes_the_older_patches_out()
     ensures older { installed_patches (accepted small_kernel (state_with true (0 ∷ 1 ∷ []) (move_of 1 true) []) Poll).1
@@ -107,8 +107,8 @@ pub fn a_replacement_takes_the_older_patches_out()
         (accepted small_kernel (state_with true (0 ∷ 1 ∷ []) (move_of 1 false) []) Poll).1 ≡ 0 ∷ [] }
 {}
 
-/// While a task isn't at the target, a poll completes nothing and runs nothing. It switches sleeping tasks that
-/// aren't blocked. It doesn't switch tasks in the kernel or in user space, because both switch when they next leave
+/// While a task isn't at the target, a poll doesn't complete the transition and runs no callback. It switches sleeping
+/// tasks that aren't blocked. It doesn't switch tasks in the kernel or in user space: these switch when they next leave
 /// the kernel.
 pub fn a_poll_waits_for_tasks()
     ensures runs { calls small_kernel (state_with true (0 ∷ []) (move_of 0 true) (in_kernel (pos 0) ∷ [])) Poll ≡ [] }
@@ -136,9 +136,9 @@ pub fn a_poll_waits_for_tasks()
         ≡ (Completed false, state_with true (0 ∷ []) None (in_kernel (negsuc 0) ∷ [])) }
 {}
 
-/// While a patch is being enabled, a sleeping task is blocked by the versions below the patch's entries; while it
-/// is being disabled, by the patch's own versions. These are what it couldn't be inside of once it is switched. The
-/// same holds under a newer patch, and a nop counts as the original.
+/// While a patch is being enabled, the versions below its entries block a sleeping task. While it is being disabled,
+/// its own versions do. These are the versions that the task wouldn't run any more once it is switched. The same holds
+/// if a newer patch is above. A nop counts as the original.
 pub fn tasks_are_held_by_what_they_would_leave()
     ensures to_the_patch { blocked small_kernel (state_with false (0 ∷ []) (move_of 0 true) [])
         (record { patch = 0; target = true }) ≡ Original 0 ∷ Original 1 ∷ [] }
@@ -152,8 +152,8 @@ pub fn tasks_are_held_by_what_they_would_leave()
         (record { patch = 1; target = false }) ≡ New 1 0 ∷ Original 1 ∷ Original 2 ∷ [] }
 {}
 
-/// A task with patch state 0 runs the version below the entry of the patch in transition, since it isn't at the
-/// patch. Any other task runs the newest version; if that is a nop, the original.
+/// A task with patch state 0 runs the version below the entry of the patch in transition, since the task isn't switched
+/// to the patch. Any other task runs the newest version. If that is a nop, it runs the original.
 pub fn tasks_pick_by_their_state()
     ensures below { pick small_kernel (state_with true (0 ∷ 2 ∷ []) (move_of 2 true) (in_kernel (pos 0) ∷ [])) 0 0
         ≡ Some (record { version = New 0 0; address = 0 }) }
@@ -171,8 +171,8 @@ pub fn tasks_pick_by_their_state()
         ≡ None }
 {}
 
-/// An object that isn't loaded, or doesn't exist, has no entries and no text. A function for it waits until the
-/// module is loaded.
+/// An object that isn't loaded, or doesn't exist, has no entries and no text. A patch's function for a module has an
+/// entry only once the module is loaded.
 pub fn what_is_not_loaded_has_nothing()
     ensures entries { entries_of small_kernel (state_with false (0 ∷ []) None []) 2 ≡ [] }
     ensures text { text_of small_kernel (state_with false [] None []) 1 ≡ None }
@@ -180,9 +180,9 @@ pub fn what_is_not_loaded_has_nothing()
     ensures no_object { text_of small_kernel (state_with true [] None []) 2 ≡ None }
 {}
 
-/// The row of a site has its two newest entries, with the addresses at which their versions begin. For a nop, or if
-/// there is no entry, that is the address after the original's entry site. A site is hooked if it has an entry. A
-/// site of an object that isn't loaded has no row.
+/// The row of a site has its two newest entries, with the addresses at which their versions begin. If an entry is a nop
+/// or is missing, its address is the one after the original's entry site. A site is hooked if it has an entry. A site
+/// of an object that isn't loaded has no row.
 pub fn a_row_tells_the_two_newest_entries()
     ensures nop { row_of small_kernel (state_with true (0 ∷ 1 ∷ []) (move_of 1 true) []) 1
         ≡ Some (record {
@@ -233,9 +233,9 @@ pub fn a_module_comes_patch_by_patch()
         ≡ state_with false (0 ∷ 3 ∷ []) None [] }
 {}
 
-/// Unloading a module runs pre-unpatch and post-unpatch, patch by patch, oldest first. For a patch in transition
-/// only post-unpatch runs, since its post-patch never ran, or its pre-unpatch ran already. The module stays while a
-/// task sleeps inside of it, in a function of its own or in a new one for it.
+/// Unloading a module runs pre-unpatch and post-unpatch, patch by patch, oldest first. For a patch in transition only
+/// post-unpatch runs, since either its post-patch never ran, or its pre-unpatch already ran. The module isn't unloaded
+/// while a task sleeps inside of it: in one of its own functions, or in a new function for it.
 pub fn a_module_goes_patch_by_patch()
     ensures still { ran_by (calls small_kernel (state_with true (0 ∷ []) None []) (Going 1))
         ≡ (0, PreUn) ∷ (0, PostUn) ∷ [] }
@@ -249,8 +249,8 @@ pub fn a_module_goes_patch_by_patch()
         (state_with true (0 ∷ []) None (asleep_in (negsuc 0) (New 0 2 ∷ []) ∷ [])) (Going 1) ≡ Some InUse }
 {}
 
-/// Forcing a transition switches every task to the target. Forcing a patch out pins it, and forcing a cumulative
-/// one in pins all others, because a task may still be inside of their functions.
+/// Forcing a transition switches every task to the target. Forcing a patch out pins that patch. Forcing a cumulative
+/// patch in pins all other installed patches. A task may still be inside of a pinned patch's functions.
 pub fn who_is_forced_away_is_pinned()
     ensures away { (accepted small_kernel (state_with true (0 ∷ 2 ∷ []) (move_of 2 false) (in_kernel (pos 1) ∷ []))
         (Force 2)).1
@@ -305,9 +305,9 @@ pub fn callbacks_find_the_patches_there()
         ≡ Some 5 }
 {}
 
-/// There must be room for the variables of all callbacks that may run, whether they run or not, so that the sum is
-/// known beforehand. The cases are a poll that stays pending, an enabling that succeeds, and the clean-up of a
-/// module that is being loaded.
+/// There must be room for the variables of all callbacks that may run, even if some of them don't run in the end. So
+/// the room that is needed is known beforehand. The cases are a poll that stays pending, an enabling that succeeds, and
+/// the clean-up of a module that is being loaded.
 pub fn room_is_asked_for_all_that_may_run()
     ensures pending { refusal (crowded Post) (state_with true (0 ∷ []) (move_of 0 true) (in_kernel (pos 0) ∷ [])) Poll
         ≡ Some Full }
@@ -315,7 +315,8 @@ pub fn room_is_asked_for_all_that_may_run()
     ensures coming { refusal (crowded PreUn) (state_with false (0 ∷ []) None []) (Coming 1) ≡ Some Full }
 {}
 
-/// Why enabling, writing and forcing are refused: if two reasons hold, the first in their order is reported.
+/// Why enabling a patch, writing its `enabled` file and forcing it are refused. If two reasons hold, the one that is
+/// checked first is reported.
 pub fn refusals_come_in_order()
     ensures no_patch { refusal small_kernel (state_with true (0 ∷ []) (move_of 0 true) []) (Enable 4) ≡ Some NoPatch }
     ensures there_first { refusal small_kernel (state_with true (0 ∷ []) (move_of 0 true) []) (Enable 0)
@@ -336,7 +337,8 @@ pub fn refusals_come_in_order()
     ensures at_rest { refusal small_kernel (state_with true (0 ∷ []) None []) Poll ≡ Some NotMoving }
 {}
 
-/// Why events of modules and tasks are refused, reason by reason: if several hold, the first is reported.
+/// Why events of modules and tasks are refused, reason by reason. If several reasons hold, the one that is checked
+/// first is reported.
 pub fn modules_and_tasks_are_refused()
     ensures kernel { refusal small_kernel (state_with true [] None []) (Coming 0) ≡ Some NoModule }
     ensures no_module { refusal small_kernel (state_with true [] None []) (Coming 2) ≡ Some NoModule }
@@ -371,8 +373,8 @@ pub fn a_manager_begins_with_nothing_installed()
     ensures { opening_state small_kernel ≡ state_with false [] None (replicate 64 None) }
 {}
 
-/// Enabling adds the patch as the newest, and sets every task to 0, since none runs it yet. Loading or unloading a
-/// module changes the module's own flag.
+/// Enabling adds the patch as the newest, and sets the patch state of every task to 0, since no task runs the patch
+/// yet. Loading or unloading a module changes that module's flag.
 pub fn an_enabling_starts_with_no_task_at_the_patch()
     ensures enabled { accepted small_kernel
         (state_with true (0 ∷ []) None (in_kernel (negsuc 0) ∷ asleep_in (negsuc 0) [] ∷ None ∷ [])) (Enable 2)
@@ -392,7 +394,7 @@ pub fn a_patch_reads_enabled_until_it_moves_out()
     ensures another { enabled_value (state_with true (0 ∷ 2 ∷ []) (move_of 2 false) []) 0 ≡ true }
 {}
 
-/// If several reasons hold against an event, the one that is checked first is reported.
+/// If several reasons for a refusal hold, the one that is checked first is reported.
 pub fn earlier_reasons_come_first()
     ensures busy { refusal (faulty 0)
         (record (with_states (with_state 0 5 ∷ []) (move_of 0 true)) { pinned = false ∷ true ∷ [] }) (Enable 1) ≡ Some Busy }
@@ -432,8 +434,8 @@ pub fn earlier_reasons_come_first()
         ≡ Some WrongMode }
 {}
 
-/// An event is accepted if no reason holds against it: a task may end in the kernel too, and a sleeper may be
-/// inside of functions whose objects aren't loaded or whose patches aren't installed.
+/// An event is accepted if there is no reason to refuse it. For example, a task may end while it is in the kernel. And
+/// a sleeper may be inside of functions whose objects aren't loaded or whose patches aren't installed.
 pub fn what_no_reason_is_against_is_accepted()
     ensures ends { refusal small_kernel (state_with true [] None (in_kernel (negsuc 0) ∷ [])) (EndTask 0) ≡ None }
     ensures ends_outside { refusal small_kernel (state_with true [] None (in_user (negsuc 0) ∷ [])) (EndTask 0) ≡ None }
@@ -456,9 +458,9 @@ pub fn what_no_reason_is_against_is_accepted()
         (state_with true (0 ∷ []) None (asleep_in (negsuc 0) (Original 1 ∷ New 0 1 ∷ []) ∷ [])) (Going 1) ≡ None }
 {}
 
-/// There must be room for exactly as many variables as may be added, by the callbacks that may run. Post-patch and
-/// pre-unpatch of a patch in transition don't run when a module is loaded or unloaded, and a reversal runs nothing;
-/// these don't count.
+/// There must be room for exactly as many variables as the callbacks that may run can add. Callbacks that can't run
+/// don't count: post-patch and pre-unpatch of a patch in transition when a module is loaded or unloaded, and all
+/// callbacks at a reversal.
 pub fn the_last_place_may_be_taken()
     ensures enabling { refusal (crowded_by 512 Pre) (state_with true [] None []) (Enable 0) ≡ None }
     ensures unloaded { refusal (crowded Pre) (state_with false [] None []) (Enable 0) ≡ None }
@@ -475,7 +477,7 @@ pub fn the_last_place_may_be_taken()
     ensures completing { refusal (crowded PostUn) (state_with true (0 ∷ []) (move_of 0 true) []) Poll ≡ None }
 {}
 
-/// A shadow event concerns the variables that it names. No other event concerns any.
+/// A shadow event concerns the variables that it names. Other events concern no variable.
 pub fn shadow_events_concern_what_they_name()
     ensures added { concerns (ShadowAlloc (key_of 1 2) []) (key_of 1 2) ≡ true }
     ensures another { concerns (ShadowAlloc (key_of 1 2) []) (key_of 3 2) ≡ false }

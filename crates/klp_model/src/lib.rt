@@ -1,33 +1,36 @@
-//! The model: all events of the live patching manager, what each of them does, and what is proved of that.
+//! The model: all events of the live patching manager, what each of them does, and what is proved of the events.
 //!
-//! Only this crate defines what a step does. `specs/` has the state with its tasks, transitions and pins, the step
-//! of each event, its refusals, and runs of events. It builds on the image, the patches and the scripts of
-//! `klp_types`. Begin with `specs/State`, `Refusals`, `Step`, `EventCalls`, `Blocked`, `Allowed` and `Observed`.
-//! The code is four enums: [`Event`], [`Reply`], [`Refusal`] and [`Seen`].
+//! Only this crate defines what a step does. `specs/` has the state with its tasks, transitions and pins, the step of
+//! each event, its refusals, and runs of events. It builds on the image, the patches and the scripts of `klp_types`.
+//! Begin with `specs/State`, `Refusals`, `Step`, `EventCalls`, `Blocked`, `Allowed` and `Observed`. The code is four
+//! enums: [`Event`], [`Reply`], [`Refusal`] and [`Seen`].
 //!
 //! `laws` has what is proved of the definitions themselves:
 //! - when a site has an entry, how a function of a loaded object reads, and what the text depends on;
-//! - a run continues from the state in which the one before it ended;
+//! - a run may be cut anywhere, and its second part continues from the state in which the first one ended;
 //! - the opening state is allowed, and each step leads from an allowed state to an allowed state;
 //! - an event changes a shadow variable exactly as its callbacks or the shadow event do;
-//! - no case of a refusal holds of an accepted event, and a refused event leaves the state;
+//! - if no case of a refusal holds, the event is accepted, and a refused event doesn't change the state;
 //! - the accepted events of a list are a legal history, which leads to the same state as the whole list.
 //!
 //! `consistency` has what is promised to each task, for runs in which the calls of tasks are observed.
 //!
-//! `round_trip` has what holds of a patch that was enabled and is gone again. `specs/Company` defines a fair
-//! company of a patch: the events among which its callbacks undo each other, and the conditions at the start.
+//! `round_trip` has what holds of a patch that was enabled and has left again. `specs/Company` defines a fair company
+//! of a patch: the events among which the patch's callbacks undo each other, and the conditions at the start.
 //! `specs/Footprint` defines what is compared: loaded objects, text, entries, installed patches with their system
-//! states, pinned patches, and the variables that the patch's callbacks touch. `specs/Rounds` defines in which
-//! order callbacks run. Whenever the patch isn't installed, the footprint is that of the start, and the world is as
-//! if the patch had never been there. At every moment all other shadow variables are changed by shadow events
-//! alone. The round trip is in this crate, with the steps that it is about, so that a wrong step is refused by the
-//! theorem that needs the right one; `klp_core/specs/Withdrawal` makes it a clause of a call.
+//! states, pinned patches, and the variables that the patch's callbacks touch. `specs/Rounds` defines in which order
+//! callbacks run. Whenever the patch isn't installed, the footprint is that of the start, and the world is as if the
+//! patch had never been there. All other shadow variables are changed only by shadow events, at every moment. The round
+//! trip is in this crate, with the steps that it is about. So if a step were wrong, the theorem that needs the right
+//! step couldn't be proved here. `klp_core/specs/Withdrawal` makes the round trip a clause of a call.
 //!
-//! `examples` and `round_trip_examples` compute the definitions over a small kernel: callbacks at a reversal, at a
-//! refusal, and when a module is loaded and unloaded; who is blocked, pinned and replaced; what task events leave;
-//! why an event is refused, reason by reason, and what is accepted; and what is lost if a premise of the round trip
-//! doesn't hold. `allowed_examples` has states that are allowed, and for each condition a state that breaks it.
+//! `examples` and `round_trip_examples` compute the definitions for a small kernel:
+//! - callbacks at a reversal, at a refusal, and when a module is loaded and unloaded;
+//! - who is blocked, pinned and replaced, and what task events leave;
+//! - why an event is refused, reason by reason, and what is accepted;
+//! - what is lost if a premise of the round trip doesn't hold.
+//!
+//! `allowed_examples` has states that are allowed, and for each condition a state that breaks it.
 #![tactic(auto)]
 
 pub mod allowed_examples;

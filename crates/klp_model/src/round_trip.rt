@@ -1,4 +1,4 @@
-//! What is proved of a patch that is enabled and gone again. A function here does nothing: its contract is the law.
+//! What is proved of a patch that is enabled and has left again. A function here does nothing: its contract is the law.
 //! The premises are in `specs/Company`; `round_trip_examples` shows what is lost if some of them don't hold.
 ghost use Rattle.std.specs.Prelude.{◌≡◌, ℕ, ◌<◌, false, List, [], ◌∷◌, ◌++◌, Some};
 ghost use Rattle.std.specs.List.{find};
@@ -26,7 +26,7 @@ pub fn gone_without_a_trace()
 {}
 
 /// At every moment of a fair company, the shadow variables that the patch's callbacks don't touch are those of the
-/// start, changed by the shadow events alone. No callback of another patch runs, since no other patch is enabled or
+/// start, changed only by the shadow events. No callback of another patch runs, since no other patch is enabled or
 /// disabled.
 pub fn only_shadow_events_outside()
     ensures { (setting : Setting) (patch : ℕ) (start : State) (first second : List AnyEvent)
@@ -35,9 +35,9 @@ pub fn only_shadow_events_outside()
         → variable (run setting start first).world key ≡ variable (shadow_changes start.world first) key }
 {}
 
-/// Between two moments of a fair company at which the patch isn't installed, the callbacks of each object that
-/// takes part ran in one round for each enabling: pre-patch, then post-patch and pre-unpatch any number of times,
-/// then post-unpatch. So a callback can rely on its partner having run.
+/// Between two moments of a fair company at which the patch isn't installed, the callbacks of each object that takes
+/// part run in rounds, one for each enabling. A round is pre-patch, then post-patch and pre-unpatch any number of
+/// times, then post-unpatch. So a callback can rely on its partner having run.
 pub fn callbacks_in_rounds()
     ensures { (setting : Setting) (patch : ℕ) (start : State) (first second third : List AnyEvent)
         → IsFairCompany setting patch start (first ++ second ++ third)
@@ -47,8 +47,8 @@ pub fn callbacks_in_rounds()
         (enablings second) }
 {}
 
-/// The case of `callbacks_in_rounds` with one enabling, which is the common one. Between two moments of a fair
-/// company at which the patch isn't installed, the callbacks of each object that takes part ran in one round.
+/// The case of `callbacks_in_rounds` with one enabling, which is the most frequent. Between two moments of a fair
+/// company at which the patch isn't installed, the callbacks of each object that takes part run in one round.
 pub fn callbacks_of_one_round()
     ensures { (setting : Setting) (patch : ℕ) (start : State) (first second third : List AnyEvent)
         → IsFairCompany setting patch start (first ++ second ++ third)
@@ -58,8 +58,8 @@ pub fn callbacks_of_one_round()
         → RanOneRound (taking_part setting start patch) (callbacks_of_run setting (run setting start first) second) }
 {}
 
-/// If an object refuses, each enabling runs its pre-patch callback, no other callback of it, and none of the
-/// objects after it. So a pre-patch that fails has to clean up after itself.
+/// If an object refuses, each enabling runs only the pre-patch callback of that object, and no callback of the objects
+/// after it. So a pre-patch that fails has to clean up after itself.
 pub fn callbacks_of_the_object_that_refuses()
     ensures refusing { (setting : Setting) (patch : ℕ) (start : State) (first second third : List AnyEvent)
         → IsFairCompany setting patch start (first ++ second ++ third)
@@ -73,8 +73,8 @@ pub fn callbacks_of_the_object_that_refuses()
         → kinds_for place (callbacks_of_run setting (run setting start first) second) ≡ [] }
 {}
 
-/// If the patch isn't installed at the end of a fair company, the footprint is that of the start. A call that makes
-/// a list of events, all of them accepted, promises this.
+/// If the patch isn't installed at the end of a fair company, the footprint is that of the start. A function that makes
+/// a list of events promises this if all of them are accepted.
 pub fn gone_at_the_end()
     ensures { (setting : Setting) (patch : ℕ) (start : State) (events : List AnyEvent)
         → IsFairCompany setting patch start events
@@ -82,9 +82,9 @@ pub fn gone_at_the_end()
         → SameFootprint setting (company_keys setting start patch) (run setting start events) start }
 {}
 
-/// What a run of any events promises at its end, if those that aren't refused are a fair company of a patch. If the
-/// patch isn't installed, the footprint is that of the start. The shadow variables that the patch's callbacks don't
-/// touch are changed by shadow events alone.
+/// What a run of any events promises at its end, if its accepted events are a fair company of a patch. If the patch
+/// isn't installed then, the footprint is that of the start. The shadow variables that the patch's callbacks don't
+/// touch are changed only by shadow events.
 pub fn at_the_end_of_a_run()
     ensures footprint { (setting : Setting) (patch : ℕ) (start : State) (events : List AnyEvent)
         → IsFairCompany setting patch start (accepted_events setting start events)
@@ -98,8 +98,8 @@ pub fn at_the_end_of_a_run()
 {}
 
 /// Whenever the patch isn't installed during a fair company, the world is as if the patch had never been there: the
-/// world of the start, changed by the shadow events. This says more than the footprint alone, since shadow events
-/// may happen meanwhile.
+/// world of the start, changed by the shadow events. This says more than the footprint, since shadow events may happen
+/// during the company.
 pub fn as_if_it_had_never_been()
     ensures { (setting : Setting) (patch : ℕ) (start : State) (first second : List AnyEvent)
         → IsFairCompany setting patch start (first ++ second)

@@ -1,5 +1,6 @@
-//! Worked examples: fair companies exist, so the laws aren't empty; and what is lost if a premise doesn't hold. A
-//! function here does nothing: its contract is the example, and it is proved by computing the definition.
+//! Worked examples. Some show that fair companies exist, so that the laws aren't empty. Others show what is lost if a
+//! premise doesn't hold. A function here does nothing: its contract is the example, and it is proved by computing the
+//! definition.
 ghost use Rattle.std.specs.Prelude.{◌≡◌, pos, true, false, [], ◌∷◌, find, is_some, Some, None};
 ghost use Rattle.klp_types.specs.declared.callback.Which.TheVariants.{Pre, Post, PreUn, PostUn};
 ghost use Rattle.klp_types.specs.World.{variable};
@@ -20,17 +21,17 @@ ghost use Rattle.klp_model.specs.RoundTripExamples.{own_variable_first, refusing
 ghost use Rattle.klp_model.specs.RoundTripExamples.{with_five, there_and_back, freeing};
 
 /// A fair company with every stage: a cumulative patch is enabled, blocked by a sleeper, reversed twice, completed,
-/// disabled, waited for and gone; in between a variable that isn't the patch's is added. So the laws hold of all
-/// these stages.
+/// disabled, polled until it completes, and gone. Meanwhile a variable is added that the patch doesn't touch. So the
+/// laws cover all these stages.
 pub fn a_fair_company_goes_through_every_stage()
     ensures allowed { Allowed adding with_a_sleeper }
     ensures fair { IsFairCompany adding 0 with_a_sleeper every_stage }
     ensures gone { is_installed (run adding with_a_sleeper every_stage) 0 ≡ false }
 {}
 
-/// A variable that the patch's callbacks touch exists before the patch is enabled. Pre-patch leaves it,
-/// post-unpatch removes it, and so it is lost. This company isn't fair: the event that adds the variable concerns a
-/// variable of the patch's callbacks, and after that event the callbacks don't undo each other.
+/// A variable that the patch's callbacks touch exists before the patch is enabled. Pre-patch leaves it as it is, and
+/// post-unpatch removes it, so it is lost. This company isn't fair for two reasons: the event that adds the variable
+/// concerns a variable of the patch's callbacks, and after that event the callbacks don't undo each other.
 pub fn a_variable_that_was_there_is_lost()
     ensures gone { is_installed (run adding bare own_variable_first) 0 ≡ false }
     ensures lost { variable (run adding bare own_variable_first).world (key_of 1 9) ≡ None }
@@ -41,9 +42,9 @@ pub fn a_variable_that_was_there_is_lost()
         (taking_part adding bare 0) → ⊥ }
 {}
 
-/// Two objects whose callbacks share a variable. Those of each object undo each other, but the variable is changed
-/// when the patch is gone, because the objects are cleaned up in the order in which they were set up, not in
-/// reverse.
+/// Two objects whose callbacks share a variable. The callbacks of each object undo each other, and yet the variable is
+/// changed when the patch is gone. The reason is that objects are cleaned up in the order in which they were set up,
+/// not in reverse.
 pub fn objects_that_share_a_variable_leave_a_trace()
     ensures undone { EachUndoes 0 with_five.world (taking_part sharing with_five 0) }
     ensures before { variable with_five.world (key_of 1 1) ≡ Some (value_of 5) }
@@ -68,8 +69,8 @@ pub fn variables_of_each_callback_count()
     ensures another { object_touches (key_of 2 9) (0, freeing Pre) ≡ false }
 {}
 
-/// What a footprint shows: which modules are loaded, which patches are installed, in which order and with which
-/// values, which are pinned, and the values of the variables.
+/// What a footprint shows: the loaded modules, the installed patches in their order with the values of their states,
+/// the pinned patches, and the values of the variables.
 pub fn a_footprint_shows_each_trace()
     ensures module { SameFootprint small_kernel (λ key. false) (state_with true [] None []) (state_with false [] None []) → ⊥ }
     ensures order { SameFootprint small_kernel (λ key. false) (state_with true (0 ∷ 2 ∷ []) None [])
@@ -83,8 +84,8 @@ pub fn a_footprint_shows_each_trace()
 {}
 
 /// What isn't fair to a patch: events of other patches and of modules, a force, a change of a variable of its
-/// callbacks, an event that is refused, and a replacement of older patches. Nor is a start at which there is a
-/// transition, or at which the patch is installed.
+/// callbacks, an event that is refused, and a replacement of older patches. It isn't fair either if there is a
+/// transition at the start, or if the patch is installed at the start.
 pub fn these_companies_are_unfair()
     ensures another { IsOfCompany 0 (λ key. false) (Enable 1) → ⊥ }
     ensures another_disabled { IsOfCompany 0 (λ key. false) (SetEnabled 1 false) → ⊥ }

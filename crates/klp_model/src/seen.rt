@@ -1,8 +1,8 @@
 use crate::event::Event;
 use klp_types::{Site, TaskId};
 
-/// What is observed of a running kernel: an event, or a call or return of a task between events. Calls and returns
-/// change only what the task is inside of.
+/// What is observed of a running kernel: an event, or a call or return of a task between events. A call or return
+/// changes only which functions the task is inside of.
 #[derive(Clone, Copy)]
 pub enum Seen {
     /// An event is given to the manager, which accepts or refuses it.

@@ -7,10 +7,10 @@ pub enum SymbolFault {
     /// No symbol of the object has the name, whatever the position.
     #[error("Missing")]
     Missing = 1,
-    /// Several symbols have the name, and the position is 0, which means the only one.
+    /// Several symbols have the name, but the position is 0, which means the only one.
     #[error("Ambiguous")]
     Ambiguous = 2,
-    /// Fewer symbols have the name than the position says. Positions count from 1, as in kallsyms.
+    /// The position is greater than the number of symbols with the name. Positions count from 1, as in kallsyms.
     #[error("NoPosition")]
     NoPosition = 3,
 }

@@ -20,8 +20,8 @@ use std::mem::replace;
 
 /// The names of all objects and symbols, loaded or not, and which objects are loaded.
 ///
-/// Each name is stored once, in a table by which it is found. A look-up then walks over the objects, of which there are
-/// few, or over the symbols of that name. Only `new` takes memory.
+/// Each name is stored once, in a table that a look-up searches. The look-up then walks over the objects, of which
+/// there are few, or over the symbols of that name. Only `new` takes memory.
 #[derive(Drop)]
 pub struct Modules {
     /// Every name of an object or a symbol. A name's index in this set is its number.
@@ -48,8 +48,8 @@ impl Model for Modules {
 }
 
 impl Modules {
-    /// Makes the names of an image, and all tables. Only object 0 is loaded. It compares each symbol with those
-    /// before it in its object. `Err` if memory is refused.
+    /// Makes the names of an image, and all tables. Only object 0 is loaded then. The call compares each symbol with
+    /// those before it in its object. Returns `Err` if memory is refused.
     pub fn new(alloc: Global, image: &Image) -> Result<Modules, AllocError>
         ensures { IfOk result (λ modules. modules ≡ opening image.now.image.objects) }
     {
@@ -65,8 +65,8 @@ impl Modules {
         })
     }
 
-    /// Returns the number of the object with this name, the first if several have it. `None` if there is none. It
-    /// takes a look-up, and a walk over the objects, of which there are few.
+    /// Returns the number of the object with this name, or of the first such object if there are several. Returns
+    /// `None` if there is none. The cost is one look-up, and a walk over the objects, of which there are few.
     pub fn object(&self, name: &str) -> Option<ObjId>
         ensures { result ≡ object_named self.now.names name.now }
     {
@@ -77,7 +77,7 @@ impl Modules {
         Some(ObjId(place as u8))
     }
 
-    /// Returns the name of an object. `None` if there is no such object.
+    /// Returns the name of an object. Returns `None` if there is no such object.
     pub fn object_name(&self, object: ObjId) -> Option<&str>
         ensures { option_map (λ name. name.now) result
             ≡ option_map (λ (found : ObjectNames). found.name) (slice_get self.now.names object) }
@@ -86,7 +86,7 @@ impl Modules {
         Some(text(&self.names, object.name))
     }
 
-    /// Returns how many symbols an object has. `None` if there is no such object.
+    /// Returns how many symbols an object has. Returns `None` if there is no such object.
     pub fn symbols(&self, object: ObjId) -> Option<u16>
         ensures { result ≡ option_map (λ (found : ObjectNames). length found.symbols)
             (slice_get self.now.names object) }
@@ -116,8 +116,8 @@ impl Modules {
         Record::LoadedFlag { object, was }
     }
 
-    /// Restores the loaded flag that the record names. A record of another kind changes nothing, nor does one of an
-    /// object that doesn't exist.
+    /// Restores the loaded flag that the record names. Nothing changes if the record is of another kind, or if its
+    /// object doesn't exist.
     pub fn put_back(&mut self, row: Record)
         ensures { self.new ≡ put_back self.old row }
     {
@@ -128,11 +128,11 @@ impl Modules {
         }
     }
 
-    /// Returns the site of the symbol that a name and a position pick in an object, loaded or not. Position 0 means
-    /// the only symbol of that name, and n the n-th in the object's order (livepatch, Metadata). `Err` says why no
-    /// symbol is picked; if there is no such object, that is `Missing`.
+    /// Returns the site of the symbol that a name and a position pick in an object, loaded or not. Position 0 picks the
+    /// only symbol of that name, and n the n-th in the object's order (livepatch, Metadata). If no symbol is picked,
+    /// returns the reason as `Err`: `Missing` if there is no such object.
     ///
-    /// It takes a look-up, and a walk over the symbols of that name alone.
+    /// The cost is one look-up, and a walk over the symbols of that name.
     pub fn resolve(&self, object: ObjId, name: &str, position: u32) -> Result<Site, SymbolFault>
         ensures { result ≡ resolved self.now.names object name.now position }
     {
@@ -145,8 +145,9 @@ impl Modules {
         pick(sites, object, position)
     }
 
-    /// Returns the symbol of a site: its object, its name, and its position, from 1, among the symbols of that name
-    /// in the object. `None` if there is no such site. It needs no look-up by name: a table has each site's symbol.
+    /// Returns the symbol of a site: its object, its name, and its position, from 1, among the symbols of that name in
+    /// the object. Returns `None` if there is no such site. It needs no look-up by name: a table has each site's
+    /// symbol.
     pub fn symbol(&self, site: Site) -> Option<(ObjId, &str, u32)>
         ensures object { option_map (λ found. found.0) result
             ≡ option_map (λ (s : Named). s.object) (symbol_at_site self.now.names site) }
@@ -172,7 +173,7 @@ fn text(names: &IndexSet<String>, number: usize) -> &str
     names.as_slice()[number].as_str()
 }
 
-/// Returns the place of the first object whose name has this number. `None` if there is none.
+/// Returns the index of the first object whose name has this number. Returns `None` if there is none.
 fn place_of(objects: &[NumberedObject], name: usize) -> Option<usize>
     ensures { result ≡ position (λ (object : NumberedObjectValue). object.name == name) objects.now }
 {
@@ -190,7 +191,7 @@ fn name_count(image: &Image) -> usize
     count
 }
 
-/// Returns the set of all names of an image, and its objects, in which each name is a number in that set.
+/// Returns the set of all names of an image, and the image's objects with numbers in that set in place of names.
 fn numbered_objects(
     alloc: Global,
     image: &Image,
@@ -225,7 +226,7 @@ fn numbered(
     Ok(NumberedObject { name, symbols })
 }
 
-/// Returns the number of a name. Adds the name to the set if it isn't there.
+/// Returns the number of a name. If the name isn't in the set yet, adds it.
 fn number_of(alloc: Global, names: &mut IndexSet<String>, name: &str) -> Result<usize, AllocError>
     ensures { IfOk result (λ number. AddsName (texts_of names.old.keys) (texts_of names.new.keys) name.now number) }
 {

@@ -6,17 +6,19 @@ use crate::fault::SymbolFault;
 use klp_types::{ObjId, Site};
 use smallvec::SmallVec;
 
-/// A symbol of a name: its object, and its site.
+/// One of the symbols that have the same name: its object, and its site.
 #[derive(Clone, Copy, Default)]
 pub struct NamedSite {
     pub object: ObjId,
     pub site: Site,
 }
 
-/// The symbols of a name, of all objects in order. Few names have a second one, for which memory is taken.
+/// The symbols that have the same name, of all objects in order. Only a second symbol takes memory, and few names have
+/// one.
 pub type NamedSites = SmallVec<NamedSite, 1>;
 
-/// Returns the site of one of the object's symbols, which are counted from 0. `None` if it has fewer.
+/// Returns the site of the object's symbol with this number, counted from 0 over the object's symbols in the list.
+/// Returns `None` if the object has fewer.
 fn site_of(sites: &[NamedSite], object: ObjId, number: usize) -> Option<Site>
     ensures { result ≡ slice_get (sites_of object sites.now) number }
 {
@@ -32,7 +34,7 @@ fn site_of(sites: &[NamedSite], object: ObjId, number: usize) -> Option<Site>
     None
 }
 
-/// Picks one of the object's symbols by its position: 0 means the only one, n the n-th.
+/// Picks one of the object's symbols by its position: 0 picks the only symbol, and n the n-th.
 pub fn pick(sites: &[NamedSite], object: ObjId, position: u32) -> Result<Site, SymbolFault>
     ensures { result ≡ picked (sites_of object sites.now) position }
 {

@@ -1,4 +1,4 @@
-//! The tables for look-ups. Each is made once, from the objects, since these never change.
+//! The tables for look-ups. Each table is made once from the objects, which never change.
 
 ghost use Rattle.std.specs.Prelude.{◌≡◌, ◌+◌, ◌≤◌, ◌<◌, ◌++◌, ◌==◌, [], length, count_by, IfOk, OnOk};
 ghost use Rattle.klp_types.specs.declared.limits.TheConstants.{MAX_OBJECTS, MAX_SITES};
@@ -22,7 +22,7 @@ pub struct Tables {
 }
 
 impl Tables {
-    /// Makes the tables for these objects, whose names are numbers below `names`. `Err` if memory is refused.
+    /// Makes the tables for these objects, whose names are numbers below `names`. Returns `Err` if memory is refused.
     pub fn new(
         alloc: Global,
         names: usize,
@@ -39,7 +39,7 @@ impl Tables {
     }
 }
 
-/// Makes a list for each of so many names, without a symbol.
+/// Makes `names` empty lists, one for each name.
 fn without_sites(alloc: Global, names: usize) -> Result<Vec<NamedSites>, AllocError>
     ensures count { IfOk result (λ sites. length sites.items ≡ names) }
     ensures sites { IfOk result (λ sites. HasSites [] sites.items) }
@@ -51,8 +51,8 @@ fn without_sites(alloc: Global, names: usize) -> Result<Vec<NamedSites>, AllocEr
     Ok(sites)
 }
 
-/// Makes a list for each of so many names: its symbols, of all objects in order. The names of the symbols are among
-/// them.
+/// Makes `names` lists, one for each name. A list has the symbols of its name, of all objects in order. Each symbol's
+/// name must be a number below `names`.
 fn sites_by_name(
     alloc: Global,
     names: usize,
@@ -73,7 +73,7 @@ fn sites_by_name(
     Ok(sites)
 }
 
-/// Makes a table with the symbol of each site. An administrator names a site by its symbol.
+/// Makes a table with the symbol of each site. It is needed because an administrator names a site by its symbol.
 fn symbols_by_site(
     alloc: Global,
     objects: &[NumberedObject],
@@ -110,8 +110,8 @@ fn add_symbols(
     Ok(())
 }
 
-/// Returns how many of the symbols have the name with this number. If the symbols end with one of that name, this is
-/// its position, from 1.
+/// Returns how many of the symbols have the name with this number. If the last of the symbols has it, this is the last
+/// symbol's position, from 1.
 fn count(symbols: &[usize], number: usize) -> usize
     ensures { result ≡ count_by (λ other. other == number) symbols.now }
 {

@@ -6,25 +6,25 @@ use std::alloc::{AllocError, AllocFailed};
 use std::{error, fmt};
 use thiserror::Error;
 
-/// What is wrong with a line of a text of names. If a line has several faults, the first of these is reported, except
-/// that `NoMemory` may replace any.
+/// What is wrong with a line of a text of names. If a line has several faults, the first of these is reported.
+/// `NoMemory` may be reported in place of any of them.
 #[derive(Clone, Copy, Debug, PartialEq, Eq)]
 pub enum NamesFaultKind {
     /// The line begins neither with `task` nor with `line`.
     UnknownWord,
-    /// A task's number isn't one from 0 to 63.
+    /// A task's number isn't a number from 0 to 63.
     BadTask,
-    /// A name has no byte, more than 64 bytes, or a control character.
+    /// A name is empty, has more than 64 bytes, or has a control character.
     BadName,
-    /// A line's number isn't one from 1 on.
+    /// A line's number isn't a number from 1 on.
     BadLine,
     /// A time isn't seconds with up to six decimals.
     BadTime,
     /// The line names a task that has a name already.
     NamedTwice,
-    /// A line gets a time after a later line got one, or a second time.
+    /// A line gets a time although this line or a later one already has a time.
     LineFalls,
-    /// A line is earlier than the one before it.
+    /// A line's time is earlier than that of the line before which has a time.
     TimeFalls,
     NoMemory,
 }
@@ -58,7 +58,7 @@ impl<T: Drop> From<AllocFailed<T>> for NamesFaultKind {
 #[derive(Clone, Copy, Debug, PartialEq, Eq, Error)]
 #[error("line {line}: {kind}")]
 pub struct NamesFault {
-    /// Counted from 1.
+    /// The number of the line, counted from 1.
     pub line: u64,
     pub kind: NamesFaultKind,
 }

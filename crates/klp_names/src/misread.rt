@@ -1,4 +1,4 @@
-//! What is wrong with a line of a text of names, for people.
+//! The message for people on a faulty line of a text of names.
 
 use crate::fault::{NamesFault, NamesFaultKind};
 use klp_words::cut;
@@ -11,7 +11,7 @@ const SHOWN: usize = 64;
 /// 63`. It has no contract.
 #[derive(Clone, Copy)]
 pub struct Misread<'a> {
-    /// What the file is called.
+    /// The name of the file.
     pub file: &'a str,
     pub text: &'a [u8],
     pub fault: NamesFault,
@@ -57,8 +57,8 @@ fn shown(word: &[u8]) -> &[u8] {
     word.get(..SHOWN).unwrap_or(word)
 }
 
-/// Writes text, with an escape for each character that drives a terminal or isn't printable, and for bytes that aren't
-/// UTF-8.
+/// Writes text, with an escape for each character that controls a terminal or isn't printable, and for bytes that
+/// aren't UTF-8.
 fn write_escaped<W: fmt::Write>(f: &mut fmt::Formatter<W>, word: &[u8]) -> fmt::Result {
     for chunk in word.utf8_chunks() {
         for c in chunk.valid().chars() {

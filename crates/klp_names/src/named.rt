@@ -5,7 +5,7 @@ use klp_types::TaskId;
 use std::alloc::{AllocError, Global};
 use std::marker::Model;
 
-/// A task and what it is called.
+/// A task and its name.
 #[derive(Drop)]
 pub(crate) struct Named {
     task: TaskId,
@@ -21,7 +21,7 @@ impl Model for Named {
 }
 
 impl Named {
-    /// Returns a task with a copy of this name. `Err` if memory runs out.
+    /// Returns a task with a copy of this name. Returns `Err` if memory runs out.
     pub(crate) fn new(alloc: Global, task: TaskId, name: &[u8]) -> Result<Named, AllocError>
         ensures { IfOk result (λ named. named ≡ record { task = task; name = name.now }) }
     {
@@ -31,7 +31,7 @@ impl Named {
         })
     }
 
-    /// Whether this is the name of that task.
+    /// Whether this is the name of `task`.
     pub(crate) fn is_of(&self, task: TaskId) -> bool
         ensures { result ≡ (self.now.task == task) }
     {

@@ -10,7 +10,8 @@ use klp_types::TaskId;
 use std::alloc::Global;
 use std::marker::Model;
 
-/// What an observer knows of a run beside its lines: the names of tasks, and the times of lines. It may be nothing.
+/// What an observer knows of a run in addition to its lines: the names of tasks, and the times of lines. It may be
+/// empty.
 #[derive(Drop)]
 pub struct Names {
     named: Vec<Named>,
@@ -28,7 +29,7 @@ impl Model for Names {
 }
 
 impl Names {
-    /// Returns names that say nothing: no task has a name, no line a time. Takes no memory.
+    /// Returns an empty value: no task has a name, and no line has a time. Takes no memory.
     pub fn new(alloc: Global) -> Names
         ensures { result ≡ nothing_known }
     {
@@ -38,7 +39,7 @@ impl Names {
         }
     }
 
-    /// Returns the name of a task. `None` if it isn't known.
+    /// Returns the name of a task. Returns `None` if it isn't known.
     pub fn name(&self, task: TaskId) -> Option<&[u8]>
         ensures { option_map (λ name. name.now) result ≡ name_of self.now.named task }
     {
@@ -50,7 +51,7 @@ impl Names {
         None
     }
 
-    /// Returns the time of a line in microseconds, by a binary search. `None` if it isn't known.
+    /// Returns the time of a line in microseconds, by a binary search. Returns `None` if it isn't known.
     pub fn time(&self, line: u64) -> Option<u64>
         ensures { result ≡ time_of self.now.timed line }
     {
@@ -60,7 +61,8 @@ impl Names {
         }
     }
 
-    /// Returns the index of this line's time; as an `Err`, the index where it would have to be inserted.
+    /// Returns the index of this line's time. If the line has no time, returns as `Err` the index at which one would
+    /// have to be inserted.
     fn place_of(&self, line: u64) -> Result<usize, usize>
         ensures found { IfOk result (IsAt self.now.timed line) }
         ensures absent { IfErr result (IsGapFor self.now.timed line) }
@@ -68,8 +70,8 @@ impl Names {
         self.timed.binary_search_by_key(&line, |timed| timed.line)
     }
 
-    /// Returns the duration, in microseconds, of something that was so after the lines from `from` to `to`. It ended
-    /// with the line after `to`. `None` if it hasn't ended, or if a time isn't known.
+    /// Returns how long something lasted, in microseconds. It was so after each line from `from` to `to`, and ended
+    /// with the line after `to`. Returns `None` if it hasn't ended, or if a time isn't known.
     pub fn lasted(&self, from: u64, to: Option<u64>) -> Option<u64>
         ensures { result ≡ lasted self.now.timed from to }
     {
@@ -79,7 +81,8 @@ impl Names {
         Some(end.saturating_sub(begin))
     }
 
-    /// Returns how many microseconds after the first known time a line was. `None` if the line's time isn't known.
+    /// Returns the time of a line, in microseconds since the first known time. Returns `None` if the line's time isn't
+    /// known.
     pub fn since_start(&self, line: u64) -> Option<u64>
         ensures { result ≡ since_start self.now.timed line }
     {
@@ -95,7 +98,7 @@ impl Names {
         !self.timed.is_empty()
     }
 
-    /// Adds the name of a task. `Err` if the task has a name, or if memory runs out: then nothing is added.
+    /// Adds the name of a task. If the task already has a name, or if memory runs out, returns `Err` and adds nothing.
     pub(crate) fn add_name(&mut self, task: TaskId, name: &[u8]) -> Result<(), NamesFaultKind>
         ensures { IsOutcome self.old (with_name self.old task name.now) self.new result }
     {
@@ -107,8 +110,8 @@ impl Names {
         Ok(())
     }
 
-    /// Adds the time of a line, in microseconds. `Err` if the line isn't after the last line with a time, if its time
-    /// is before that line's, or if memory runs out: then nothing is added.
+    /// Adds the time of a line, in microseconds. The line must come after the last line with a time, and the time
+    /// mustn't be earlier than that line's. Otherwise, or if memory runs out, returns `Err` and adds nothing.
     pub(crate) fn add_time(&mut self, line: u64, at: u64) -> Result<(), NamesFaultKind>
         ensures { IsOutcome self.old (with_time self.old line at) self.new result }
     {

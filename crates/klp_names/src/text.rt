@@ -1,4 +1,4 @@
-//! Reading a text of names, a line each.
+//! Reading a text of names, line by line.
 ghost use Rattle.std.specs.Prelude.{◌≡◌, Ok, IfOk, IfErr};
 ghost use Rattle.std.specs.Char.{is_ascii_control};
 ghost use Rattle.std.specs.List.{list_any};
@@ -29,7 +29,7 @@ pub(crate) fn is_task_name(word: &[u8]) -> bool
     !word.is_empty() && word.len() <= MAX_TASK_NAME && !has_control(word)
 }
 
-/// Reads the number of a task. `None` if it isn't a number from 0 to 63.
+/// Reads the number of a task. Returns `None` if it isn't a number from 0 to 63.
 pub(crate) fn task_of(word: &[u8]) -> Option<TaskId>
     ensures { result ≡ task_of word.now }
 {
@@ -41,7 +41,7 @@ pub(crate) fn task_of(word: &[u8]) -> Option<TaskId>
     }
 }
 
-/// Reads the number of a line. `None` if it isn't a number from 1 on.
+/// Reads the number of a line. Returns `None` if it isn't a number from 1 on.
 pub(crate) fn line_of(word: &[u8]) -> Option<u64>
     ensures { result ≡ line_of word.now }
 {
@@ -92,8 +92,8 @@ impl Names {
         }
     }
 
-    /// Reads the text of a file of names, in time linear in its length. `Err` with the first faulty line, if there is
-    /// one, or if memory runs out.
+    /// Reads the text of a file of names, in time linear in its length. If a line is faulty or memory runs out, returns
+    /// `Err` with the first such line.
     pub fn read(alloc: Global, text: &[u8]) -> Result<Names, NamesFault>
         ensures names { IfOk result (λ names. names_of text.now ≡ Ok names) }
         ensures fault { IfErr result (λ fault. IsFaultOf text.now fault.line fault.kind) }

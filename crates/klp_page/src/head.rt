@@ -1,4 +1,4 @@
-//! What stands above the rows of a page, and below them.
+//! What stands on a page above its rows, and below them.
 ghost use Rattle.std.specs.Prelude.{◌≡◌, [], ◌++◌, codes, count_by, Some, if◌then◌else◌};
 ghost use Rattle.std.specs.Fmt.{decimal};
 ghost use Rattle.klp_markup.specs.Adds.{Adds};
@@ -17,8 +17,8 @@ use klp_names::Names;
 use klp_story::{add_end, add_story};
 use klp_timeline::{Fact, Said, Sentence, View};
 
-/// What the head of a page says: the names of the run and of the tasks, how many lines there were and were refused,
-/// how many transitions started, and whether one is still under way.
+/// What the head of a page says: the name of the run and the names of tasks; how many lines there were, and how many of
+/// these were refused; how many transitions started, and whether one is still under way.
 #[derive(Clone, Copy)]
 pub(crate) struct Title<'a> {
     pub name: &'a [u8],
@@ -29,12 +29,12 @@ pub(crate) struct Title<'a> {
     pub refused: u64,
     pub transitions: u64,
     pub is_moving: bool,
-    /// `None` for a page of a script.
+    /// How the kernel compares with the rules. `None` for a page of a script.
     pub differing: Option<Differing>,
 }
 
-/// At how many rows of a trace the kernel differs from the rules, and the number of the first of these rows; 0 if it
-/// differs at none.
+/// At how many rows of a trace the kernel differs from the rules, and the number of the first such row. The number is 0
+/// if there is no such row.
 #[derive(Clone, Copy)]
 pub struct Differing {
     pub rows: u64,
@@ -48,7 +48,7 @@ fn is_start(sentence: &Sentence) -> bool
     matches!(sentence.said, Said::Did(Fact::Starts(_)))
 }
 
-/// Returns how many transitions started, by these sentences.
+/// Returns how many of these sentences report the start of a transition.
 pub(crate) fn transitions(sentences: &[Sentence]) -> u64
     ensures { result ≡ count_by is_start sentences.now }
 {
@@ -61,7 +61,7 @@ pub(crate) fn transitions(sentences: &[Sentence]) -> u64
     count as u64
 }
 
-/// Adds a number, and the singular or the plural of what it counts.
+/// Adds a number, and behind it the name of what it counts: `one` for 1, `many` for any other number.
 fn add_count(sheet: &mut Sheet, count: u64, one: &'static str, many: &'static str)
     ensures { Adds sheet.old sheet.new (count_text count one.now many.now) }
 {
@@ -70,7 +70,7 @@ fn add_count(sheet: &mut Sheet, count: u64, one: &'static str, many: &'static st
     sheet.markup(if count == 1 { one } else { many });
 }
 
-/// Adds how many lines were refused. Adds nothing if none was.
+/// Adds the number of refused lines. Adds nothing if no line was refused.
 fn add_refusals(sheet: &mut Sheet, count: u64)
     ensures { Adds sheet.old sheet.new (refusals_text count) }
 {
@@ -81,7 +81,7 @@ fn add_refusals(sheet: &mut Sheet, count: u64)
     }
 }
 
-/// Adds that a transition is still under way, if one is.
+/// Adds the words that say that a transition is still under way. Adds nothing if none is.
 fn add_under_way(sheet: &mut Sheet, is_moving: bool)
     ensures { Adds sheet.old sheet.new (if is_moving then codes ", one still under way" else []) }
 {
@@ -105,7 +105,7 @@ fn add_title(sheet: &mut Sheet, title: &Title<'_>)
     add_under_way(sheet, title.is_moving);
 }
 
-/// Adds the style of rows with times, if any time is known.
+/// Adds the style of rows with times. Adds nothing if no time is known.
 fn add_timed_style(sheet: &mut Sheet, names: &Names)
     ensures { Adds sheet.old sheet.new (timed_style names.now) }
 {
@@ -115,7 +115,7 @@ fn add_timed_style(sheet: &mut Sheet, names: &Names)
     }
 }
 
-/// Adds the style of a trace, if the page is of one.
+/// Adds the style of a trace's page. Adds nothing to a page of a script.
 fn add_trace_style(sheet: &mut Sheet, differing: &Option<Differing>)
     ensures { Adds sheet.old sheet.new (trace_style differing.now) }
 {
@@ -125,7 +125,7 @@ fn add_trace_style(sheet: &mut Sheet, differing: &Option<Differing>)
     }
 }
 
-/// Adds the style of the page, of its drawing and of its cards.
+/// Adds the style of the page, and those of its drawing and its cards.
 fn add_style(sheet: &mut Sheet, names: &Names, differing: &Option<Differing>)
     ensures { Adds sheet.old sheet.new (style_text names.now differing.now) }
 {
@@ -149,7 +149,8 @@ fn add_first(sheet: &mut Sheet, first: u64)
     sheet.markup(FIRST_END);
 }
 
-/// Adds at how many rows the kernel differs from the rules, if it does at one, with a link to the first.
+/// Adds the number of rows at which the kernel differs from the rules, with a link to the first. Adds nothing if there
+/// is no such row.
 fn add_different(sheet: &mut Sheet, differing: Differing)
     ensures { Adds sheet.old sheet.new (different_text differing) }
 {
@@ -159,7 +160,7 @@ fn add_different(sheet: &mut Sheet, differing: Differing)
     add_first(sheet, differing.first);
 }
 
-/// Adds at how many rows the kernel differs from the rules, or that it does at none.
+/// Adds the sentence that says at how many rows the kernel differs from the rules, or that it agrees with them.
 fn add_differing(sheet: &mut Sheet, differing: Differing)
     ensures { Adds sheet.old sheet.new (compared_text (Some differing)) }
 {
@@ -171,7 +172,7 @@ fn add_differing(sheet: &mut Sheet, differing: Differing)
     }
 }
 
-/// Adds how the kernel of a trace compares with the rules. Adds nothing to a page of a script.
+/// Adds the sentence that compares the kernel of a trace with the rules. Adds nothing to a page of a script.
 fn add_compared(sheet: &mut Sheet, differing: &Option<Differing>)
     ensures { Adds sheet.old sheet.new (compared_text differing.now) }
 {
@@ -193,7 +194,7 @@ fn add_opening(sheet: &mut Sheet, title: &Title<'_>)
     sheet.markup(STYLE_END);
 }
 
-/// Returns the number of lines if there is at least one and each was refused, else `None`.
+/// Returns the number of lines if all of them were refused. Returns `None` if one wasn't, or if there is no line.
 fn all_refused(title: &Title<'_>) -> Option<u64>
     ensures { result ≡ all_refused title.now }
 {
@@ -204,7 +205,7 @@ fn all_refused(title: &Title<'_>) -> Option<u64>
     }
 }
 
-/// Adds the beginning of the document, how the run ends, and the title once more, above the sentences.
+/// Adds what stands above the sentences: the beginning of the document, how the run ends, and the title once more.
 pub(crate) fn add_front(
     sheet: &mut Sheet,
     title: &Title<'_>,

@@ -1,4 +1,4 @@
-//! The layout of a page: the drawing, and what an open row shows.
+//! The parts of a page that are layout: the drawing, and what an open row shows.
 
 use klp_catalog_text::Plan;
 use klp_console::Outcome;
@@ -17,7 +17,7 @@ pub struct Cards {
     pub is_open: bool,
 }
 
-/// The state of the drawing and the cards, which have no contract, while a run is served line by line.
+/// The state of the drawing and of the cards while a run is served line by line. Neither has a contract.
 #[derive(Drop)]
 pub struct Layout<'a> {
     names: &'a Names,
@@ -26,14 +26,14 @@ pub struct Layout<'a> {
     lines: u64,
 }
 
-/// Whether a row is open at first: a patch, a transition or a callback did something, or the line did something that
-/// the state doesn't show.
+/// Whether a row is open at first. It is if a patch, a transition or a callback did something. It also is if the line
+/// did something that can't be seen in the state.
 fn stands_open(parts: &RowParts, act: &Option<Fact>) -> bool {
     parts.patches || parts.callbacks || act.is_some()
 }
 
 impl<'a> Layout<'a> {
-    /// Returns the layout of a run before its first line. Takes no memory.
+    /// Returns the layout of a run before its first line. Allocates no memory.
     pub fn new(alloc: Global, names: &'a Names) -> Layout<'a> {
         Layout {
             names,
@@ -48,14 +48,14 @@ impl<'a> Layout<'a> {
         self.chronicle.watch(plan)
     }
 
-    /// Prepares for each patch, task and site of a manager that was just booted. `Err` if memory runs out.
+    /// Makes room for each patch, task and site of a manager that was just booted. `Err` if memory runs out.
     pub fn open(&mut self, manager: &Manager) -> Result<(), AllocError> {
         self.chronicle.open(manager)?;
         self.bars.open()
     }
 
-    /// Updates the drawing with a line, and returns the line's cards. The cards are empty for a line that neither
-    /// caused nor undid an event. `Err` if memory runs out.
+    /// Updates the drawing with a line, and returns the line's cards. There are none if the line neither did nor undid
+    /// an event. `Err` if memory runs out.
     pub fn see(
         &mut self,
         alloc: Global,
@@ -82,7 +82,7 @@ impl<'a> Layout<'a> {
         })
     }
 
-    /// Returns the drawing of all lines. `Err` if memory runs out.
+    /// Returns the drawing of all lines that were seen. `Err` if memory runs out.
     pub(crate) fn draw(
         &mut self,
         alloc: Global,

@@ -1,16 +1,17 @@
-//! A page that shows the run of a script: who holds a transition up, in which function, and what is live meanwhile.
+//! A page that shows the run of a script: which task holds a transition up, in which function, and what is live
+//! meanwhile.
 //!
-//! [`page_over_text`] boots a manager over a catalog's text, serves the script line by line, and returns a page that
-//! has a row for each line in order (`specs/Pages`, `Rows`). With each line a moment is seen: what it did, and what the
-//! manager shows afterwards. Above the rows the page says how the run ends, and all that there is to say of the moments
-//! (`klp_timeline`, `klp_story`). A row has the line, the console's answer, and the tasks that hold the transition up,
-//! where that changed. A page folds away only lines that it has nothing to say of. What comes from the catalog, the
-//! script or the names is escaped (`specs/Text`).
+//! [`page_over_text`] boots a manager over a catalog's text, and serves the script line by line. It returns a page with
+//! a row for each line, in order (`specs/Pages`, `Rows`). After each line it notes a moment: what the line did, and
+//! what the manager shows now. Above the rows the page says how the run ends, and whatever there is to say about the
+//! moments (`klp_timeline`, `klp_story`). A row has the line and the console's answer. Where that changed, it also has
+//! the tasks that hold the transition up. The page folds away only lines about which it has nothing to say. All text
+//! from the catalog, the script or the names is escaped (`specs/Text`).
 //!
-//! If an observer knows what tasks are called, or when lines were ([`klp_names::Names`]), the page says so beside their
-//! numbers. Without these it is as if none were known.
+//! An observer may know what tasks are called, and when lines were ([`klp_names::Names`]). The page shows that beside
+//! their numbers. Without these the page only has the numbers.
 //!
-//! The drawing, and what an open row shows, are layout: `klp_drawing` and `klp_page_layout` make them.
+//! The drawing, and what an open row shows, are layout. `klp_drawing` and `klp_page_layout` make them.
 #![tactic(auto)]
 
 mod head;

@@ -1,4 +1,4 @@
-//! Booting a manager over a catalog's text, and showing a script by it.
+//! Boots a manager over a catalog's text, and makes the page of a script that the manager serves.
 ghost use Rattle.std.specs.Prelude.{◌≡◌, length, count_by, IfOk, IfErr};
 ghost use Rattle.klp_catalog_text.specs.Within.{AreTargetsWithin};
 ghost use Rattle.klp_page.specs.Rows.{last_view};
@@ -68,7 +68,7 @@ fn refused(rows: &[Row]) -> u64
     count as u64
 }
 
-/// Returns what the head of the page says of these rows and sentences. The run ends with this view.
+/// Returns the head of the page for these rows and sentences. `view` is the state at the end of the run.
 fn title_of<'a>(
     name: &'a [u8],
     names: &'a Names,
@@ -90,7 +90,7 @@ fn title_of<'a>(
     }
 }
 
-/// Returns the text of the page of a run that was served and recorded. `differing` is `None` for a page of a script.
+/// Returns the text of the page of a run that was already served and recorded. `differing` is `None` for a script.
 /// `Err` if memory runs out.
 pub fn page_of(
     alloc: Global,
@@ -120,7 +120,7 @@ pub fn page_of(
     )
 }
 
-/// Serves a script by a manager that was just booted, and returns the text of its page.
+/// Serves a script with a manager that was just booted, and returns the text of its page.
 fn paged(
     alloc: Global,
     manager: &mut Manager,
@@ -140,8 +140,8 @@ fn paged(
     )?)
 }
 
-// Serves a script by a manager, which is dropped then, and returns the page. Only `close` drops a manager, so that its
-// drop is proved once.
+// Serves a script with a manager, drops the manager, and returns the page. Managers are dropped only by `close`, so
+// that the drop is proved once.
 fn page_over_manager(
     alloc: Global,
     mut manager: Manager,
@@ -158,8 +158,8 @@ fn page_over_manager(
     page
 }
 
-// Boots a manager over a plan, serves the script by it, and returns the page. The callbacks are made in this function,
-// since no function may return a boxed value that it makes.
+// Boots a manager over a plan, serves the script with it, and returns the page. The callbacks are made in this
+// function, since no function may return a boxed value that it makes.
 fn page_over_plan(
     alloc: Global,
     plan: Plan,
@@ -181,9 +181,9 @@ fn page_over_plan(
     page_over_manager(alloc, manager, name, names, script, layout)
 }
 
-/// Boots a manager over the catalog's text, serves the script by it, and returns a page with a row for each line.
-/// `name` is the page's title, and `names` has the names of tasks and the times of lines. Takes memory in proportion
-/// to the script.
+/// Boots a manager over the catalog's text, serves the script with it, and returns a page with a row for each line.
+/// `name` is the page's title. `names` has the names of tasks and the times of lines. Allocates memory in proportion to
+/// the script.
 pub fn page_over_text(
     alloc: Global,
     catalog: &[u8],
@@ -198,8 +198,8 @@ pub fn page_over_text(
     page_over_plan(alloc, plan, name, names, script)
 }
 
-/// Writes the page of a script to `out`, once all lines are served: if one of them is at fault, nothing is written. If
-/// `out` refuses the page, the fault is that of the write.
+/// Writes the page of a script to `out` after all lines are served. If there is a fault before that, writes nothing. If
+/// the page can't be written, returns the fault of a failed write.
 pub fn write_page<W: Write>(
     alloc: Global,
     catalog: &[u8],

@@ -1,4 +1,4 @@
-//! A script is served line by line, and each line gets its row.
+//! Serves a script line by line, and makes a row for each line.
 ghost use Rattle.std.specs.Prelude.{◌≡◌, ◌≤◌, ◌+◌, [], ◌++◌, length, IfOk, IfErr, OnOk};
 ghost use Rattle.klp_types.specs.declared.limits.TheConstants.{MAX_TASKS};
 ghost use Rattle.klp_manager_state.specs.Managed.{setting_of};
@@ -22,14 +22,14 @@ use std::alloc::{AllocError, Global};
 use std::marker::Brand;
 use std::sync::ledger::{Blank, Ledger};
 
-/// The answer to a line, as text and as the outcome.
+/// The answer to a line: its text, and the outcome.
 #[derive(Drop)]
 struct Answered {
     text: Vec<u8>,
     outcome: Outcome,
 }
 
-/// The rows of the lines so far, and the state after each of them.
+/// The rows of the lines that were served, with what each line did and the state after it.
 #[derive(Drop)]
 pub struct Recorded {
     pub rows: Vec<Row>,
@@ -67,8 +67,8 @@ fn answer<M: Ledger>(
     }
 }
 
-/// Returns what a line did, and the state after it. `before` is the state and `from` the number of events before the
-/// line; `outcome` is what the line came to.
+/// Returns what a line did, and the state after it. `before` is the state before the line, `from` the number of events
+/// before it, and `outcome` its outcome.
 fn moment_of(manager: &Manager, before: &View, outcome: &Outcome, from: u32) -> Moment
     ensures seen { IsView (setting_of manager.now.managed) manager.now.managed.state result.view }
     ensures did { result.act ≡ act_of before.now.moving outcome.now from (length manager.now.groups) }
@@ -79,8 +79,8 @@ fn moment_of(manager: &Manager, before: &View, outcome: &Outcome, from: u32) -> 
     }
 }
 
-/// Adds the tasks that hold the transition up. `number` is the number of the first task in `stays`. `Err` if memory
-/// runs out.
+/// Adds those tasks that hold the transition up. `number` is the number of the task that has the first of `stays`.
+/// `Err` if memory runs out.
 fn add_holders(
     tasks: &mut Vec<TaskId>,
     number: usize,
@@ -98,8 +98,8 @@ fn add_holders(
     add_holders(tasks, number + 1, rest)
 }
 
-/// Returns the tasks that a row names as holding the transition up. There are none if no stay changed since the line
-/// before. `Err` if memory runs out.
+/// Returns the tasks that a row shows as holding the transition up. If no stay changed with this line, there are none,
+/// even if a task holds the transition up. `Err` if memory runs out.
 fn holders_shown(alloc: Global, before: &View, after: &View) -> Result<Vec<TaskId>, AllocError>
     ensures { IfOk result (λ tasks. tasks.items ≡ holders_shown before.now after.now) }
 {
@@ -158,8 +158,8 @@ fn add_line(
     Ok(())
 }
 
-/// Serves each line of the script that ends with a line feed, and adds its row and its moment to `recorded`.
-/// Afterwards `line` holds what follows the last line feed. `Err` if a line is too long, or if memory runs out.
+/// Serves all lines of the script that end with a line feed, and adds their rows and moments to `recorded`. Afterwards
+/// `line` has the bytes behind the last line feed. `Err` if a line is too long, or if memory runs out.
 fn record_lines(
     alloc: Global,
     manager: &mut Manager,

@@ -22,21 +22,21 @@ pub struct Row {
     pub line: Vec<u8>,
     pub answer: Vec<u8>,
     pub is_refused: bool,
-    /// Whether the page may fold the row away: the line was done, and there is nothing to say of it.
+    /// Whether the page may fold the row away: the line wasn't refused, and there is nothing to say about it.
     pub is_quiet: bool,
-    /// The tasks that hold the transition up after the line. Empty if no stay changed since the line before.
+    /// The tasks that hold the transition up after the line. It is empty also if no stay changed with this line.
     pub holders: Vec<TaskId>,
-    /// Whether the row shows its cards at first.
+    /// Whether the row's cards are shown at first.
     pub is_open: bool,
-    /// Cards of what the line changed.
+    /// The cards that show what the line changed.
     pub cards: Sheet,
-    /// The kernel's answer, if a trace has it; else empty.
+    /// The kernel's answer. It is empty if no trace has it.
     pub seen: Vec<u8>,
-    /// Whether the kernel did something else here than the rules say.
+    /// Whether the kernel differs from the rules here.
     pub differs: bool,
 }
 
-/// Adds who holds the transition up. Adds nothing if nobody does.
+/// Adds the names of the tasks that hold the transition up. Adds nothing if there are none.
 fn add_mark(sheet: &mut Sheet, names: &Names, tasks: &[TaskId])
     ensures { Adds sheet.old sheet.new (mark_text names.now tasks.now) }
 {
@@ -49,7 +49,7 @@ fn add_mark(sheet: &mut Sheet, names: &Names, tasks: &[TaskId])
     sheet.markup(HELD_END);
 }
 
-/// Adds the class of a refused line, if the line was refused.
+/// Adds the class of a refused line. Adds nothing if the line wasn't refused.
 fn add_refused(sheet: &mut Sheet, is_refused: bool)
     ensures { Adds sheet.old sheet.new (refused_text is_refused) }
 {
@@ -59,7 +59,7 @@ fn add_refused(sheet: &mut Sheet, is_refused: bool)
     }
 }
 
-/// Adds the class of a row at which the kernel differs from the rules, if it does.
+/// Adds the class of a row at which the kernel differs from the rules. Adds nothing if it doesn't.
 fn add_differing(sheet: &mut Sheet, differs: bool)
     ensures { Adds sheet.old sheet.new (differing_text differs) }
 {
@@ -69,7 +69,7 @@ fn add_differing(sheet: &mut Sheet, differs: bool)
     }
 }
 
-/// Adds the kernel's answer. Adds nothing if no trace has it.
+/// Adds the kernel's answer. Adds nothing if it is empty.
 fn add_seen(sheet: &mut Sheet, seen: &[u8])
     ensures { Adds sheet.old sheet.new (kernel_answer seen.now) }
 {
@@ -81,7 +81,7 @@ fn add_seen(sheet: &mut Sheet, seen: &[u8])
     }
 }
 
-/// Adds the mark of a row at which the kernel differs from the rules, if it does.
+/// Adds the mark of a row at which the kernel differs from the rules. Adds nothing if it doesn't.
 fn add_difference(sheet: &mut Sheet, differs: bool)
     ensures { Adds sheet.old sheet.new (difference_text differs) }
 {
@@ -91,7 +91,7 @@ fn add_difference(sheet: &mut Sheet, differs: bool)
     }
 }
 
-/// Adds the kernel's answer, and a mark if it differs from the rules.
+/// Adds the kernel's answer, and a mark if the kernel differs from the rules.
 fn add_kernel(sheet: &mut Sheet, row: &Row)
     ensures { Adds sheet.old sheet.new (kernel_text row.now) }
 {
@@ -100,7 +100,7 @@ fn add_kernel(sheet: &mut Sheet, row: &Row)
     add_difference(sheet, row.differs);
 }
 
-/// Adds the attribute of a row that is open at first, if the row is.
+/// Adds the attribute of a row that is open at first. Adds nothing if the row isn't.
 fn add_open(sheet: &mut Sheet, is_open: bool)
     ensures { Adds sheet.old sheet.new (open_text is_open) }
 {
@@ -110,7 +110,7 @@ fn add_open(sheet: &mut Sheet, is_open: bool)
     }
 }
 
-/// Adds a time since the first one. Adds nothing if it isn't known.
+/// Adds a time, counted from the first time of the run. Adds nothing if the time isn't known.
 fn add_time(sheet: &mut Sheet, time: Option<u64>)
     ensures { Adds sheet.old sheet.new (time_text time) }
 {
@@ -121,7 +121,7 @@ fn add_time(sheet: &mut Sheet, time: Option<u64>)
     }
 }
 
-/// Adds the number of a line, and its time if that is known.
+/// Adds the number of a line, and the line's time if it is known.
 fn add_number(sheet: &mut Sheet, names: &Names, number: u64)
     ensures { Adds sheet.old sheet.new (decimal number ++ time_text (since_start names.now.timed number)) }
 {
@@ -147,7 +147,7 @@ fn add_shown(sheet: &mut Sheet, names: &Names, number: u64, row: &Row)
     add_mark(sheet, names, &row.holders);
 }
 
-/// Begins a row with this tag, its class and its anchor `line-NUMBER`.
+/// Adds the start of a row: this tag, the row's class, and its anchor `line-NUMBER`.
 #[tactic(auto, unfolding(crate::specs::Text::start_text))]
 fn add_start(sheet: &mut Sheet, tag: &'static str, number: u64, row: &Row)
     ensures { Adds sheet.old sheet.new (start_text tag.now number row.now) }
@@ -190,7 +190,7 @@ fn add_card_row(sheet: &mut Sheet, names: &Names, number: u64, row: &Row)
     sheet.markup(CARDS_END);
 }
 
-/// Adds a row, with cards if it has some.
+/// Adds a row, with its cards if there are any.
 #[tactic(auto, unfolding(crate::specs::Text::row_text))]
 fn add_row(sheet: &mut Sheet, names: &Names, number: u64, row: &Row)
     ensures { Adds sheet.old sheet.new (row_text names.now number row.now) }
@@ -202,7 +202,7 @@ fn add_row(sheet: &mut Sheet, names: &Names, number: u64, row: &Row)
     }
 }
 
-/// Begins a fold in front of a quiet row, if exactly [`QUIET_ROWS`] quiet rows are shown before it.
+/// Begins a fold if `quiet` is [`QUIET_ROWS`]. `quiet` is how many quiet rows stand in succession before the next one.
 fn add_fold_start(sheet: &mut Sheet, quiet: usize)
     ensures { Adds sheet.old sheet.new (fold_start quiet) }
 {
@@ -212,7 +212,8 @@ fn add_fold_start(sheet: &mut Sheet, quiet: usize)
     }
 }
 
-/// Ends the fold behind this many quiet rows in a row, if there is one, and says how many rows are folded away.
+/// Ends a fold behind `quiet` successive quiet rows, and says how many of these are folded away. Adds nothing if none
+/// is.
 fn add_fold_end(sheet: &mut Sheet, quiet: usize)
     ensures { Adds sheet.old sheet.new (fold_end quiet) }
 {

@@ -1,14 +1,14 @@
 //! The markup of every page: its beginning and its end, its style, and what a row is made of.
 
-/// How many quiet rows in a row a page shows before it folds more of them away.
+/// How many successive quiet rows a page shows. Any further ones are folded away.
 pub(crate) const QUIET_ROWS: usize = 10;
 
 pub(crate) const HEAD: &str = "<!doctype html><html lang=en><meta charset=utf-8>
 <meta name=viewport content=\"width=device-width,initial-scale=1\"><title>";
 
-/// The style of a page: its colours, its sentences and its rows. The styles of drawing and cards follow. A name is
-/// broken only if it doesn't fit on a line. Print has no backgrounds: whatever matters there is drawn or has a border.
-/// In print an open row keeps its first cards on its own sheet.
+/// The style of a page: its colours, its sentences and its rows. The styles of the drawing and the cards follow it. A
+/// name is broken only if it doesn't fit on a line. Print has no backgrounds, so whatever matters on paper is drawn or
+/// has a border. In print, the first cards of an open row stay on the same sheet as the row.
 pub(crate) const STYLE: &str = "</title><style>
 :root{color-scheme:light dark;--paper:#fff;--ink:#1b1f24;--soft:#57606a;--rule:#d9dee4;--card:#f5f7f9;--hold:#b3261e;
 --focus:#0072b2}
@@ -61,10 +61,10 @@ pub(crate) const STYLE_END: &str = "</style>
 
 pub(crate) const COUNTS: &str = "<p class=soft>";
 
-/// What a page of a trace says behind its title if the kernel does nothing else than the rules say.
+/// What a trace's page says behind its title if the kernel nowhere differs from the rules.
 pub(crate) const AGREES: &str = ". Whatever the trace says of the kernel is as the rules say.";
 
-/// What stands around the number of the first row at which the kernel differs from the rules.
+/// The text in front of the number of the first row at which the kernel differs from the rules.
 pub(crate) const FIRST: &str = " from the rules. The first is <a href=\"#line-";
 
 pub(crate) const FIRST_WORD: &str = "\">line ";
@@ -96,7 +96,7 @@ pub(crate) const NUMBER: &str = "><span class=n>";
 
 pub(crate) const CARD_NUMBER: &str = "><summary><span class=n>";
 
-/// What stands in front of the seconds of a line.
+/// The text in front of a line's time in seconds.
 pub(crate) const TIME: &str = "<br>+";
 
 pub(crate) const LINE: &str = "</span><code class=line>";
@@ -105,7 +105,7 @@ pub(crate) const ANSWER: &str = "</code><samp>";
 
 pub(crate) const ANSWER_END: &str = "</samp>";
 
-/// What stands around the kernel's answer.
+/// The text in front of the kernel's answer.
 pub(crate) const SEEN: &str = "<span class=seen>the kernel: ";
 
 pub(crate) const SEEN_END: &str = "</span>";
@@ -129,7 +129,7 @@ pub(crate) const FOLDED: &str = " more: no patch and no holder changes</p></div>
 pub(crate) const FOOT: &str =
     "<p class=soft>A click on a line with <span class=plus>+</span> shows what it changed.</p></html>\n";
 
-/// What stands around the tasks that hold the transition up after a line.
+/// The text in front of the tasks that hold the transition up after a line.
 pub(crate) const HELD: &str = "<b class=held>held up by ";
 
 pub(crate) const HELD_END: &str = "</b>";

@@ -1,4 +1,4 @@
-//! The words behind the program's name.
+//! The arguments of the program.
 ghost use Rattle.std.specs.Prelude.{◌≡◌, map, string_bytes, option_map, Some, None, MatchResult};
 ghost use Rattle.klp_program.specs.Asked.{begins_with_dash};
 ghost use Rattle.klp_page.specs.Asked.{files_with, page_files, meaning};
@@ -16,10 +16,10 @@ const TRACE: &str = "--trace";
 #[derive(Clone, Copy)]
 pub struct PageFiles<'a> {
     pub catalog: &'a str,
-    /// The script, or the trace.
+    /// The path of the script or the trace.
     pub run: &'a str,
     pub is_trace: bool,
-    /// The file of names of tasks, and times of lines.
+    /// The path of the file with the names of tasks and the times of lines.
     pub names: Option<&'a str>,
 }
 
@@ -30,8 +30,8 @@ fn begins_with_dash(word: &str) -> bool
     word.as_bytes().first() == Some(&b'-')
 }
 
-/// Returns the paths after the catalog's, each in its place. `None` if there are too few or too many, or if one is an
-/// option.
+/// Returns the paths that follow the catalog's, with what each is for. Returns `None` if there are too few or too many,
+/// or if one is an option.
 fn files_with<'a>(catalog: &'a str, words: &'a [String], is_trace: bool) -> Option<PageFiles<'a>>
     ensures { option_map meaning result ≡ files_with is_trace catalog.now (map string_bytes words.now) }
 {
@@ -57,8 +57,8 @@ fn files_with<'a>(catalog: &'a str, words: &'a [String], is_trace: bool) -> Opti
     }
 }
 
-/// Returns the paths that these arguments name: of a catalog, of a script or a trace, and perhaps of names. `None` for
-/// any other arguments.
+/// Returns the paths that these arguments name: those of a catalog, of a script or a trace, and perhaps of names.
+/// Returns `None` for any other arguments.
 fn files_in<'a>(given: &'a [String]) -> Option<PageFiles<'a>>
     ensures { option_map meaning result ≡ page_files (map string_bytes given.now) }
 {
@@ -71,8 +71,9 @@ fn files_in<'a>(given: &'a [String]) -> Option<PageFiles<'a>>
     }
 }
 
-/// Reads the program's arguments: the paths of a catalog, of a script or behind `--trace` of a trace, and of names,
-/// which may be left out. Refuses other arguments with a message on `err`, and returns the exit status as `Err`.
+/// Reads the program's arguments: the path of a catalog, then that of a script, or `--trace` and that of a trace, and
+/// last that of names, which may be left out. If they aren't these, writes a message to `err`, and returns the exit
+/// status as `Err`.
 pub fn page_words<'a, W: Write>(given: &'a [String], err: &mut W) -> Result<PageFiles<'a>, u8>
     ensures { MatchResult result
         (λ files. page_files (map string_bytes given.now) ≡ Some (meaning files))

@@ -17,7 +17,7 @@ pub(crate) struct Callbacks {
 }
 
 impl Callbacks {
-    /// Returns the state before any callback is known. Takes no memory.
+    /// Returns the state in which no callback is known yet. Allocates nothing.
     pub(crate) fn new(alloc: Global) -> Callbacks {
         Callbacks {
             calls: Calls::new(alloc),
@@ -36,8 +36,8 @@ impl Callbacks {
         self.watched.open(manager)
     }
 
-    /// Updates the watched shadow variables with an event that runs no callback, so that a later change by a callback
-    /// is recognized. Does nothing in a catalog without callbacks. `Err` if memory runs out.
+    /// Reads the watched shadow variables that an event without callbacks changed. Otherwise a later event would seem
+    /// to have changed them. Does nothing if the catalog has no callback. `Err` if memory runs out.
     pub(crate) fn hear(&mut self, manager: &Manager, outcome: &Outcome) -> Result<(), AllocError> {
         match outcome {
             Outcome::Answered(event, Ok(_)) if !self.calls.is_empty() => {
@@ -47,9 +47,9 @@ impl Callbacks {
         }
     }
 
-    /// Adds a card of the callbacks that ran in an event, and of what they changed. Adds nothing if none ran. Returns
-    /// whether one did. `installed` are the patches that were installed before the event, oldest first. `Err` if
-    /// memory runs out.
+    /// If callbacks ran in an event, adds a card that lists them and what they changed, and returns true. Otherwise
+    /// adds nothing, and returns false. `installed` are the patches that were installed before the event, oldest first.
+    /// `Err` if memory runs out.
     pub(crate) fn describe(
         &mut self,
         sheet: &mut Sheet,

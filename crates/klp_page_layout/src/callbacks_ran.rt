@@ -9,7 +9,8 @@ use std::alloc::{AllocError, Global};
 /// The kinds of callbacks, in the order in which a patch runs those of one object.
 const KINDS: [Which; 4] = [Which::Pre, Which::Post, Which::PreUn, Which::PostUn];
 
-/// How many values `turn_of` can have: for each kind of move, one for each installed patch and one for a new one.
+/// How many values `turn_of` can return: for callbacks of applied patches, and again for those of removed ones, one for
+/// each installed patch and one for a new patch.
 const TURNS: usize = 2 * (MAX_PATCHES + 1);
 
 /// A callback of the catalog, and how often it had run after the last event.
@@ -21,7 +22,8 @@ struct Call {
     runs: u64,
 }
 
-/// A callback that ran in an event, and its turn. Callbacks with the same turn ran in the order of the catalog.
+/// A callback that ran in an event, and its turn among those that did. Callbacks with the same turn ran in the order in
+/// which the catalog has them.
 #[derive(Clone, Copy)]
 struct Ran {
     call: Call,
@@ -35,15 +37,15 @@ pub(crate) struct Calls {
     ran: Vec<Ran>,
 }
 
-/// Whether this kind of callback runs while its patch is applied, rather than removed. If one event applies and
-/// removes a patch, these run first.
+/// Whether callbacks of this kind run while their patch is applied. The others run while it is removed. If one event
+/// applies a patch and removes another, those of the applied patch run first.
 fn comes(which: Which) -> bool {
     matches!(which, Which::Pre | Which::Post)
 }
 
-/// Returns a number that orders the callbacks of one event: those of applied patches before those of removed ones, and
-/// in each of these groups older patches before newer ones. `installed` are the patches that were installed before the
-/// event, oldest first.
+/// Returns the turn of a callback among those of one event. Callbacks of applied patches come before those of removed
+/// ones. In each of the two groups, those of older patches come before those of newer ones. `installed` are the patches
+/// that were installed before the event, oldest first.
 fn turn_of(call: &Call, installed: &[PatchId]) -> usize {
     let place = installed.iter().position(|patch| *patch == call.patch);
     let place = place.unwrap_or(MAX_PATCHES).min(MAX_PATCHES);
@@ -54,7 +56,7 @@ fn turn_of(call: &Call, installed: &[PatchId]) -> usize {
     }
 }
 
-/// Returns the kernel's name of a kind of callbacks.
+/// Returns the kernel's name for callbacks of this kind.
 fn kind_text(which: Which) -> &'static str {
     match which {
         Which::Pre => "pre-patch",
@@ -77,7 +79,7 @@ fn add_call(sheet: &mut Sheet, manager: &Manager, call: &Call) {
 }
 
 impl Calls {
-    /// Returns a list without callbacks. Takes no memory.
+    /// Returns a list without callbacks. Allocates nothing.
     pub(crate) fn new(alloc: Global) -> Calls {
         Calls {
             calls: Vec::new(alloc),
@@ -124,8 +126,8 @@ impl Calls {
         self.calls.is_empty()
     }
 
-    /// Finds the callbacks that ran in an event, by their counts of runs. Returns whether one did. `installed` are the
-    /// patches that were installed before the event, oldest first. `Err` if memory runs out.
+    /// Finds the callbacks that ran in an event: their counts of runs have changed. Returns whether a callback ran.
+    /// `installed` are the patches that were installed before the event, oldest first. `Err` if memory runs out.
     pub(crate) fn look(
         &mut self,
         manager: &Manager,
@@ -144,7 +146,7 @@ impl Calls {
         Ok(!self.ran.is_empty())
     }
 
-    /// Adds the callbacks that ran, in the order in which they did.
+    /// Adds the callbacks that ran, in the order in which they ran.
     pub(crate) fn add_ran(&self, sheet: &mut Sheet, manager: &Manager) {
         for turn in 0..TURNS {
             for ran in &self.ran {

@@ -1,4 +1,4 @@
-//! The cards of a line's own act, and of the patches.
+//! The cards of what a line itself did, and those of the patches.
 
 use klp_core::Manager;
 use klp_markup::Value::{Markup, Name};
@@ -15,7 +15,7 @@ fn add_card(sheet: &mut Sheet, class: &'static str, name: &[u8], what: &'static 
     );
 }
 
-/// Adds a card of what a line did, unless the cards of patches and tasks show it.
+/// Adds a card of what a line did. Adds nothing if the cards of patches and tasks show that.
 pub(crate) fn add_act(sheet: &mut Sheet, manager: &Manager, act: &Option<Fact>) {
     let (catalog, modules) = (manager.catalog(), manager.modules());
     let (name, what) = match *act {
@@ -34,12 +34,12 @@ pub(crate) fn add_act(sheet: &mut Sheet, manager: &Manager, act: &Option<Fact>) 
     add_card(sheet, "card", name, what);
 }
 
-/// Whether a patch was installed or left, or the transition changed.
+/// Whether a line installed a patch, removed one, or changed the transition.
 pub(crate) fn are_patches_changed(before: &View, after: &View) -> bool {
     before.moving != after.moving || before.installed.as_slice() != after.installed.as_slice()
 }
 
-/// Returns the class of an installed patch's card, and what the card says of the patch.
+/// Returns the CSS class of an installed patch's card, and what the card says of the patch.
 fn standing(manager: &Manager, view: &View, patch: PatchId) -> (&'static str, &'static str) {
     match view.moving {
         Some(moving) if moving.patch != patch => ("card", "is enabled"),
@@ -52,7 +52,8 @@ fn standing(manager: &Manager, view: &View, patch: PatchId) -> (&'static str, &'
     }
 }
 
-/// Returns where tasks that lag in this mode are, and when each will switch. `count` chooses singular or plural.
+/// Returns the words that say where lagging tasks in this mode are, and when each will switch. `count` is the number of
+/// these tasks, and decides between singular and plural.
 fn switching(mode: Mode, count: usize) -> &'static str {
     match mode {
         Mode::User => plural(
@@ -73,7 +74,8 @@ fn switching(mode: Mode, count: usize) -> &'static str {
     }
 }
 
-/// Adds a list item for the tasks that lag in this mode. Adds nothing if there are none.
+/// Adds a list item for those tasks in this mode that lag without holding the transition up. Adds nothing if there are
+/// none.
 fn add_waiting(sheet: &mut Sheet, names: &Names, view: &View, mode: Mode) {
     let laggards = lagging(mode, &view.waits);
     let tasks = laggards.as_slice();
@@ -96,7 +98,8 @@ fn add_lagging(sheet: &mut Sheet, names: &Names, view: &View) {
     sheet.markup("</ul></div>");
 }
 
-/// Adds a card for each patch that is installed or left with this line, and one of the tasks that lag.
+/// Adds a card for each patch that is installed after a line, and for each that the line removed. Adds another card for
+/// the tasks that lag.
 pub(crate) fn add_patches(
     sheet: &mut Sheet,
     names: &Names,

@@ -18,27 +18,27 @@ use klp_timeline::{Moment, View};
 use klp_types::{Entry, MAX_PATCHES, MAX_TASKS, Site, TaskId};
 use std::alloc::{AllocError, Global};
 
-/// How many tasks have a card at one line at most.
+/// At most this many tasks have a card at one line.
 const MAX_CARDS: u64 = 12;
 
 /// What a line changed, and the cards that show it.
 #[derive(Drop)]
 pub struct RowParts {
-    /// Whether a patch was installed or left, or the transition changed.
+    /// Whether a patch was installed or removed, or the transition changed.
     pub patches: bool,
     /// Whether a task changed.
     pub tasks: bool,
     /// Whether the function stack of a site changed.
     pub sites: bool,
-    /// Whether a task began or ceased to hold the transition up.
+    /// Whether a task began to hold the transition up, or stopped holding it up.
     pub holders: bool,
     /// Whether a callback ran.
     pub callbacks: bool,
-    /// The cards, side by side. Empty if nothing changed.
+    /// The cards, which stand side by side. There are none if nothing changed.
     pub cards: Sheet,
 }
 
-/// What a line changed, like the fields of [`RowParts`].
+/// What a line changed. The fields are as in [`RowParts`].
 #[derive(Clone, Copy)]
 struct Changes {
     patches: bool,
@@ -48,18 +48,18 @@ struct Changes {
     callbacks: bool,
 }
 
-/// The tasks, function stacks and callbacks after the last line, which the next line is compared with.
+/// The tasks, function stacks and callbacks as they were after the last line. The next line is compared with these.
 #[derive(Drop)]
 pub struct Chronicle<'a> {
-    /// What tasks are called.
+    /// The names of tasks.
     names: &'a Names,
     tasks: Vec<Option<TaskShot>>,
     stacks: Vec<ArrayVec<Entry, MAX_PATCHES>>,
     callbacks: Callbacks,
 }
 
-/// What the tasks add up to at one line: whether one changed, whether one began or ceased to hold the transition up,
-/// how many have cards, and how many have none, for lack of room.
+/// What tasks did at one line. It has whether a task changed, and whether one began or stopped to hold the transition
+/// up. It also counts the tasks that have a card, and those for which there was no room.
 #[derive(Clone, Copy)]
 struct Crowd {
     is_changed: bool,
@@ -69,8 +69,8 @@ struct Crowd {
 }
 
 impl<'a> Chronicle<'a> {
-    /// Returns the chronicle of a run before its first line. Cards have the names of tasks from `names`. Takes no
-    /// memory.
+    /// Returns the chronicle of a run before its first line. Its cards show the names of tasks from `names`. Allocates
+    /// nothing.
     pub fn new(alloc: Global, names: &'a Names) -> Chronicle<'a> {
         Chronicle {
             names,
@@ -80,13 +80,13 @@ impl<'a> Chronicle<'a> {
         }
     }
 
-    /// Begins to watch the shadow variables that the scripts of a plan change. The manager will be booted over this
-    /// plan. `Err` if memory runs out.
+    /// Begins to watch the shadow variables that the scripts of a plan change. This must be the plan over which the
+    /// manager will be booted. `Err` if memory runs out.
     pub fn watch(&mut self, plan: &Plan) -> Result<(), AllocError> {
         self.callbacks.watch(plan)
     }
 
-    /// Prepares for each task, site and callback of a manager that was just booted. `Err` if memory runs out.
+    /// Makes room for each task, site and callback of a manager that was just booted. `Err` if memory runs out.
     pub fn open(&mut self, manager: &Manager) -> Result<(), AllocError> {
         self.tasks.resize(MAX_TASKS, None)?;
         for _site in 0..manager.sites() {
@@ -95,8 +95,8 @@ impl<'a> Chronicle<'a> {
         self.callbacks.open(manager)
     }
 
-    /// Returns what a line changed, and its cards. Call this for each line whose event was taken or undone; other
-    /// lines change nothing. `Err` if memory runs out.
+    /// Returns what a line changed, and its cards. Call this for each line that did an event or undid some. Other lines
+    /// change nothing. `Err` if memory runs out.
     pub fn describe(
         &mut self,
         alloc: Global,
@@ -144,7 +144,7 @@ impl<'a> Chronicle<'a> {
         })
     }
 
-    /// Adds a card of the callbacks that ran. Returns whether one did. `Err` if memory runs out.
+    /// Adds a card of the callbacks that ran. Returns whether a callback ran. `Err` if memory runs out.
     fn describe_callbacks(
         &mut self,
         sheet: &mut Sheet,
@@ -160,7 +160,7 @@ impl<'a> Chronicle<'a> {
         Ok(false)
     }
 
-    /// Adds cards of the tasks that did something. Returns what the tasks add up to.
+    /// Adds the cards of the tasks that did something. Returns what these tasks did, taken together.
     fn describe_tasks(
         &mut self,
         sheet: &mut Sheet,
@@ -196,7 +196,7 @@ impl<'a> Chronicle<'a> {
         crowd
     }
 
-    /// Whether a task is as it was after the last line, apart from the functions that it sleeps in.
+    /// Whether a task is as it was after the last line. The functions that it sleeps in aren't compared.
     fn is_as_seen(&self, manager: &Manager, view: &View, task: TaskId) -> bool {
         let number = usize::from(task.0);
         if number >= self.tasks.len() || number >= MAX_TASKS {
@@ -205,7 +205,7 @@ impl<'a> Chronicle<'a> {
         stands_as_before(manager, task, &view.stays[number], &self.tasks[number])
     }
 
-    /// Adds the card of a task if it did something, and notes how it is now.
+    /// Adds a card of a task if the task did something. Notes the task's present state for the next line.
     fn describe_task(
         &mut self,
         sheet: &mut Sheet,
@@ -246,7 +246,7 @@ impl<'a> Chronicle<'a> {
         add_task_card(sheet, self.names, manager, &actor);
     }
 
-    /// Adds a card for each site whose function stack changed. Returns whether there is one.
+    /// Adds a card for each site whose function stack changed. Returns whether there is such a site.
     fn describe_sites(&mut self, sheet: &mut Sheet, manager: &Manager, outcome: &Outcome) -> bool {
         if !matches!(reach_of(outcome), Reach::All) {
             return false;

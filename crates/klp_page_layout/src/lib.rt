@@ -1,15 +1,15 @@
-//! What a row of a page shows beside its line and its answer: a card for each patch, task and site that changed, and
-//! for the callbacks that ran.
+//! The cards that a row of a page shows besides its line and its answer: one for each patch, task and site that
+//! changed, and one for the callbacks that ran.
 //!
-//! A [`Chronicle`] looks at a manager after each line whose event was taken or undone, compares it with what it saw
-//! before, and returns what changed ([`RowParts`]). The callbacks of an event stand in the order in which they ran,
-//! with what they changed: shadow variables that the catalog's scripts name, and system states. So watch the scripts
-//! before the manager is booted ([`Chronicle::watch`]), since the manager doesn't lend them.
+//! A [`Chronicle`] looks at a manager after each line that did or undid an event. It compares the manager with what it
+//! saw before, and returns what changed ([`RowParts`]). The callbacks of an event are listed in the order in which they
+//! ran. What they changed stands below: the shadow variables that the catalog's scripts name, and system states. A
+//! manager doesn't show its scripts, so call [`Chronicle::watch`] before the manager is booted.
 //!
-//! Cards say what tasks are called, if that is known ([`klp_names::Names`]).
+//! Cards show the names of tasks that are known ([`klp_names::Names`]).
 //!
-//! This is layout, and has no contract. What comes from the catalog or the script is escaped, as all on a `Sheet`
-//! is. [`STYLE`] is what a page's style needs for cards, over the page's own colours and those of the drawing.
+//! This is layout, and has no contract. All text from the catalog or the script is escaped, as everything on a `Sheet`
+//! is. [`STYLE`] is the part of a page's style that cards need. It uses the colours of the page and of the drawing.
 #![tactic(auto)]
 
 mod callbacks;

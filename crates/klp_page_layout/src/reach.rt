@@ -4,12 +4,12 @@ use klp_console::Outcome;
 use klp_model::{Event, Reply};
 use klp_types::TaskId;
 
-/// What a line can have changed, so that the rest needn't be compared.
+/// What a line may have changed. Nothing else needs to be compared.
 #[derive(Clone, Copy)]
 pub(crate) enum Reach {
-    /// Nothing that a card shows.
+    /// Nothing that is on a card.
     Nothing,
-    /// This task alone.
+    /// Only this task.
     Task(TaskId),
     /// All tasks, but not the functions that they sleep in.
     Tasks,

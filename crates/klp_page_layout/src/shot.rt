@@ -1,4 +1,4 @@
-//! What is seen of a task after a line, so that it can be compared with what was seen before.
+//! What is noted of a task after a line. The next line's task is compared with it.
 
 use klp_core::Manager;
 use klp_timeline::Stay;
@@ -11,13 +11,13 @@ pub(crate) struct TaskShot {
     /// The patch state, as `/proc/<pid>/patch_state` shows it.
     pub state: i8,
     pub is_holding: bool,
-    /// Whether it sleeps in code that isn't called now.
+    /// Whether the task sleeps in code that isn't called now.
     pub is_outdated: bool,
-    /// The functions that it sleeps in.
+    /// The functions that the task sleeps in.
     pub frames: Frames,
 }
 
-/// Returns a task as it is now. `None` if there is no such task.
+/// Returns what is noted of a task now. Returns `None` if there is no such task.
 pub(crate) fn task_shot(manager: &Manager, task: TaskId, stay: &Option<Stay>) -> Option<TaskShot> {
     let mode = manager.mode(task)?;
     let state = manager.patch_state(task)?;
@@ -30,7 +30,8 @@ pub(crate) fn task_shot(manager: &Manager, task: TaskId, stay: &Option<Stay>) ->
     })
 }
 
-/// Whether a task is as before, apart from the functions that it sleeps in. This costs less than `task_shot`.
+/// Whether a task is as it was before. The functions that it sleeps in aren't compared. This costs less than
+/// `task_shot`.
 pub(crate) fn stands_as_before(
     manager: &Manager,
     task: TaskId,
@@ -46,18 +47,18 @@ pub(crate) fn stands_as_before(
         && before.is_outdated == matches!(stay, Some(Stay::Outdated(_)))
 }
 
-/// Whether a task switched. It didn't if a transition only began or ended.
+/// Whether a task switched. The beginning or end of a transition changes the patch state too, but isn't a switch.
 fn has_switched(before: &TaskShot, after: &TaskShot) -> bool {
     before.state != after.state && before.state >= 0 && after.state >= 0
 }
 
-/// Whether a task sleeps in the same functions as before. Compares the used places of the frames alone.
+/// Whether a task sleeps in the same functions as before. Only the used places of the frames are compared.
 fn are_frames_same(before: &TaskShot, after: &TaskShot) -> bool {
     before.frames.as_slice() == after.frames.as_slice()
 }
 
-/// Whether a task did something: it began or ended, changed its mode, its functions or its patch state, or began or
-/// ceased to be in a stay. The begin or end of a transition doesn't count.
+/// Whether a task did something. It did if it began or ended, if its mode or its functions changed, if it switched, or
+/// if it began or ceased to be in a stay. The beginning or end of a transition doesn't count.
 pub(crate) fn did_something(before: &Option<TaskShot>, after: &Option<TaskShot>) -> bool {
     match (before, after) {
         (Some(before), Some(after)) => {
@@ -72,7 +73,7 @@ pub(crate) fn did_something(before: &Option<TaskShot>, after: &Option<TaskShot>)
     }
 }
 
-/// Whether the patch state of a task changed, also by the begin or end of a transition.
+/// Whether the patch state of a task changed. Here the beginning or end of a transition counts too.
 pub(crate) fn has_other_state(before: &Option<TaskShot>, after: &Option<TaskShot>) -> bool {
     match (before, after) {
         (Some(before), Some(after)) => before.state != after.state,
@@ -80,7 +81,7 @@ pub(crate) fn has_other_state(before: &Option<TaskShot>, after: &Option<TaskShot
     }
 }
 
-/// Whether there is such a task, and it holds the transition up.
+/// Whether the task exists and holds the transition up.
 pub(crate) fn is_holding(shot: &Option<TaskShot>) -> bool {
     match shot {
         Some(shot) => shot.is_holding,

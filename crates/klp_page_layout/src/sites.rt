@@ -8,10 +8,10 @@ use klp_types::{Entry, ObjId, Site};
 /// How many hexadecimal digits the five bytes of an entry site have.
 const DIGITS: usize = 10;
 
-/// The instruction ENDBR64, which may stand in front of an entry site, as the target of an indirect call.
+/// The instruction ENDBR64. It may stand in front of an entry site, so that an indirect call can reach the function.
 const ENDBR64: [u8; 4] = [0xf3, 0x0f, 0x1e, 0xfa];
 
-/// Returns the five bytes of the entry site of this body in hexadecimal. `None` if the body is shorter.
+/// Returns the five bytes of the entry site in this body, in hexadecimal. Returns `None` if the body is too short.
 fn entry_bytes(body: &[u8]) -> Option<[u8; DIGITS]> {
     let offset = if body.starts_with(&ENDBR64) { 4 } else { 0 };
     if body.len() < offset + 5 {
@@ -33,7 +33,7 @@ fn number_in(manager: &Manager, site: Site, object: ObjId) -> u16 {
     number
 }
 
-/// Adds the bytes of an entry site, or that its object isn't loaded.
+/// Adds the bytes of an entry site. If the site's object isn't loaded, adds words that say so instead.
 fn add_bytes(sheet: &mut Sheet, manager: &Manager, site: Site) {
     let Some((object, _, _)) = manager.modules().symbol(site) else {
         return;

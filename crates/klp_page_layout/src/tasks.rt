@@ -8,17 +8,17 @@ use klp_names::Names;
 use klp_timeline::Stay;
 use klp_types::{Mode, TaskId, Transition, Version};
 
-/// A task that did something, and the state that its card depends on.
+/// A task that did something, and all that its card depends on.
 #[derive(Clone, Copy)]
 pub(crate) struct Actor<'a> {
     pub task: TaskId,
     pub shot: &'a TaskShot,
     pub stay: &'a Option<Stay>,
-    /// The transition under way.
+    /// The transition under way, if there is one.
     pub moving: &'a Option<Transition>,
 }
 
-/// Returns the class of a task's card.
+/// Returns the CSS class of a task's card.
 fn class_of(shot: &TaskShot) -> &'static str {
     match (shot.state, shot.is_holding) {
         (1, true) => "\"card new hold\"",
@@ -29,7 +29,7 @@ fn class_of(shot: &TaskShot) -> &'static str {
     }
 }
 
-/// Returns what a task in this mode does.
+/// Returns the words for a task in this mode.
 fn mode_text(mode: Mode) -> &'static str {
     match mode {
         Mode::User => "is in user space",
@@ -38,8 +38,8 @@ fn mode_text(mode: Mode) -> &'static str {
     }
 }
 
-/// Returns whether a task is at the target of the transition under way, or else when it will switch. Returns no text
-/// without a transition.
+/// Returns the words that say whether a task is at the target of the transition under way. If the task isn't, they say
+/// when it will switch, or that it holds the transition up. Without a transition, returns no words.
 fn progress(actor: &Actor<'_>) -> &'static str {
     let Some(moving) = actor.moving else {
         return "";
@@ -57,8 +57,8 @@ fn progress(actor: &Actor<'_>) -> &'static str {
     }
 }
 
-/// Returns why it matters that a task sleeps in this version. Returns no text if it doesn't matter. In a task at the
-/// target no version blocks the transition.
+/// Returns the words that say why it matters that a task sleeps in this version. Returns no words if it doesn't matter.
+/// If the task is at the target, no version blocks the transition.
 fn why_it_matters(manager: &Manager, actor: &Actor<'_>, version: Version) -> &'static str {
     match *actor.stay {
         Some(Stay::Outdated(outdated)) if outdated == version => {
@@ -75,7 +75,7 @@ fn why_it_matters(manager: &Manager, actor: &Actor<'_>, version: Version) -> &'s
     }
 }
 
-/// Adds a list item for a function that a task sleeps in, and `why` that matters.
+/// Adds a list item for a function that a task sleeps in. `why` says why the function matters, or is empty.
 fn add_frame(sheet: &mut Sheet, manager: &Manager, version: Version, why: &'static str) {
     let (catalog, modules) = (manager.catalog(), manager.modules());
     if why.is_empty() {
@@ -119,7 +119,7 @@ pub(crate) fn add_ended_card(sheet: &mut Sheet, names: &Names, task: TaskId) {
     sheet.markup("</b> has ended</div>");
 }
 
-/// Adds a card that says how many tasks have none of their own. Adds nothing if all have one.
+/// Adds a card with the number of tasks for which there was no room. Adds nothing if there was room for all.
 pub(crate) fn add_uncarded(sheet: &mut Sheet, count: u64) {
     match count {
         0 => {}

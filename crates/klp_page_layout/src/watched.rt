@@ -1,4 +1,4 @@
-//! What callbacks change: the shadow variables that the scripts of a catalog name, and the system states.
+//! The values that callbacks can change: the shadow variables that a catalog's scripts name, and the system states.
 
 use klp_catalog_text::Plan;
 use klp_core::Manager;
@@ -8,13 +8,14 @@ use klp_model::Event;
 use klp_types::{Edit, MAX_PATCHES, MAX_TARGETS, MAX_VALUE_BYTES, PatchId, ShadowKey, ShadowValue};
 use std::alloc::{AllocError, Global};
 
-/// How many scripts a catalog has at most: one for each kind of callback of each object of each patch.
+/// The largest number of scripts in a catalog. There may be one for each kind of callback, for each object of each
+/// patch.
 const MAX_SCRIPTS: usize = 4 * MAX_TARGETS * MAX_PATCHES;
 
-/// How many shadow variables are watched at most. A manager never has as many at a time.
+/// At most this many shadow variables are watched. A manager never has so many at one time.
 const MAX_WATCHED: usize = 1_024;
 
-/// A shadow variable with its values before and after the last event.
+/// A shadow variable, with its value before the last event and its value after it.
 #[derive(Clone, Copy)]
 struct Variable {
     key: ShadowKey,
@@ -22,7 +23,7 @@ struct Variable {
     value: Option<ShadowValue>,
 }
 
-/// A system state of a patch with its values before and after the last event.
+/// A system state of a patch, with its value before the last event and its value after it.
 #[derive(Clone, Copy)]
 struct State {
     patch: PatchId,
@@ -31,19 +32,19 @@ struct State {
     value: Option<u64>,
 }
 
-/// All that callbacks can change, as it was before and after the last event.
+/// All that callbacks can change, with the values before and after the last event.
 #[derive(Drop)]
 pub(crate) struct Watched {
     variables: Vec<Variable>,
-    /// The ids of shadow variables of which a script removes all, also those that it didn't add.
+    /// The ids for which a script removes all shadow variables, including those that the script didn't add.
     freed: Vec<u64>,
     states: Vec<State>,
-    /// Whether some variable isn't watched, since [`MAX_WATCHED`] others are.
+    /// Whether a variable isn't watched because [`MAX_WATCHED`] others already are.
     is_full: bool,
 }
 
-/// Adds the value of a shadow variable as a script spells it: a number if it has eight bytes, else `x` and its bytes
-/// in hexadecimal.
+/// Adds the value of a shadow variable, spelled as in a script. A value of eight bytes is a number. Any other is `x`
+/// and its bytes in hexadecimal.
 fn add_value(sheet: &mut Sheet, value: &Option<ShadowValue>) {
     let Some(value) = value else {
         sheet.markup("none");
@@ -61,13 +62,13 @@ fn add_value(sheet: &mut Sheet, value: &Option<ShadowValue>) {
 }
 
 impl Variable {
-    /// Reads the variable's value after an event.
+    /// Reads the variable's value after an event. The value that it had is now the one before the event.
     fn look(&mut self, manager: &Manager) {
         self.was = self.value;
         self.value = manager.shadow_get(self.key);
     }
 
-    /// Adds a list item for the change of this variable.
+    /// Adds a list item with both values of this variable.
     fn add(&self, sheet: &mut Sheet) {
         sheet.fill(
             "<li>shadow variable ({}, {}): ",
@@ -80,14 +81,14 @@ impl Variable {
 }
 
 impl State {
-    /// Reads the state's value after an event.
+    /// Reads the state's value after an event. The value that it had is now the one before the event.
     fn look(&mut self, manager: &Manager) {
         self.was = self.value;
         self.value = manager.state_of(self.patch, self.id);
     }
 
-    /// Returns the value before and the value after, if a callback changed the state. A patch that was just installed
-    /// had the value 0 before, and one that left has no value.
+    /// If a callback changed the state, returns its value before and after. For a patch that was just installed, the
+    /// value before is 0. Returns `None` if the value is the same, or if the patch left and has no value any more.
     fn change(&self) -> Option<(u64, u64)> {
         let value = self.value?;
         let was = self.was.unwrap_or(0);
@@ -97,7 +98,7 @@ impl State {
         Some((was, value))
     }
 
-    /// Adds a list item for the change of this state.
+    /// Adds a list item with both values of this state.
     fn add(&self, sheet: &mut Sheet, manager: &Manager, was: u64, value: u64) {
         sheet.fill(
             "<li>state {} of '{}': {} {} {}",
@@ -113,7 +114,7 @@ impl State {
 }
 
 impl Watched {
-    /// Returns the state before anything is watched. Takes no memory.
+    /// Returns the state in which nothing is watched. Allocates nothing.
     pub(crate) fn new(alloc: Global) -> Watched {
         Watched {
             variables: Vec::new(alloc),
@@ -133,7 +134,8 @@ impl Watched {
         false
     }
 
-    /// Begins to watch a shadow variable, unless [`MAX_WATCHED`] others are watched. `Err` if memory runs out.
+    /// Begins to watch a shadow variable. Does nothing if it is watched already. If [`MAX_WATCHED`] others are, only
+    /// notes that some variable isn't. `Err` if memory runs out.
     fn add_variable(&mut self, key: ShadowKey) -> Result<(), AllocError> {
         if self.is_watched(key) {
             return Ok(());
@@ -173,7 +175,7 @@ impl Watched {
         Ok(())
     }
 
-    /// Begins to watch each system state that a patch of the manager's catalog names. `Err` if memory runs out.
+    /// Begins to watch all system states that the patches of the manager's catalog name. `Err` if memory runs out.
     pub(crate) fn open(&mut self, manager: &Manager) -> Result<(), AllocError> {
         let catalog = manager.catalog();
         for number in 0..catalog.patches() {
@@ -190,7 +192,8 @@ impl Watched {
         Ok(())
     }
 
-    /// Begins to watch the shadow variable that an event adds, if a script can remove it. `Err` if memory runs out.
+    /// Begins to watch the shadow variable that an event adds if some script removes all variables of its id. `Err` if
+    /// memory runs out.
     fn add_named(&mut self, event: &Event) -> Result<(), AllocError> {
         match *event {
             Event::ShadowAlloc(key, _) | Event::ShadowGetOrAlloc(key, _)
@@ -199,7 +202,8 @@ impl Watched {
         }
     }
 
-    /// Reads the shadow variables that an event of the run itself changed. `Err` if memory runs out.
+    /// Reads the shadow variables that an event of the run changed by itself, without a callback. `Err` if memory runs
+    /// out.
     pub(crate) fn hear(&mut self, manager: &Manager, event: &Event) -> Result<(), AllocError> {
         self.add_named(event)?;
         let (own, all) = match *event {
@@ -226,7 +230,7 @@ impl Watched {
         }
     }
 
-    /// Adds a list item for each value that the last event changed. Returns whether there is one.
+    /// Adds a list item for each value that the last event changed. Returns whether there is such a value.
     pub(crate) fn add_changes(&self, sheet: &mut Sheet, manager: &Manager) -> bool {
         let mut is_changed = false;
         for variable in &self.variables {

@@ -1,4 +1,5 @@
-//! Which versions a transition blocks. `Tasks::switch_if_clear` (klp_tasks) decides whether a task sleeps in one.
+//! Which versions a transition blocks. `Tasks::switch_if_clear` (klp_tasks) decides whether a task sleeps inside of a
+//! blocked version.
 ghost use Rattle.std.specs.Prelude.{◌≡◌, ℕ, ◌≤◌, ◌++◌, true, List, [], length, is_some};
 ghost use Rattle.klp_types.specs.declared.version.Version.{Version as AnyVersion};
 ghost use Rattle.klp_types.specs.Setting.{function_for};
@@ -21,7 +22,7 @@ fn block_at(sites: &Sites, site: Site, moving: &Transition, blocked: &mut Versio
     ensures { (versions : List AnyVersion) → IsSetOf blocked.old versions
         → IsSetOf blocked.new (versions ++ blocked_among site moving.now (entries_at sites.now.stacks site)) }
 {
-    // A site without an entry of the patch blocks nobody: its tasks run the same version after the transition.
+    // A site without an entry of the patch blocks no task: what tasks run there doesn't change with the transition.
     let stacks = sites.stacks();
     if stacks.entry(site, moving.patch).is_none() {
         return;
@@ -65,7 +66,7 @@ fn block_functions(sites: &Sites, catalog: &Catalog, moving: &Transition, blocke
 }
 
 /// Fills the set with the versions that block sleepers: a task inside of one of them can't switch to the target of the
-/// transition. Drops what the set held before. One set serves all tasks of a try, while the kernel goes over the
+/// transition. Drops what the set had before. One set is used for all tasks of a try; the kernel instead goes over the
 /// patch's functions for each frame (`klp_check_stack`).
 ///
 /// The cost grows with the number of the patch's functions, or for a cumulative patch with the number of sites that

@@ -10,8 +10,8 @@ use klp_sites::Sites;
 use klp_text::Image;
 use klp_types::{ObjId, Site};
 
-/// Whether a change covers this object. With `only`, the change covers that object alone, loaded or not. Without it,
-/// the change covers each loaded object.
+/// Whether a change covers this object. If `only` is an object, the change covers just that object, loaded or not. If
+/// `only` is `None`, the change covers each loaded object.
 pub(crate) fn is_in_scope(image: &Image, only: Option<ObjId>, object: ObjId) -> bool
     ensures { result ≡ covered.is_in_scope only image.now.loaded object }
 {
@@ -21,8 +21,9 @@ pub(crate) fn is_in_scope(image: &Image, only: Option<ObjId>, object: ObjId) -> 
     }
 }
 
-/// Returns the function's site if the change covers the function's object. The caller passes that as `in_scope`, so
-/// that it is computed once for each object. None if the object isn't covered, or if the function has no site.
+/// Returns the function's site if the change covers the function's object. `in_scope` says whether it does; the caller
+/// passes this, so that it is computed once for each object. Returns `None` if the object isn't covered, or if the
+/// function has no site.
 #[inline(always)]
 pub(crate) fn site_in_scope(
     sites: &Sites,
@@ -41,9 +42,9 @@ pub(crate) fn site_in_scope(
     if in_scope { function.site() } else { None }
 }
 
-/// Whether a change covers a site: with `only`, whether the site lies in that object; without it, whether the site lies
-/// in a loaded object. The cost grows with the number of the object that the site lies in, since objects are searched
-/// in order.
+/// Whether a change covers a site. If `only` is an object, the site must lie in that object. If `only` is `None`, the
+/// site must lie in a loaded object. The cost grows with the number of objects before the site's own, since objects are
+/// searched in order.
 pub(crate) fn covers(sites: &Sites, only: &Option<ObjId>, site: Site) -> bool
     ensures { result ≡ covered.is_covered sites.now only.now site }
 {

@@ -23,7 +23,8 @@ use klp_sites::Sites;
 use klp_types::{Entry, MAX_FUNCTIONS, MAX_PATCHES, MAX_SITES, ObjId, PatchId};
 
 /// Puts the functions of a patch on top of the stacks of their sites, for the objects that the change covers. No two
-/// functions share a site, so each stack gets at most one entry. Scope is computed once for each object.
+/// functions share a site, so each stack gets at most one entry. Whether an object is covered is computed once for each
+/// object.
 fn put_functions(
     sites: &mut Sites,
     functions: &[CatalogFunction],
@@ -63,8 +64,8 @@ fn put_functions(
     }
 }
 
-/// Puts a nop of a patch on each covered site that has entries but none of the patch, so that calls there run the
-/// original and not what older patches put there. The patch's own functions must be on their stacks already.
+/// Puts a nop of a patch on each covered site that has entries but none of the patch. So calls there run the original,
+/// and not the functions of older patches. The patch's own functions must be on their stacks already.
 fn put_nops(sites: &mut Sites, patch: PatchId, only: &Option<ObjId>, log: &mut Records)
     requires number { patch < MAX_PATCHES }
     requires sites { length sites.old.stacks ≤ MAX_SITES }
@@ -138,9 +139,9 @@ fn take_all(sites: &mut Sites, patch: PatchId, only: &Option<ObjId>, log: &mut R
     }
 }
 
-/// Puts a patch's entries on top of the stacks of its sites, for the object `only`, or without `only` for all loaded
-/// objects. A cumulative patch also gets a nop on each other covered site that has entries (the kernel's
-/// `klp_add_nops`).
+/// Puts a patch's entries on top of the stacks of its sites. If `only` is an object, these are that object's sites; if
+/// it is `None`, those of all loaded objects. A cumulative patch also gets a nop on each other covered site that has
+/// entries (the kernel's `klp_add_nops`).
 ///
 /// The cost grows with the number of the patch's functions, and for a cumulative patch with the number of sites that
 /// have entries, too.
@@ -171,8 +172,8 @@ pub fn patch_sites(
     }
 }
 
-/// Takes a patch's entries out of the stacks of its sites, for the object `only`, or without `only` for all loaded
-/// objects.
+/// Takes a patch's entries out of the stacks of its sites. If `only` is an object, these are that object's sites; if it
+/// is `None`, those of all loaded objects.
 ///
 /// The cost grows with the number of the patch's functions, or for a cumulative patch with the number of sites that
 /// have entries.
@@ -204,8 +205,8 @@ pub fn unpatch_sites(
     }
 }
 
-/// Takes the nops of a patch out of all stacks. Once no older entries are left under a nop, calls run the original
-/// without it. The cost grows with the number of sites that have entries.
+/// Takes the nops of a patch out of all stacks. Once no older entries are below a nop, it has no purpose: calls run the
+/// original without it. The cost grows with the number of sites that have entries.
 pub fn drop_nops(sites: &mut Sites, patch: PatchId, log: &mut Records)
     requires sites { length sites.old.stacks ≤ MAX_SITES }
     requires records { length sites.old.stacks + MAX_SITES ≤ spare_of log.old }

@@ -25,7 +25,8 @@ pub fn the_stacks_tell_what_is_blocked()
         → blocked_at 0 move stacks ≡ blocked setting state move }
 {}
 
-/// The callbacks that run log at most as many records as the callbacks that may run. So room for the latter is enough.
+/// The callbacks that run log at most as many records as all callbacks that may run. So room for the records of all
+/// that may run is enough.
 pub fn runs_log_no_more_than_may_run()
     ensures enabling { (patch : ℕ) (objects : List (ℕ × PatchObject))
         → records_of (enable_calls patch objects) ≤ records_of (calls_of patch Pre objects

@@ -148,7 +148,7 @@ fn each_coming(
 /// Runs the callbacks for a module that is loaded: for each of these patches that changes it, pre-patch, and post-patch
 /// unless the patch is in transition. If a pre-patch refuses, no later patch's callbacks run. The patches before the
 /// refusing one are cleaned up then, oldest first (the kernel's `klp_cleanup_module_patches_limited`): pre-unpatch
-/// unless the patch is in transition, then post-unpatch. Returns the refusing patch and its status, or None if none
+/// unless the patch is in transition, then post-unpatch. Returns the refusing patch and its status, or `None` if none
 /// refused.
 pub fn run_coming(
     catalog: &mut Catalog,

@@ -32,7 +32,7 @@ fn allocs_at(catalog: &Catalog, patch: PatchId, place: u8, which: Which) -> usiz
     usize::from(catalog.allocs(patch, place, which))
 }
 
-/// Like `allocs_at`, for a callback that doesn't run while its patch is in transition: 0 then.
+/// Like `allocs_at`, but returns 0 if the patch is in transition. It is for a callback that doesn't run then.
 fn allocs_unless_moving(
     catalog: &Catalog,
     patch: PatchId,
@@ -98,7 +98,7 @@ pub(crate) fn going_allocs(
     }
 }
 
-/// Whether the patch has this callback and isn't in transition. For a callback that doesn't run in transition.
+/// Whether the patch has this callback and isn't in transition. It is for a callback that doesn't run in transition.
 fn has_unless_moving(
     catalog: &Catalog,
     patch: PatchId,

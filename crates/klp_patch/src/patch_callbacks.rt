@@ -19,8 +19,8 @@ use klp_modules::Modules;
 use klp_types::{ObjId, PatchId, Which};
 use klp_world::World;
 
-/// Returns how many shadow variables the callback of one object adds at most: 0 if the object isn't loaded, since its
-/// callbacks run when it is loaded.
+/// Returns how many shadow variables the callback of one object adds at most. Returns 0 if the object isn't loaded:
+/// then its callbacks run only when it is loaded.
 fn allocs_where_loaded(
     catalog: &Catalog,
     modules: &Modules,
@@ -85,8 +85,8 @@ pub fn has_callbacks(catalog: &Catalog, modules: &Modules, patch: PatchId, which
     false
 }
 
-/// Runs the callback of one object if the object is loaded. Returns its status, or 0 if no callback ran, since nothing
-/// refused.
+/// Runs the callback of one object if the object is loaded. Returns the callback's status, or 0 if no callback ran:
+/// then nothing refused.
 fn run_where_loaded(
     catalog: &mut Catalog,
     modules: &Modules,
@@ -150,7 +150,7 @@ pub fn run_callbacks(
 }
 
 /// Runs pre-patch object by object, up to and including the first that refuses. Returns the refusing object's place and
-/// its status, or None if none refused. The cleaning up covers the objects before that place.
+/// its status. Returns `None` if none refused. The objects before that place must be cleaned up.
 fn pre_patch(
     catalog: &mut Catalog,
     modules: &Modules,
@@ -178,9 +178,9 @@ fn pre_patch(
     None
 }
 
-/// Runs pre-patch object by object, up to and including the first that refuses. If one refuses, post-unpatch runs for
-/// the objects before it, which cleans up what they set up, and the refusing object is returned with its status. The
-/// callback that refuses cleans up after itself.
+/// Runs pre-patch object by object, up to and including the first that refuses. If one refuses, runs post-unpatch for
+/// the objects before it, which cleans up what they set up. Then returns the refusing object with its status. The
+/// callback that refuses has to clean up after itself.
 pub fn run_pre_patch(
     catalog: &mut Catalog,
     modules: &Modules,

@@ -1,5 +1,5 @@
-//! Changes of the stack of one site: the entry of a patch is put on it, or taken out. Changes of many sites are made of
-//! these, and so are their proofs.
+//! Changes of the stack of one site: the entry of a patch is put on it, or taken out. Changes of many sites, and their
+//! proofs, are made of these.
 ghost use Rattle.std.specs.Prelude.{◌≡◌, ℕ, ◌+◌, ◌<◌, ◌≤◌, ◌==◌, false, ◌∷◌, length};
 ghost use Rattle.klp_types.specs.Records.{spare_of};
 ghost use Rattle.klp_stack.specs.Spare.{spare_in};
@@ -10,7 +10,7 @@ use klp_journal::Records;
 use klp_sites::Sites;
 use klp_types::{Entry, MAX_PATCHES, MAX_SITES, PatchId, Site};
 
-/// Puts an entry on top of a site's stack. The clauses on records have a form in which loops over sites can add them
+/// Puts an entry on top of a site's stack. The contract's clauses on records have a form that loops over sites can add
 /// up.
 #[inline(always)]
 pub(crate) fn put(sites: &mut Sites, site: Site, entry: Entry, log: &mut Records)
@@ -44,8 +44,8 @@ pub(crate) fn put_nop(sites: &mut Sites, site: Site, patch: PatchId, log: &mut R
     }
 }
 
-/// Takes the entry of a patch out of a site's stack, and does nothing if there is none: loops over all sites also call
-/// it for sites where the patch has no entry.
+/// Takes the entry of a patch out of a site's stack. If there is none, does nothing, since loops over all sites also
+/// call this for sites where the patch has no entry.
 #[inline(always)]
 pub(crate) fn take(sites: &mut Sites, site: Site, patch: PatchId, log: &mut Records)
     requires { 1 + hooked_count sites.old ≤ spare_of log.old }
@@ -56,7 +56,7 @@ pub(crate) fn take(sites: &mut Sites, site: Site, patch: PatchId, log: &mut Reco
     sites.take(site, patch, log);
 }
 
-/// Takes the patch's entry out of a site's stack if that entry is a nop. Leaves a function of the patch.
+/// Takes the patch's entry out of a site's stack if that entry is a nop. If the entry is a function, it stays.
 #[tactic(auto, using(crate::proofs::SiteLemmas::none_of_sites))]
 pub(crate) fn take_nop(sites: &mut Sites, site: Site, patch: PatchId, log: &mut Records)
     requires { 1 + hooked_count sites.old ≤ spare_of log.old }

@@ -1,5 +1,5 @@
-//! Whether an event may run a callback. Rewinding an event doesn't reset the counts of runs. So a caller that takes an
-//! event before something that may fail calls this first.
+//! Whether an event may run a callback. Taking an event back doesn't reset the counts of runs. So a caller that may
+//! have to take an event back, because something after it may fail, checks this first.
 ghost use Rattle.std.specs.Prelude.{◌≡◌};
 ghost use Rattle.klp_model.specs.declared.event.Event.TheVariants.{Enable, SetEnabled, Poll};
 ghost use Rattle.klp_patch.specs.Calls.{are_some};
@@ -23,8 +23,8 @@ fn may_run_enabling(state: &ManagerState, catalog: &Catalog, patch: PatchId) -> 
     pre | post_un
 }
 
-/// Whether writing to a patch's `enabled` file may run a callback: pre-unpatch. A transition that is reversed runs
-/// none.
+/// Whether writing to a patch's `enabled` file may run a callback: pre-unpatch. Reversing a transition runs no
+/// callback.
 fn may_run_setting(state: &ManagerState, catalog: &Catalog, patch: PatchId, value: bool) -> bool
     requires { Invariant state.now catalog.now }
     ensures { result ≡ are_some (may_run_in state.now catalog.now (SetEnabled patch value)) }
@@ -47,8 +47,8 @@ fn may_run_polling(state: &ManagerState, catalog: &Catalog) -> bool
     }
 }
 
-/// Whether the patches have one of the callbacks that the event may run if nothing refuses it. An event needs room for
-/// the variables of the same callbacks. The cost grows with the number of the patch's objects, or for a module with the
+/// Whether there is a callback that the event may run if nothing refuses it. These are the callbacks for whose
+/// variables the event needs room. The cost grows with the number of the patch's objects, or for a module with the
 /// objects of all installed patches.
 pub fn may_run(state: &ManagerState, catalog: &Catalog, event: &Event) -> bool
     requires { Invariant state.now catalog.now }

@@ -1,6 +1,6 @@
-//! Trying and completing a transition (livepatch, Consistency model; cumulative-patches). As in the kernel, entries
-//! leave before the callbacks run. The list of installed patches changes after the callbacks, so that these still find
-//! the patches that leave.
+//! Trying and completing a transition (livepatch, Consistency model; cumulative-patches). As in the kernel, entries are
+//! taken out before the callbacks run. The list of installed patches changes after the callbacks, so that these still
+//! find the patches that leave.
 ghost use Rattle.std.specs.Prelude.{◌≡◌, ◌≢◌, ℕ, ◌+◌, ◌*◌, ◌≤◌, true, [], None, Some, ◌==◌, length};
 ghost use Rattle.std.specs.FinMap as finite;
 ghost use Rattle.klp_types.specs.declared.limits.TheConstants.{MAX_KIND_RECORDS, MAX_RECORDS, MAX_SITES, MAX_TASKS};
@@ -37,8 +37,8 @@ use klp_types::{
     MAX_FUNCTIONS, MAX_PATCHES, MAX_SITES, MAX_VARIABLES, PatchId, PatchState, Transition, Which,
 };
 
-/// Returns the kind of callback that runs at the end of a transition to this target: post-patch if the patch comes in,
-/// post-unpatch if it leaves.
+/// Returns the kind of callback that runs at the end of a transition to this target: post-patch if the patch is being
+/// enabled, post-unpatch if it is being disabled.
 pub(crate) fn end_of(target: bool) -> Which
     ensures { result ≡ end_of target }
 {
@@ -46,8 +46,8 @@ pub(crate) fn end_of(target: bool) -> Which
 }
 
 /// Tries the transition once more: switches the sleepers that aren't blocked, and completes the transition if no task
-/// lags then. Without tasks the first try completes it. A kernel tries every second, but here nothing completes without
-/// a poll (docs/DECISIONS.md, "When transitions complete").
+/// lags then. If there are no tasks, the first try completes it. A kernel tries every second, but here nothing
+/// completes without a poll (docs/DECISIONS.md, "When transitions complete").
 pub fn poll(state: &mut ManagerState, catalog: &mut Catalog) -> Result<BriefReply, Refusal>
     requires { Invariant state.old catalog.old }
     ensures taken { TakesEvent state.old state.new catalog.old catalog.new Poll result }
@@ -59,8 +59,8 @@ pub fn poll(state: &mut ManagerState, catalog: &mut Catalog) -> Result<BriefRepl
     }
 }
 
-/// Returns the first reason why a poll is refused, or None. The poll needs room for the callbacks at the transition's
-/// end even if a task will lag, since that isn't known beforehand.
+/// Returns the first reason why a poll is refused, or `None`. The poll needs room for the callbacks at the transition's
+/// end even if a task will still lag, since that isn't known beforehand.
 pub fn poll_refusal(state: &ManagerState, catalog: &Catalog) -> Option<Refusal>
     requires { Invariant state.now catalog.now }
     ensures refusal { result ≡ refused_in state.now catalog.now Poll }
@@ -69,8 +69,8 @@ pub fn poll_refusal(state: &ManagerState, catalog: &Catalog) -> Option<Refusal>
     let Some(moving) = state.moving else {
         return Some(Refusal::NotMoving);
     };
-    // The sum over all callbacks of the end decides, before any of them runs (docs/DECISIONS.md, "`Full` at the end of
-    // a transition").
+    // The room for all callbacks of the end together decides, before any of them runs (docs/DECISIONS.md, "`Full` at
+    // the end of a transition").
     let end = allocs(catalog, &state.modules, moving.patch, end_of(moving.target));
     if usize::from(state.world.count()) + end > MAX_VARIABLES {
         return Some(Refusal::Full);
@@ -100,7 +100,7 @@ fn try_once_more(state: &mut ManagerState, catalog: &mut Catalog) -> BriefReply
     BriefReply(Brief::Completed(moving.target))
 }
 
-/// Drops what was logged, as the event begins here, and switches the sleepers that aren't blocked. Returns how many
+/// Drops what was logged, since the event begins here, and switches the sleepers that aren't blocked. Returns how many
 /// tasks still lag.
 fn try_tasks(state: &mut ManagerState, catalog: &Catalog, moving: &Transition) -> u8
     requires kept { Invariant state.old catalog.now }
@@ -124,8 +124,8 @@ fn try_tasks(state: &mut ManagerState, catalog: &Catalog, moving: &Transition) -
     state.tasks.lagging(moving.target)
 }
 
-/// Switches the sleepers that aren't blocked. Makes the set of blocked versions anew, because entries and modules may
-/// have come or gone since the last try.
+/// Switches the sleepers that aren't blocked. Makes the set of blocked versions anew, because the entries or the loaded
+/// modules may have changed since the last try.
 fn switch_sleepers(state: &mut ManagerState, catalog: &Catalog, moving: &Transition)
     requires state { Allowed (setting_in state.old catalog.now) (state_in state.old catalog.now) }
     requires limits { IsWithinLimits state.old.sites.image.objects }
@@ -152,8 +152,8 @@ fn switch_sleepers(state: &mut ManagerState, catalog: &Catalog, moving: &Transit
         .try_all(&state.blocked, moving.target, &mut state.log);
 }
 
-/// Completes a transition whose tasks are all at the target. As in the kernel (`klp_complete_transition`) the entries
-/// leave before the callbacks run, and the callbacks still find the patches that leave.
+/// Completes a transition whose tasks are all at the target. As in the kernel (`klp_complete_transition`), the entries
+/// of the leaving patches are taken out before the callbacks run. The callbacks still find these patches in the list.
 fn complete(state: &mut ManagerState, catalog: &mut Catalog, moving: &Transition)
     requires kept { Invariant state.old catalog.old }
     requires moving { state.old.moving ≡ Some moving.now }
@@ -197,8 +197,8 @@ fn rest(state: &mut ManagerState)
     state.set_moving(None);
 }
 
-/// Takes out the entries of the patches that leave when the transition completes. A patch that comes in without
-/// replacing others changes no site here.
+/// Takes out the entries of the patches that leave when the transition completes. If the patch is being enabled and
+/// replaces no others, no site changes here.
 fn remove_leaving_entries(state: &mut ManagerState, catalog: &Catalog, moving: &Transition)
     requires kept { Invariant state.old catalog.now }
     requires moving { state.old.moving ≡ Some moving.now }
@@ -257,7 +257,7 @@ fn replace_sites(state: &mut ManagerState, catalog: &Catalog, moving: &Transitio
     drop_nops(&mut state.sites, moving.patch, &mut state.log);
 }
 
-/// Takes the patches that leave out of the list of installed patches, with the values of their system states.
+/// Removes the leaving patches from the list of installed patches, with the values of their system states.
 fn remove_leaving_patches(state: &mut ManagerState, catalog: &Catalog, moving: &Transition)
     requires records { length state.old.log.logged ≤ RECORDS_AFTER_CALLBACKS }
     requires log { state.old.log.room ≡ MAX_RECORDS }

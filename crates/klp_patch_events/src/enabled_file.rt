@@ -38,8 +38,8 @@ pub fn set_enabled(
     }
 }
 
-/// Returns the first reason why the value can't be written, or None. Room is the last reason, but is computed first,
-/// since its proof also bounds the records (docs/DECISIONS.md, "Room computed before the refusals").
+/// Returns the first reason why the value can't be written, or `None`. Lack of room is the last reason, but is computed
+/// first, since its proof also bounds the records (docs/DECISIONS.md, "Room computed before the refusals").
 pub fn set_enabled_refusal(
     state: &ManagerState,
     catalog: &Catalog,
@@ -83,7 +83,7 @@ fn lacks_room_to_set(state: &ManagerState, catalog: &Catalog, patch: PatchId, va
     usize::from(state.world.count()) + pre_un > MAX_VARIABLES
 }
 
-/// Reverses the patch's transition if it is in one, and otherwise starts to disable it.
+/// Reverses the transition if the patch is in transition. Otherwise starts to disable the patch.
 fn turn(state: &mut ManagerState, catalog: &mut Catalog, patch: PatchId, value: bool) -> BriefReply
     requires kept { Invariant state.old catalog.old }
     requires free { refused_in state.old catalog.old (SetEnabled patch value) ≡ None }
@@ -105,7 +105,7 @@ fn turn(state: &mut ManagerState, catalog: &mut Catalog, patch: PatchId, value: 
 }
 
 /// Starts to disable a patch: runs pre-unpatch, sets all tasks to patch state 1, since all of them run the patch, and
-/// begins a transition to 0. The entries stay until it completes.
+/// begins a transition to 0. The entries stay until the transition completes.
 fn disable(
     state: &mut ManagerState,
     catalog: &mut Catalog,

@@ -36,8 +36,8 @@ use klp_types::{
     Which,
 };
 
-/// Whether a function of the patch is for a loaded object but names no symbol of it. Then the patch couldn't be put in
-/// whole. A function for an object that isn't loaded may lack its symbol, since that is checked when the module is
+/// Whether a function of the patch is for a loaded object but names no symbol of it. Then the patch couldn't be applied
+/// as a whole. A function for an object that isn't loaded may lack its symbol, since this is checked when the module is
 /// loaded (docs/DECISIONS.md, "Symbols of objects that aren't loaded").
 fn lacks_symbol(state: &ManagerState, found: &CatalogPatch) -> bool
     ensures { result ≡ list_any (λ (f : FunctionOf). slice_index_or state.now.modules.loaded f.object false
@@ -65,8 +65,8 @@ fn pre_failed(patch: PatchId, refused: &(ObjId, i32)) -> BriefReply
 
 /// Enables a patch that isn't installed, and starts its transition to 1. Puts the patch last in the list, runs
 /// pre-patch object by object, and puts its entries on the sites of loaded objects. If a pre-patch refuses,
-/// post-unpatch runs for the objects before the refusing one, the patch leaves the list again, and the reply is
-/// `PreFailed`.
+/// post-unpatch runs for the objects before the refusing one. Then the patch is taken out of the list again, and the
+/// reply is `PreFailed`.
 pub fn enable(
     state: &mut ManagerState,
     catalog: &mut Catalog,
@@ -82,14 +82,14 @@ pub fn enable(
     }
 }
 
-/// Returns the first reason why the patch can't be enabled, or None. Changes nothing, so that a full journal can ask
-/// which refusal an event would get.
+/// Returns the first reason why the patch can't be enabled, or `None`. Changes nothing, so that an event's refusal can
+/// be found out while the journal is full.
 pub fn enable_refusal(state: &ManagerState, catalog: &Catalog, patch: PatchId) -> Option<Refusal>
     requires { Invariant state.now catalog.now }
     ensures refusal { result ≡ refused_in state.now catalog.now (Enable patch) }
     ensures records { records_of (may_run_in state.now catalog.now (Enable patch)) ≤ MAX_ENABLING_RECORDS }
 {
-    // Computed first, though it is the last refusal, since its proof bounds the records for every return
+    // Lack of room is the last refusal, but is computed first, since its proof bounds the records for every return
     // (docs/DECISIONS.md, "Room computed before the refusals").
     let lacks_room = lacks_room_to_enable(state, catalog, patch);
     let Some(found) = catalog.get(patch) else {
@@ -102,7 +102,7 @@ pub fn enable_refusal(state: &ManagerState, catalog: &Catalog, patch: PatchId) -
     } else if state.pinned.is_pinned(patch) {
         Some(Refusal::Pinned)
     } else if !catalog.is_compatible(patch, state.world.installed()) {
-        // The patches that it would replace count too, since it takes their states over.
+        // The patches that this one would replace count too, since it takes their states over.
         Some(Refusal::Incompatible)
     } else if lacks_symbol(state, found) {
         Some(Refusal::NoSymbol)
@@ -113,14 +113,14 @@ pub fn enable_refusal(state: &ManagerState, catalog: &Catalog, patch: PatchId) -
     }
 }
 
-/// Whether there is no room for the variables that the callbacks may add. Checked once, beforehand, so that no callback
-/// fails for want of room.
+/// Whether there is no room for the variables that the callbacks may add. This is checked once, before any callback
+/// runs, so that no callback fails for lack of room.
 fn lacks_room_to_enable(state: &ManagerState, catalog: &Catalog, patch: PatchId) -> bool
     requires { Invariant state.now catalog.now }
     ensures room { result ≡ lacks_room_in state.now catalog.now (Enable patch) }
     ensures records { records_of (may_run_in state.now catalog.now (Enable patch)) ≤ MAX_ENABLING_RECORDS }
 {
-    // Both kinds count whatever the statuses are, so that the sum is known before any of them runs
+    // The callbacks of both kinds count, whatever their statuses are, so that the sum is known before any of them runs
     // (docs/DECISIONS.md, "Room for the callbacks that may run").
     let pre = allocs(catalog, &state.modules, patch, Which::Pre);
     let post_un = allocs(catalog, &state.modules, patch, Which::PostUn);
@@ -165,8 +165,8 @@ fn install(state: &mut ManagerState, catalog: &mut Catalog, patch: PatchId) -> B
     }
 }
 
-/// Puts a patch last in the list of installed patches, with its system states at 0. First drops what was logged, as the
-/// event begins here.
+/// Puts a patch last in the list of installed patches, with its system states at 0. First drops what was logged, since
+/// the event begins here.
 fn put_last(state: &mut ManagerState, catalog: &Catalog, patch: PatchId)
     requires fresh { is_among patch state.old.world.installed ≡ false }
     requires room { length state.old.world.installed < MAX_PATCHES }
@@ -187,7 +187,8 @@ fn put_last(state: &mut ManagerState, catalog: &Catalog, patch: PatchId)
     state.world.add_states(patch, &ids, &mut state.log);
 }
 
-/// Takes a patch out of the list after its pre-patch refused, with its states and the values that callbacks gave them.
+/// Takes a patch out of the list after its pre-patch refused. Its states go with it, and the values that callbacks gave
+/// them.
 fn take_out(state: &mut ManagerState, patch: PatchId)
     requires { length state.old.log.logged + MAX_LIST_RECORDS ≤ state.old.log.room }
     ensures parts { state.new
@@ -200,8 +201,8 @@ fn take_out(state: &mut ManagerState, patch: PatchId)
     state.world.drop_states(patch, &mut state.log);
 }
 
-/// Starts the transition of an installed patch to 1. First puts its entries on the sites: no task has patch state 1
-/// then, so every task passes over the entries, and still runs what it ran before.
+/// Starts the transition of an installed patch to 1. First puts its entries on the sites. No task has patch state 1 at
+/// that time, so every task skips these entries and still runs what it ran before.
 fn start(state: &mut ManagerState, catalog: &Catalog, patch: PatchId)
     requires number { patch < MAX_PATCHES }
     requires rests { state.old.moving ≡ None }

@@ -1,13 +1,13 @@
-//! The events of patches and modules, each as a step of the model, over a manager's state.
+//! The events of patches and modules, each as a step of the model, on a manager's state.
 //!
 //! Each event has the reply and the effect that the model defines, or is refused for the reason that the model gives
 //! (`TakesEvent` in `klp_manager_state/specs/Events`). The runs of its callbacks are counted. Putting back what an
-//! event logged gives the rows before the event. A separate function for each event returns why it would be refused,
-//! without taking it.
+//! event logged restores the rows before the event. For each event, a separate function returns why the event would be
+//! refused, without doing it.
 //!
 //! There is one file for each kind of event: `src/enabling.rt`, `enabled_file.rt`, `forcing.rt`, `completing.rt` and
-//! `module.rt`. `callbacks.rt` finds out whether an event may run a callback, `replaced.rt` takes out what a
-//! cumulative patch replaces, and `module_sites.rt` changes the sites of a module that is loaded or unloaded.
+//! `module.rt`. `callbacks.rt` finds out whether an event may run a callback, `replaced.rt` takes out what a cumulative
+//! patch replaces, and `module_sites.rt` changes the sites of a module that is loaded or unloaded.
 #![tactic(auto)]
 
 mod callbacks;

@@ -59,9 +59,10 @@ fn some_lacks_symbol(catalog: &Catalog, patches: &[PatchId], object: ObjId) -> b
 }
 
 /// Loads a module (the kernel's `klp_module_coming`). For each installed patch that changes the module, pre-patch runs,
-/// and post-patch unless the patch is in transition. The entries are put on the module's sites after all callbacks. A
-/// kernel puts them on between a patch's two callbacks, but nobody can see the difference (`come`). If a pre-patch
-/// refuses, the patches before the refusing one are cleaned up, the module isn't loaded, and the reply is `PreFailed`.
+/// and then post-patch unless the patch is in transition. After all callbacks, the entries are put on the module's
+/// sites. A kernel puts them on between a patch's two callbacks, but nobody can see the difference (see `come`). If a
+/// pre-patch refuses, the patches before the refusing one are cleaned up, the module isn't loaded, and the reply is
+/// `PreFailed`.
 pub fn coming(
     state: &mut ManagerState,
     catalog: &mut Catalog,
@@ -78,8 +79,9 @@ pub fn coming(
 }
 
 /// Unloads a module (the kernel's `klp_module_going`). For each installed patch that changes the module, pre-unpatch
-/// runs unless the patch is in transition, and then post-unpatch. The entries are taken out of the module's sites after
-/// all callbacks. A kernel takes them out between a patch's two callbacks, but nobody can see the difference (`go`).
+/// runs unless the patch is in transition, and then post-unpatch. After all callbacks, the entries are taken out of the
+/// module's sites. A kernel takes them out between a patch's two callbacks, but nobody can see the difference (see
+/// `go`).
 pub fn going(
     state: &mut ManagerState,
     catalog: &mut Catalog,
@@ -95,8 +97,8 @@ pub fn going(
     }
 }
 
-/// Returns the first reason why a module can't be loaded, or None. Room is computed before the other reasons, since its
-/// proof also bounds the records (docs/DECISIONS.md, "Room computed before the refusals").
+/// Returns the first reason why a module can't be loaded, or `None`. Lack of room is computed before the other reasons,
+/// since its proof also bounds the records (docs/DECISIONS.md, "Room computed before the refusals").
 pub fn coming_refusal(state: &ManagerState, catalog: &Catalog, object: ObjId) -> Option<Refusal>
     requires { Invariant state.now catalog.now }
     ensures refusal { result ≡ refused_in state.now catalog.now (Coming object) }
@@ -118,7 +120,7 @@ pub fn coming_refusal(state: &ManagerState, catalog: &Catalog, object: ObjId) ->
     }
 }
 
-/// Returns the first reason why a module can't be unloaded, or None. One reason is a task inside of the module; a
+/// Returns the first reason why a module can't be unloaded, or `None`. One reason is a task inside of the module; a
 /// kernel counts the module's references instead.
 pub fn going_refusal(state: &ManagerState, catalog: &Catalog, object: ObjId) -> Option<Refusal>
     requires { Invariant state.now catalog.now }
@@ -175,7 +177,7 @@ fn lacks_room_to_go(state: &ManagerState, catalog: &Catalog, object: ObjId) -> b
 }
 
 /// Returns a copy of the list of installed patches, oldest first. A copy is needed, since callbacks get the world by
-/// `&mut`, and so its own list can't be borrowed while they run.
+/// `&mut`, so the world's list can't be borrowed while they run.
 fn installed_patches(state: &ManagerState, catalog: &Catalog) -> ArrayVec<PatchId, MAX_PATCHES>
     requires { Invariant state.now catalog.now }
     ensures value { result.items ≡ installed_patches (state_in state.now catalog.now) }
@@ -193,9 +195,9 @@ fn installed_patches(state: &ManagerState, catalog: &Catalog) -> ArrayVec<PatchI
     state.world.installed_list()
 }
 
-/// Loads a module. The caller has checked that nothing refuses it. All callbacks run before the entries are put on its
-/// sites, so a refused module gets no entry. Nobody sees this order, since callbacks see no function stack, and an
-/// event is one step (docs/DECISIONS.md, "Callbacks of a module before its entries").
+/// Loads a module. The caller has checked that nothing refuses this. All callbacks run before the entries are put on
+/// the module's sites, so a refused module gets no entry. Nobody sees this order, since callbacks see no function
+/// stack, and an event is one step (docs/DECISIONS.md, "Callbacks of a module before its entries").
 fn come(state: &mut ManagerState, catalog: &mut Catalog, object: ObjId) -> BriefReply
     requires kept { Invariant state.old catalog.old }
     requires free { refused_in state.old catalog.old (Coming object) ≡ None }
@@ -218,7 +220,7 @@ fn come(state: &mut ManagerState, catalog: &mut Catalog, object: ObjId) -> Brief
         Some((patch, status)) => BriefReply(Brief::PreFailed(patch, object, status)),
         None => {
             state.log.note(state.sites.load(object));
-            // only the sites log the loaded flag: undo sets both flags back from that record
+            // only the sites log the loaded flag: undo restores both flags from that record
             state.modules.set_loaded(object, true);
             patch_object(
                 &mut state.sites,
@@ -232,8 +234,8 @@ fn come(state: &mut ManagerState, catalog: &mut Catalog, object: ObjId) -> Brief
     }
 }
 
-/// Unloads a module. The caller has checked that nothing refuses it. All callbacks run before the entries change, as
-/// when a module is loaded. The loaded flag changes last, so that undo first sets it back and then the entries.
+/// Unloads a module. The caller has checked that nothing refuses this. As when a module is loaded, all callbacks run
+/// before the entries change. The loaded flag changes last, so that undo first restores the flag and then the entries.
 fn go(state: &mut ManagerState, catalog: &mut Catalog, object: ObjId) -> BriefReply
     requires kept { Invariant state.old catalog.old }
     requires free { refused_in state.old catalog.old (Going object) ≡ None }

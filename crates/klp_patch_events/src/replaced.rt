@@ -24,9 +24,9 @@ use klp_sites::Sites;
 use klp_types::{MAX_FUNCTIONS, MAX_SITES, PatchId};
 use klp_world::World;
 
-/// Returns the patches of the list that are before this one, or the whole list if this one isn't in the list. There may
-/// be none before it, and newer ones behind it, if a cumulative patch was disabled and enabled again. The newer ones
-/// stay then (docs/DECISIONS.md, "Cumulative patches below newer ones").
+/// Returns the patches that are before this one in the list, or the whole list if this one isn't in it. If a cumulative
+/// patch was disabled and enabled again, there may be no patches before it, and newer ones after it, which stay
+/// (docs/DECISIONS.md, "Cumulative patches below newer ones").
 pub(crate) fn older_than(patch: PatchId, installed: &[PatchId]) -> &[PatchId]
     ensures { result.now ≡ installed_before patch installed.now }
 {
@@ -38,8 +38,8 @@ pub(crate) fn older_than(patch: PatchId, installed: &[PatchId]) -> &[PatchId]
     installed
 }
 
-/// Takes the entries of these patches out of the stacks of all loaded sites. The order of the patches changes only the
-/// records, not the stacks that are left.
+/// Takes the entries of these patches out of the stacks of all loaded sites. The stacks that are left don't depend on
+/// the order of the patches; only the records do.
 pub(crate) fn unpatch_each(
     sites: &mut Sites,
     catalog: &Catalog,
@@ -70,15 +70,16 @@ pub(crate) fn unpatch_each(
     }
 }
 
-/// Returns a copy of the number of the oldest installed patch, or None without one. A copy, since the caller changes
-/// the world next.
+/// Returns the number of the oldest installed patch, or `None` if there is none. The number is a copy, since the caller
+/// changes the world next.
 fn oldest(world: &World) -> Option<PatchId>
     ensures { result ≡ slice_get (map (λ (i : Installed). i.patch) world.now.installed) 0 }
 {
     world.installed().first().copied()
 }
 
-/// Takes the patches before this one out of the list, oldest first, so that the next to leave is always the first.
+/// Takes the patches before this one out of the list, oldest first. So the next patch to take out is always the first
+/// of the list.
 pub(crate) fn drop_older(world: &mut World, patch: PatchId, log: &mut Records)
     requires records { length log.old.logged ≤ RECORDS_AFTER_CALLBACKS }
     requires log { log.old.room ≡ MAX_RECORDS }

@@ -13,30 +13,30 @@ use std::io::{ErrorKind, Write};
 use std::rt::Env;
 use std::{env, io};
 
-/// The name that the program gives itself.
+/// The name by which the program calls itself.
 const NAME: &str = "klpsim";
 
-/// The command for two task threads, and the names of the arguments.
+/// The command that runs two task threads. Behind it stand the names of the arguments.
 const LIVE: &str = "live";
 
 const CATALOG: &str = "CATALOG";
 
 const STEPS: &str = "STEPS";
 
-/// The status of words that are refused.
+/// The exit status if the program's arguments are refused.
 const USAGE: u8 = 2;
 
 /// The status of any other fault.
 const FAULT: u8 = 1;
 
-// Returns the command `console`, which takes one catalog or none.
+// Returns the command `console`. It has one argument, a catalog, which may be left out.
 fn console_command<'a>(alloc: Global) -> Result<Command<'a>, AllocError>
     ensures { IfOk result (λ command. IsCommand command console_app) }
 {
     Command::new(alloc, "console").arg(Arg::new(alloc, CATALOG))
 }
 
-// Returns the command `live`, which takes a catalog and steps.
+// Returns the command `live`. It needs a catalog and steps.
 fn live_command<'a>(alloc: Global) -> Result<Command<'a>, AllocError>
     ensures { IfOk result (λ command. IsCommand command live_app) }
 {
@@ -56,7 +56,7 @@ fn command<'a>(alloc: Global) -> Result<Command<'a>, AllocError>
     command.subcommand(live_command(alloc)?)
 }
 
-// Returns the path that was given for the argument of this name, or `None`.
+// Returns the path that was given for the argument of this name. Returns `None` if none was given.
 fn path_of(
     alloc: Global,
     matches: &ArgMatches<'_>,
@@ -70,7 +70,7 @@ fn path_of(
     }
 }
 
-// Returns what the words ask for, once they are matched. `None` if a file is missing.
+// Returns what the matched arguments ask for. Returns `None` if a file is missing.
 fn wanted(alloc: Global, matches: &ArgMatches<'_>) -> Result<Option<Wanted>, AllocError>
     ensures { IfOk result (λ words. option_map meaning words ≡ asked_in (subcommand_rows_of matches.now)) }
 {
@@ -87,7 +87,7 @@ fn wanted(alloc: Global, matches: &ArgMatches<'_>) -> Result<Option<Wanted>, All
     }
 }
 
-// Returns the words behind the program's name. `Err` if one isn't text, or if memory runs out.
+// Returns the arguments of the program. `Err` if one of them isn't text, or if memory runs out.
 fn words_given<R: Env + AllocGlobal>(rt: &R) -> io::Result<Vec<String>> {
     let mut given = Vec::new(rt.alloc());
     for word in env::args(rt)?.skip(1) {
@@ -96,8 +96,8 @@ fn words_given<R: Env + AllocGlobal>(rt: &R) -> io::Result<Vec<String>> {
     Ok(given)
 }
 
-/// Returns the words behind the program's name. If one isn't text, or if memory runs out, writes a line to `err` and
-/// returns the exit status: 2 for words, 1 for memory. `name` is what the program calls itself.
+/// Returns the arguments of the program, which calls itself `name`. If one isn't text, or if memory runs out, writes a
+/// line to `err`. Then returns the exit status as `Err`: 2 for arguments, 1 for memory.
 pub fn program_arguments<R: Env + AllocGlobal, W: Write>(
     rt: &R,
     name: &str,
@@ -114,7 +114,7 @@ pub fn program_arguments<R: Env + AllocGlobal, W: Write>(
     }
 }
 
-// Reads klpsim's words. `Err(None)` if they are refused, `Err` with a fault if memory runs out.
+// Reads klpsim's arguments. Returns `Err(None)` if they are refused, and `Err` with a fault if memory runs out.
 fn parse(alloc: Global, given: &[String]) -> Result<Wanted, Option<Fault>>
     ensures meant { IfOk result (λ words. asked_of (map string_bytes given.now) ≡ Some (meaning words)) }
     ensures refused { IfErr result (λ fault. fault ≡ None → asked_of (map string_bytes given.now) ≡ None) }
@@ -131,8 +131,8 @@ fn parse(alloc: Global, given: &[String]) -> Result<Wanted, Option<Fault>>
     }
 }
 
-/// Reads the words behind klpsim's name. If they are refused, as `--help` is, or if memory runs out, writes a line to
-/// `err` and returns the exit status: 2 for words, 1 for memory.
+/// Reads klpsim's arguments. If they are refused, as `--help` is, or if memory runs out, writes a line to `err`. Then
+/// returns the exit status as `Err`: 2 for arguments, 1 for memory.
 pub fn parse_arguments<W: Write>(alloc: Global, given: &[String], err: &mut W) -> Result<Wanted, u8>
     ensures meant { IfOk result (λ words. asked_of (map string_bytes given.now) ≡ Some (meaning words)) }
     ensures refused { IfErr result (λ status. status ≡ 2 → asked_of (map string_bytes given.now) ≡ None) }
@@ -145,16 +145,15 @@ pub fn parse_arguments<W: Write>(alloc: Global, given: &[String], err: &mut W) -
     }
 }
 
-/// Whether a word begins with `-`, as options do.
+/// Whether an argument begins with `-`, as options do.
 fn begins_with_dash(word: &str) -> bool
     ensures { result ≡ begins_with_dash word.now }
 {
     word.as_bytes().first() == Some(&b'-')
 }
 
-/// Returns the two words behind a program's name, which are its files. Refuses any other number of words, and words
-/// that begin with `-`: then writes a line to `err` and returns the exit status, 2. `name` is what the program calls
-/// itself.
+/// Returns a program's two arguments, which are its files. `name` is what the program calls itself. If there aren't
+/// exactly two, or if one begins with `-`, writes a line to `err` and returns the exit status 2 as `Err`.
 pub fn file_words<'a, W: Write>(
     name: &str,
     given: &'a [String],
@@ -173,22 +172,22 @@ pub fn file_words<'a, W: Write>(
     }
 }
 
-/// Writes a fault to `err` as a line of klpsim, and returns its exit status, 1.
+/// Writes a fault to `err`, as a line of klpsim. Returns the exit status, 1.
 pub fn report_fault<W: Write>(fault: Fault, err: &mut W) -> u8
     ensures { result ≡ 1 }
 {
     report_fault_as(NAME, fault, err)
 }
 
-/// Writes to `err` that klpsim's words are refused, and returns the exit status, 2.
+/// Writes to `err` that klpsim's arguments are refused. Returns the exit status, 2.
 pub fn report_usage<W: Write>(err: &mut W) -> u8
     ensures { result ≡ 2 }
 {
     report_usage_as(NAME, err)
 }
 
-/// Returns what a program writes about refused words: how it is called, and where to read more. klpsim writes the word
-/// `usage` alone, since scripts wait for it.
+/// Returns what a program writes if its arguments are refused: how to call it, and where to read more. For klpsim that
+/// is only the word `usage`, since scripts wait for it.
 fn usage_of(name: &str) -> &'static str {
     match name.as_bytes() {
         b"klpwatch" => "usage: klpwatch CATALOG TRACE (man klpwatch)",
@@ -197,7 +196,7 @@ fn usage_of(name: &str) -> &'static str {
     }
 }
 
-/// Writes a fault to `err` as a line of the program of this name, and returns its exit status, 1.
+/// Writes a fault to `err`, as a line of the program `name`. Returns the exit status, 1.
 pub fn report_fault_as<W: Write>(name: &str, fault: Fault, err: &mut W) -> u8
     ensures { result ≡ 1 }
 {
@@ -205,7 +204,7 @@ pub fn report_fault_as<W: Write>(name: &str, fault: Fault, err: &mut W) -> u8
     FAULT
 }
 
-/// Writes to `err` how the program of this name is called, and returns the exit status of refused words, 2.
+/// Writes to `err` how to call the program `name`. Returns the exit status for refused arguments, 2.
 pub fn report_usage_as<W: Write>(name: &str, err: &mut W) -> u8
     ensures { result ≡ 2 }
 {

@@ -27,7 +27,7 @@ pub enum Fault {
     Assemble(AssembleFault),
     #[error(transparent)]
     Boot(BootFault),
-    /// The input or the output failed, or a line is too long.
+    /// The input or the output failed, or a line of the input is too long.
     #[error(transparent)]
     Serve(ServeFault),
     /// The trace has a faulty line.
@@ -35,7 +35,8 @@ pub enum Fault {
     Trace(TraceFault),
 }
 
-// A derived conversion has no clause, but `boot` and `over_text` promise which fault they return.
+// These conversions aren't derived: a derived one has no clause, but `boot` and `over_text` promise which fault they
+// return.
 impl From<TextFault> for Fault {
     ghost from_gives = { λ fault own. own ≡ Text fault };
 

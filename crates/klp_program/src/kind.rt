@@ -8,10 +8,10 @@ use klp_catalog_text::Plan;
 use klp_world::Script;
 use std::alloc::{AllocError, Global};
 
-/// A callback for a script, in a box that names its kind.
+/// A callback that runs a script, in a box whose type says which kind of callback it is.
 ///
-/// A manager takes boxes that name no kind. But the check can't follow such a box if a function makes it and hands it
-/// out. So whoever boots a manager turns this box into one without a kind.
+/// A manager needs boxes that don't say the kind. But the check can't follow such a box if a function makes and returns
+/// it. So whoever boots a manager turns a box of this type into one without a kind.
 #[derive(Drop)]
 pub(crate) enum Kind {
     Scripted(Box<Scripted>),
@@ -19,7 +19,7 @@ pub(crate) enum Kind {
     Quiet(Box<Quiet>),
 }
 
-// Makes a callback that means the script, of the simplest possible kind. `Err` if memory runs out.
+// Makes a callback that does what the script says, of the simplest kind that can. `Err` if memory runs out.
 fn kind_of(alloc: Global, script: &Script) -> Result<Kind, AllocError>
     ensures { IfOk result (λ kind. lent_by kind ≡ never_ran script.now) }
 {
@@ -34,8 +34,9 @@ fn kind_of(alloc: Global, script: &Script) -> Result<Kind, AllocError>
     }
 }
 
-/// Makes a callback for the script of this number, in the order of the text. `None` if the plan has no such script. The
-/// callback is always of the kind that runs any script, for callers that want to handle one kind alone.
+/// Makes a callback for the script with this number, counted in the order of the text. The callback is always of the
+/// kind that can run any script, for callers that want to handle only one kind. Returns `None` if the plan has no such
+/// script.
 pub fn scripted(
     alloc: Global,
     plan: &Plan,
@@ -50,8 +51,8 @@ pub fn scripted(
     }
 }
 
-/// Makes a callback for the script of this number, in the order of the text, of the simplest kind that can mean it.
-/// `None` if the plan has no such script.
+/// Makes a callback for the script with this number, counted in the order of the text. The callback is of the simplest
+/// kind that can run this script. Returns `None` if the plan has no such script.
 pub(crate) fn callback_of(
     alloc: Global,
     plan: &Plan,

@@ -1,6 +1,7 @@
-//! What the programs do, apart from the process: they read their words and the catalog's file, and boot a manager over
-//! the catalog's text. `klpsim` serves the console by this manager (`src/serve.rt`). `klpwatch` checks a trace against
-//! the consistency model, and compares what a kernel answered and showed with the rules (`src/watch.rt`).
+//! What the programs do, except for what needs the process. They read their arguments and the catalog's file, and boot
+//! a manager over the catalog's text. `klpsim` lets this manager serve the console (`src/serve.rt`). `klpwatch` checks
+//! a trace against the consistency model, and compares what a kernel answered and showed with the rules
+//! (`src/watch.rt`).
 #![tactic(auto)]
 
 mod arguments;

@@ -1,4 +1,4 @@
-/// The catalog that is served if none is named.
+/// The built-in catalog, which is used if no file is named.
 pub const CATALOG: &[u8] = b"\
 handler ffffffff81000000
 object vmlinux

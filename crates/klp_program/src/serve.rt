@@ -1,4 +1,4 @@
-//! Booting a manager over a catalog's text, and serving the console by it.
+//! Boots a manager over a catalog's text, and lets it serve the console.
 ghost use Rattle.std.specs.Prelude.{◌≡◌, ◌≤◌, length};
 ghost use Rattle.klp_catalog_text.specs.Within.{AreTargetsWithin};
 ghost use Rattle.klp_program.specs.Runs.{Exits, Runs, RunsOver, RunsPlan, ServesBy};
@@ -18,11 +18,11 @@ use std::io::{Read, Write};
 use std::marker::Brand;
 use std::sync::ledger::{Blank, Ledger};
 
-/// Drops a manager. Each function that owns one ends with this call: a manager's drop is costly to prove, so it is
-/// proved only here.
+/// Drops a manager. Each function that owns a manager ends with this call. That a manager may be dropped is costly to
+/// prove, so it is proved only here.
 pub fn close(_manager: Manager) {}
 
-// Serves the console by a manager, and drops it then.
+// Serves the console with a manager, and then drops the manager.
 fn over_manager<R: Source, W: Sink>(
     mut manager: Manager,
     reader: &mut R,
@@ -39,10 +39,10 @@ fn over_manager<R: Source, W: Sink>(
     }
 }
 
-// Boots a manager over a plan, and serves the console by it.
+// Boots a manager over a plan, and serves the console with it.
 //
-// Each script of the text gets a callback of the simplest kind that means it. The boxes are made here, and none is
-// returned: what is proved of a box is lost if the function that makes it hands it out.
+// Each script of the text gets a callback of the simplest kind that can run it. The boxes are made here, and none of
+// them is returned: what is proved of a box is lost when the function that makes it returns it.
 fn over_plan<R: Source, W: Sink>(
     alloc: Global,
     plan: Plan,
@@ -66,8 +66,8 @@ fn over_plan<R: Source, W: Sink>(
     over_manager(manager, reader, writer)
 }
 
-/// Boots a manager over the catalog's text, and serves the console by it until the input ends. Reads and writes nothing
-/// before the text is known to have no fault.
+/// Boots a manager over the catalog's text, and serves the console with it until the input ends. If the text has a
+/// fault, nothing is read or written.
 pub fn over_text<R: Source, W: Sink>(
     alloc: Global,
     catalog: &[u8],
@@ -81,8 +81,8 @@ pub fn over_text<R: Source, W: Sink>(
     over_plan(alloc, plan, reader, writer)
 }
 
-// Serves the console over streams of std. `reads` and `writes` are tokens, by which the proof knows all that was read
-// and written.
+// Serves the console between two streams of std. `reads` and `writes` are tokens, by which the proof knows all that was
+// read and written.
 fn over_std<R: Read, W: Write, L: Ledger, M: Ledger>(
     alloc: Global,
     catalog: &[u8],
@@ -100,9 +100,9 @@ fn over_std<R: Read, W: Write, L: Ledger, M: Ledger>(
     over_text(alloc, catalog, &mut reader, &mut writer)
 }
 
-/// Serves the input over a catalog's text until it ends, and returns the exit status: 0, or 1 after a fault, which a
-/// line on `err` names. Writes nothing to `out` before the catalog is known to have no fault. No clause says what the
-/// streams contain afterwards (docs/DECISIONS.md, "What gathers answers, and its sink"); tests show it.
+/// Serves the console over a catalog's text until the input ends. Returns the exit status: 0, or 1 after a fault, about
+/// which it writes a line to `err`. If the catalog has a fault, writes nothing to `out`. No clause says what the
+/// streams contain afterwards (docs/DECISIONS.md, "What gathers answers, and its sink"). Tests show that.
 pub fn console<R: Read, W: Write, E: Write>(
     alloc: Global,
     catalog: &[u8],

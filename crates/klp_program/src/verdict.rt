@@ -1,21 +1,22 @@
 use klp_watch::{Differs, NotHonest};
 
-/// How many items of a trace are of each kind. Events count whether they were accepted or refused.
+/// How many items of each kind a trace has. Accepted and refused events both count.
 #[derive(Clone, Copy)]
 pub struct Counts {
     pub events: usize,
     pub calls: usize,
     pub returns: usize,
-    /// The answers and sights, which were compared with the rules. An event with an answer counts here and as an event.
+    /// How many answers and sights there are. These were compared with the rules. An event with an answer is counted
+    /// here and as an event.
     pub compared: usize,
 }
 
-/// What a trace comes to. Each line is an item, so an item's number is that of its line.
+/// The verdict on a trace. Each line is an item, so the number of an item is that of its line.
 #[derive(Clone, Copy)]
 pub enum Verdict {
-    /// All items keep the premises, and the kernel does as the rules say.
+    /// All items keep the premises, and the kernel nowhere differs from the rules.
     Honest(Counts),
-    /// The first item that breaks a premise. What the kernel answered to it isn't compared.
+    /// The first item that breaks a premise. The kernel's answer to it isn't compared with the rules.
     Dishonest(NotHonest),
     /// The first item at which the kernel differs from the rules. The item breaks no premise.
     Differs(Differs),

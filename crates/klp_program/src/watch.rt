@@ -1,4 +1,4 @@
-//! Booting a manager over a catalog's text, and comparing the kernel of a trace with it.
+//! Boots a manager over a catalog's text, and compares the kernel of a trace with the manager.
 ghost use Rattle.std.specs.Prelude.{◌≡◌, ◌≤◌, [], ◌∷◌, length, map, string_bytes, Some, None, OnOk, MatchResult};
 ghost use Rattle.std.specs.Io.KnownBytes.{Appends};
 ghost use Rattle.klp_catalog_text.specs.Within.{AreTargetsWithin};
@@ -26,15 +26,15 @@ use std::alloc::Global;
 use std::io;
 use std::io::Write;
 
-/// The name that the program gives itself.
+/// The name by which the program calls itself.
 const NAME: &str = "klpwatch";
 
-/// The statuses of a trace that is as the rules say, and of one that isn't.
+/// The exit status for an honest trace whose kernel does as the rules say. `REFUTED` is that for any other trace.
 const HONEST: u8 = 0;
 
 const REFUTED: u8 = 3;
 
-/// Counts the items of each kind.
+/// Returns how many items of each kind there are.
 fn counted(items: &[Observed]) -> Counts
     ensures { result ≡ counted items.now }
 {
@@ -59,7 +59,7 @@ fn counted(items: &[Observed]) -> Counts
     counts
 }
 
-/// Returns the verdict on a trace with an item that breaks a premise, or at which the kernel differs from the rules.
+/// Returns the verdict that a trace breaks a premise, or that its kernel differs from the rules, as `differs` says.
 fn reported(differs: Differs) -> Verdict
     ensures { result ≡ reported differs }
 {
@@ -72,7 +72,7 @@ fn reported(differs: Differs) -> Verdict
     }
 }
 
-/// Returns the verdict on items whose comparison had this result.
+/// Returns the verdict on `items`. `ended` is the result of their comparison.
 fn verdict_of(ended: Result<(), Differs>, items: &[Observed]) -> Verdict
     ensures { MatchResult ended (λ _. result ≡ Honest (counted items.now)) (λ differs. result ≡ reported differs) }
 {
@@ -82,7 +82,7 @@ fn verdict_of(ended: Result<(), Differs>, items: &[Observed]) -> Verdict
     }
 }
 
-// Compares all items with what the manager does, and drops it then.
+// Compares all items with what the manager does, and then drops the manager.
 fn watch_items(mut manager: Manager, items: &[Observed]) -> Verdict
     ensures { (left : Managed) × IsFound manager.managed left items.now result }
 {
@@ -91,8 +91,8 @@ fn watch_items(mut manager: Manager, items: &[Observed]) -> Verdict
     verdict_of(ended, items)
 }
 
-// Reads a trace by the names of the manager's catalog, and compares it with what the manager does. Drops the manager
-// then, even if the trace can't be read.
+// Reads a trace by the names of the manager's catalog, and compares it with what the manager does. Drops the manager,
+// even if the trace can't be read.
 fn watch_over_manager(alloc: Global, manager: Manager, trace: &[u8]) -> Result<Verdict, Fault>
     ensures { WatchesBy manager trace.now result }
 {
@@ -105,8 +105,8 @@ fn watch_over_manager(alloc: Global, manager: Manager, trace: &[u8]) -> Result<V
     }
 }
 
-// Boots a manager over a plan, and judges the trace by it. As `over_plan` of serve.rt does, it makes the boxes of the
-// callbacks here, but all of one kind.
+// Boots a manager over a plan, and judges the trace with it. The boxes of the callbacks are made here, as in
+// `over_plan` of serve.rt, but they are all of one kind.
 fn watch_over_plan(alloc: Global, plan: Plan, trace: &[u8]) -> Result<Verdict, Fault>
     requires { AreTargetsWithin (length plan.objects) plan.patches }
     ensures { WatchesPlan plan trace.now result }
@@ -119,10 +119,10 @@ fn watch_over_plan(alloc: Global, plan: Plan, trace: &[u8]) -> Result<Verdict, F
     watch_over_manager(alloc, manager, trace)
 }
 
-/// Boots a manager over the catalog's text, and judges a trace by it: whether each item keeps the premises of the
-/// consistency model, and whether the kernel answered and showed what the rules say. The verdict is that of the whole
-/// trace, however long it is: no event is refused for lack of room in the journal. `Err` if the catalog or the trace
-/// has a fault, or if memory runs out.
+/// Boots a manager over the catalog's text, and judges a trace with it. There are two questions: whether each item
+/// keeps the premises of the consistency model, and whether the kernel answered and showed what the rules say. The
+/// verdict is on the whole trace, even on a long one: no event is refused because the journal is full. `Err` if the
+/// catalog or the trace has a fault, or if memory runs out.
 pub fn watch_over_text(alloc: Global, catalog: &[u8], trace: &[u8]) -> Result<Verdict, Fault>
     ensures { Watches catalog.now trace.now result }
 {
@@ -146,7 +146,7 @@ fn name_of(cause: Cause) -> &'static str
     }
 }
 
-/// Returns the word for what the kernel differs in, or for the premise that is broken.
+/// Returns the word for what the kernel does otherwise than the rules, or for the premise that is broken.
 fn name_of_difference(difference: Difference) -> &'static str
     ensures { result.now ≡ difference_text difference }
 {
@@ -160,7 +160,7 @@ fn name_of_difference(difference: Difference) -> &'static str
     }
 }
 
-/// Writes the verdict as one line, with the number of answers and sights that were compared, if any were.
+/// Writes the verdict as one line. If answers or sights were compared, the line also says how many.
 fn print<W: Write>(verdict: Verdict, out: &mut W) -> io::Result<()>
     ensures { OnOk result (Appends (W.contents out.old) (W.contents out.new) (verdict_text verdict)) }
 {
@@ -215,8 +215,8 @@ pub fn watch_trace<W: Write>(
     }
 }
 
-/// Returns the two words behind klpwatch's name, which are the files of a catalog and of a trace. Refuses other words:
-/// then writes a line to `err` and returns the exit status, 2.
+/// Returns klpwatch's two arguments: the files of a catalog and of a trace. If the arguments aren't these, writes a
+/// line to `err` and returns the exit status 2 as `Err`.
 pub fn trace_words<'a, W: Write>(given: &'a [String], err: &mut W) -> Result<(&'a str, &'a str), u8>
     ensures { MatchResult result
         (λ files. two_files (map string_bytes given.now) ≡ Some (files.0.now ∷ files.1.now ∷ []))

@@ -45,8 +45,8 @@ impl HookedSites {
         self.words[number / WORD] &= !(1u64 << (number % WORD));
     }
 
-    /// Returns the lowest hooked site whose number is at least `from`. The cost is one step for each word of 64
-    /// sites that it passes.
+    /// Returns the lowest hooked site whose number is at least `from`. The cost is one step for each word of 64 sites
+    /// that the search skips.
     pub(crate) fn next(&self, from: usize) -> Option<Site>
         ensures some { IfSome result (λ site. IsNextSet self.now.words from site) }
         ensures none { IfNone result ((other : ℕ) → from ≤ other → bit_of self.now.words other ≡ 0) }

@@ -59,8 +59,8 @@ fn count_sites(image: &Image) -> usize
 }
 
 impl Sites {
-    /// Takes an image without hooks, and creates an empty stack for each of its sites. `Err` if memory is refused;
-    /// the image is dropped then.
+    /// Makes the table of an image without hooks, with an empty stack for each of its sites. If memory is refused,
+    /// returns `Err` and drops the image.
     pub fn new(alloc: Global, image: Image) -> Result<Self, AllocError>
         requires { image.hooked ≡ replicate (site_count image.image) false }
         ensures { IfOk result (λ sites. sites ≡ opening image) }
@@ -145,7 +145,8 @@ impl Sites {
     }
 
     /// Marks an object as loaded, and returns the undo record, which says whether it was loaded before. The hooks of
-    /// its sites don't change: separate changes put the entries of a module on. The cost is constant.
+    /// its sites don't change: the caller puts the entries of a module on its sites by separate calls. The cost is
+    /// constant.
     pub fn load(&mut self, object: ObjId) -> Record
         requires { object < length self.old.image.objects }
         ensures row { result ≡ Record.LoadedFlag object (slice_index_or self.old.loaded object false) }
@@ -168,7 +169,7 @@ impl Sites {
 
     /// Restores the one row that the record names: an entry, with its site's hook, or an object's loaded flag. Nothing
     /// changes if there is no such site or object, or if the record is of another kind. The record of a hook changes
-    /// nothing either: the record of its entry, which is put back right after it, restores the hook too
+    /// nothing either. The record of the site's entry is put back right after it, and restores the hook too
     /// (docs/DECISIONS.md, "Hooks in undo"). The cost is at most the stack's height.
     pub fn put_back(&mut self, row: Record)
         requires due { is_due self.old row ≡ true }
@@ -181,9 +182,9 @@ impl Sites {
         }
     }
 
-    /// Puts an entry back at its place, or takes it out if `was` is `None`, as `put_back` of its record does. It
-    /// writes the hook only if the site gets its first entry or loses its last. The cost is at most the stack's
-    /// height.
+    /// Puts a patch's entry back at its place `was`, or takes the entry out if `was` is `None`. `put_back` of the
+    /// entry's record does the same. The hook is written only if the site gets its first entry or loses its last. The
+    /// cost is at most the stack's height.
     #[inline(always)]
     pub fn put_entry(&mut self, site: Site, patch: PatchId, was: Option<Place>)
         requires { is_some was ≡ true → 0 < spare_in self.old.stacks }
@@ -229,8 +230,8 @@ impl Sites {
         Record::LoadedFlag { object, was }
     }
 
-    /// Lends the image: its names, its addresses, and its bytes with the hooks. It is read-only, since a hook
-    /// written from outside wouldn't match the stacks.
+    /// Borrows the image: its names, its addresses, and its bytes with the hooks. A caller can't change the image,
+    /// since a hook written from outside wouldn't match the stacks.
     pub fn image(&self) -> &Image
         ensures value { result.now ≡ image_of self.now }
         ensures sites { length self.now.stacks ≡ site_count self.now.image }
@@ -245,8 +246,8 @@ impl Sites {
         self.image.is_loaded(object)
     }
 
-    /// Returns the lowest site numbered `from` or higher that has an entry, and so is hooked. A walk over all
-    /// hooked sites costs one step for each of them, and one for each 64 sites.
+    /// Returns the lowest site, numbered `from` or higher, that has an entry and so is hooked. A walk over all hooked
+    /// sites costs one step for each of them, and one for each 64 sites.
     pub fn next_hooked(&self, from: usize) -> Option<Site>
         ensures { MatchOption result ((other : ℕ) → from ≤ other → is_hooked_at self.now.stacks other ≡ false)
             (λ site. IsNextHooked self.now.stacks from site) }
@@ -262,8 +263,8 @@ impl Sites {
         self.stacks.sites()
     }
 
-    /// Lends the function stacks: which entries a site has, and which version runs there. They are read-only, as
-    /// the image is.
+    /// Borrows the function stacks: which entries a site has, and which version runs there. Like the image, they can't
+    /// be changed by a caller.
     pub fn stacks(&self) -> &Stacks
         ensures { result.now ≡ self.now.stacks }
     {

@@ -14,8 +14,8 @@ use crate::slot::Slot;
 use arrayvec::ArrayVec;
 use klp_types::{Entry, MAX_PATCHES, PatchId, Place, Site, SiteWord, Transition, Version};
 
-/// The function stack of one site (the kernel's `func_stack`). Its entries are linked newest first, in the order in
-/// which their patches were enabled: a newer patch hides the older ones.
+/// The function stack of one site (the kernel's `func_stack`). Its entries are linked newest first. The newest is the
+/// entry of the patch that was enabled last, and hides the older ones.
 #[derive(Clone, Copy)]
 pub(crate) struct Chain {
     /// The number of the slot with the newest entry. It means nothing while `len` is 0.
@@ -47,7 +47,7 @@ impl Chain {
         number
     }
 
-    /// Returns the entry that has `newer` entries above it. `None` if the stack has at most `newer` entries.
+    /// Returns the entry that has `newer` entries above it. Returns `None` if the stack has at most `newer` entries.
     pub(crate) fn entry_below(self, slots: &[Slot], newer: u16) -> Option<Entry>
         requires { IsLinked slots.now self.len self.newest }
         ensures { result ≡ slice_get (entries_from slots.now self.len self.newest) newer }
@@ -61,7 +61,8 @@ impl Chain {
     }
 
     /// Returns the place of the patch's entry: its index counted from the oldest entry, and what the entry does.
-    /// `None` if the patch has no entry here. A patch has at most one, so the first that is found is the only one.
+    /// Returns `None` if the patch has no entry here. A patch has at most one, so the first that is found is the only
+    /// one.
     pub(crate) fn place(self, slots: &[Slot], patch: PatchId) -> Option<Place>
         requires linked { IsLinked slots.now self.len self.newest }
         requires few { self.len ≤ MAX_PATCHES }
@@ -81,7 +82,8 @@ impl Chain {
         None
     }
 
-    /// Returns the place of the patch's entry, and the slot above it, if the entry is below the newest one.
+    /// Returns the place of the patch's entry, and the slot above it. Returns `None` if the patch has no entry here, or
+    /// if its entry is the newest.
     pub(crate) fn lower(self, slots: &[Slot], patch: PatchId) -> Option<Lower>
         requires linked { IsLinked slots.now self.len self.newest }
         requires some { 0 < self.len }
@@ -107,8 +109,8 @@ impl Chain {
         None
     }
 
-    /// Returns the number of the slot that has `index` older entries below it. To get position `index`, counted from
-    /// the oldest, an entry of the patch is put just below this slot. `None` if the stack has at most `index` entries,
+    /// Returns the slot below which an entry of the patch must be put to have the position `index`, counted from the
+    /// oldest. That slot has `index` older entries below it. Returns `None` if the stack has at most `index` entries,
     /// or if the patch has an entry already.
     pub(crate) fn above(self, slots: &[Slot], patch: PatchId, index: u8) -> Option<u16>
         requires linked { IsLinked slots.now self.len self.newest }
@@ -136,7 +138,7 @@ impl Chain {
         Some(above)
     }
 
-    /// Copies the entries into an array, newest first, so that the caller holds no borrow.
+    /// Copies the entries into an array, newest first, so that the caller needn't borrow the stack.
     pub(crate) fn entries(self, slots: &[Slot]) -> ArrayVec<Entry, MAX_PATCHES>
         requires linked { IsLinked slots.now self.len self.newest }
         requires few { self.len ≤ MAX_PATCHES }
@@ -152,7 +154,7 @@ impl Chain {
         entries
     }
 
-    /// Returns the entry of a patch, wherever it is on the stack. `None` if the patch has none.
+    /// Returns the entry of a patch, wherever it is on the stack. Returns `None` if the patch has none.
     pub(crate) fn entry(self, slots: &[Slot], patch: PatchId) -> Option<Entry>
         requires linked { IsLinked slots.now self.len self.newest }
         requires few { self.len ≤ MAX_PATCHES }
@@ -182,10 +184,9 @@ impl Chain {
         }
     }
 
-    /// Returns the version that blocks a sleeper at this site (the kernel's `klp_check_stack_func`). While the
-    /// patch is being disabled it is the patch's own version. While the patch is being enabled it is the version
-    /// below: the next older entry's, or the original if the patch's entry is the oldest. `None` if the patch has
-    /// no entry here.
+    /// Returns the version that blocks a sleeper at this site (the kernel's `klp_check_stack_func`). While the patch is
+    /// being disabled, this is the patch's own version. While it is being enabled, this is the version below its entry:
+    /// that of the next older entry, or the original if there is none. Returns `None` if the patch has no entry here.
     pub(crate) fn blocked(self, slots: &[Slot], site: Site, moving: Transition) -> Option<Version>
         requires linked { IsLinked slots.now self.len self.newest }
         requires few { self.len ≤ MAX_PATCHES }

@@ -7,17 +7,17 @@ ghost use Rattle.klp_model.specs.Rows.{moving_patch, word_of};
 ghost use Rattle.klp_stack.specs.Pick.{picked};
 ghost use Rattle.klp_stack.specs.Spare.{spare_in};
 
-/// A site's two newest entries decide which version a task runs there, whatever is below them. Only the newest
-/// entry's patch can be in transition, so a task passes over at most that one entry.
+/// A site's two newest entries decide which version a task runs there, whatever entries are below them. Only the newest
+/// entry's patch can be in transition, so a task skips at most that one entry.
 pub fn two_newest_entries_decide()
     ensures { (site : ℕ) (moving : Option Transition) (task : ℤ) (entries : List Entry)
         → picked site (word_of (moving_patch moving) entries) task ≡ newest_version site
         (entries_for moving task entries) }
 {}
 
-/// While no site has an entry, the pool has 15 * 64 + 256 free slots: 64 functions for each of 15 patches, and one
-/// entry on each of 256 sites. There can never be more entries, since only the newest patch may have nops beside
-/// its functions.
+/// While no site has an entry, the pool has 15 * 64 + 256 free slots. They suffice for 64 functions of each of 15
+/// patches, and one entry on each of 256 sites. There can't be more entries, since only the newest patch may have nops
+/// in addition to its functions.
 pub fn the_pool_has_room_for_all_patches()
     ensures { (sites : ℕ) → spare_in (replicate sites []) ≡ 15 * 64 + 256 }
 {}

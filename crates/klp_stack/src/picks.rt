@@ -1,5 +1,5 @@
-//! Which version a call at a site runs (the kernel's `klp_ftrace_handler`). It reads only the two newest entries,
-//! since it would run at every call.
+//! Which version a call at a site runs (the kernel's `klp_ftrace_handler`). It reads only the two newest entries, since
+//! the decision is made at every call.
 
 ghost use Rattle.std.specs.Prelude.{◌≡◌};
 ghost use Rattle.std.specs.Option.{option_to_list};
@@ -8,9 +8,9 @@ ghost use Rattle.klp_stack.specs.Pick.{picked};
 
 use klp_types::{Entry, Site, SiteWord, Version};
 
-/// Returns the version that a task with this patch state (-1, 0 or 1) runs at a site, at a constant cost. Only a
-/// task with state 0 passes over the entry of the patch in transition; -1 means that there is no transition. A nop
-/// runs the original.
+/// Returns the version that a task with this patch state (-1, 0 or 1) runs at a site, at a constant cost. State -1
+/// means that there is no transition. Only a task with state 0 skips the entry of the patch in transition. A nop runs
+/// the original.
 pub fn pick(site: Site, word: SiteWord, state: i8) -> Version
     ensures { result ≡ picked site word state }
 {

@@ -1,4 +1,4 @@
-//! The pool of all entries. Its functions give a slot to a stack, or take one back.
+//! The pool of all entries. Its functions give slots to stacks, and take them back.
 ghost use Rattle.std.specs.Prelude.{◌≡◌, ◌+◌, ◌-◌, ◌<◌, ◌≤◌, ◌&&◌, not, nat_lt, length, is_some, option_map, IfSome};
 ghost use Rattle.std.specs.Prelude.{IfNone};
 ghost use Rattle.klp_stack.specs.Stack.{has_entry, place_of};
@@ -22,8 +22,8 @@ pub(crate) struct Pool {
 }
 
 impl Pool {
-    /// Takes the first slot of the free list for an entry, links it to the slot `older` below, and returns its
-    /// number.
+    /// Puts an entry into the first slot of the free list, and links this slot to the slot `older`, which is below it.
+    /// Returns the number of the filled slot.
     #[inline(always)]
     fn fill(&mut self, entry: Entry, older: u16) -> u16
         requires spare { 0 < self.old.spare }
@@ -125,9 +125,8 @@ impl Pool {
         self.release(number);
     }
 
-    /// Takes the entry of a patch out of a stack, and returns the entry's place and the stack that is left. `None`
-    /// if the patch has no entry there. It tries the newest entry first: most entries are taken out while they are
-    /// on top.
+    /// Takes the entry of a patch out of a stack. Returns the entry's place and the stack that is left, or `None` if
+    /// the patch has no entry there. It tries the newest entry first: most entries are taken out while they are on top.
     #[inline(always)]
     pub(crate) fn take(&mut self, chain: Chain, patch: PatchId) -> Option<(Place, Chain)>
         requires linked { IsLinked self.old.slots.items chain.len chain.newest }
@@ -174,9 +173,9 @@ impl Pool {
         Some((place, left))
     }
 
-    /// Puts an entry into a stack with `index` older entries below it, and returns the changed stack. `None`, with
-    /// nothing changed, if the stack has fewer entries, the patch has one already, or the patch's number is out of
-    /// range. Undoing never meets such a record; refusing it keeps the stack valid.
+    /// Inserts an entry into a stack with `index` older entries below it, and returns the changed stack. Returns `None`
+    /// and changes nothing if the stack has fewer entries, if the patch has one already, or if the patch's number is
+    /// out of range. Undo never meets these cases; the checks keep the stack valid in any case.
     #[inline(always)]
     pub(crate) fn put(&mut self, chain: Chain, index: u8, entry: Entry) -> Option<Chain>
         requires linked { IsLinked self.old.slots.items chain.len chain.newest }

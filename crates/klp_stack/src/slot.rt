@@ -3,7 +3,7 @@
 use klp_types::{Entry, MAX_FUNCTIONS, MAX_PATCHES, MAX_SITES};
 
 /// How many entries all stacks may have together: all functions of every patch but one, and one entry on each site.
-/// Only the newest patch may have nops beside its functions.
+/// Only the newest patch may have nops in addition to its functions.
 pub const MAX_ENTRIES: usize = (MAX_PATCHES - 1) * MAX_FUNCTIONS + MAX_SITES;
 
 /// A slot of the pool. It is on one stack, or in the free list.
@@ -11,7 +11,7 @@ pub const MAX_ENTRIES: usize = (MAX_PATCHES - 1) * MAX_FUNCTIONS + MAX_SITES;
 pub(crate) struct Slot {
     /// The slot's entry. It means nothing while the slot is free.
     pub(crate) entry: Entry,
-    /// The number of the slot with the next older entry, or of the next free slot. In the oldest slot of a stack
-    /// and in the last free slot it means nothing, since stacks and the free list have their lengths.
+    /// The number of the slot with the next older entry, or of the next free slot. It means nothing in the oldest slot
+    /// of a stack and in the last free slot: the lengths of the stacks and of the free list are stored.
     pub(crate) older: u16,
 }

@@ -23,8 +23,8 @@ use std::marker::Model;
 
 /// The function stacks of all sites (the kernel's `func_stack` of each `klp_ops`).
 ///
-/// [`Stacks::new`] allocates all memory, for [`MAX_ENTRIES`] entries of all sites together. Each change is of one
-/// entry, and has a record of the old entry. These records, put back newest first, restore the stacks before the
+/// [`Stacks::new`] allocates all memory, for [`MAX_ENTRIES`] entries of all sites together. Each change concerns one
+/// entry, and has a record of what that entry was. These records, put back newest first, restore the stacks before the
 /// changes.
 #[derive(Drop)]
 pub struct Stacks {
@@ -36,7 +36,7 @@ pub struct Stacks {
 /// What `take` took out of a stack.
 #[derive(Clone, Copy)]
 pub struct Taken {
-    /// The place of the entry before, and what the entry does.
+    /// The place that the entry had, and what it does.
     pub place: Place,
     /// Whether the stack is empty now.
     pub is_last: bool,
@@ -73,8 +73,8 @@ fn free_pool(alloc: Global) -> Result<Pool, AllocError>
 }
 
 impl Stacks {
-    /// Creates an empty stack for each of `sites` sites, and the whole pool: no later call takes memory. `Err` if
-    /// memory is refused.
+    /// Creates an empty stack for each of `sites` sites, and the whole pool: no later call takes memory. Returns `Err`
+    /// if memory is refused.
     pub fn new(alloc: Global, sites: usize) -> Result<Self, AllocError>
         ensures { IfOk result (λ stacks. stacks ≡ replicate sites []) }
     {
@@ -93,8 +93,8 @@ impl Stacks {
         self.pool.spare
     }
 
-    /// Puts an entry on top of a site's stack, at a constant cost, and returns whether it is now the only entry
-    /// there. Its undo record says that the patch had no entry at the site.
+    /// Puts an entry on top of a site's stack, at a constant cost. Returns whether it is now the only entry there. The
+    /// undo record of this says that the patch had no entry at the site.
     #[inline(always)]
     pub fn push(&mut self, site: Site, entry: Entry) -> bool
         requires there { site < length self.old }
@@ -111,9 +111,9 @@ impl Stacks {
         chain.len == 0
     }
 
-    /// Takes the entry of a patch out of a site's stack, also from below newer entries. `None` if the patch has no
-    /// entry there. The undo record has the entry's place, so that the entry can be put back below the newer ones.
-    /// The cost is the number of newer entries.
+    /// Takes the entry of a patch out of a site's stack, even if there are newer entries above it. Returns `None` if
+    /// the patch has no entry there. The undo record has the entry's place, so that the entry can be put back below the
+    /// newer ones. The cost is the number of newer entries.
     #[inline(always)]
     pub fn take(&mut self, site: Site, patch: PatchId) -> Option<Taken>
         ensures place { option_map (λ taken. taken.place) result ≡ place_of patch (entries_at self.old site) }
@@ -136,9 +136,9 @@ impl Stacks {
         })
     }
 
-    /// Puts an entry of the patch back at its place, counted from the oldest, and returns whether it is now the only
-    /// entry of the site. An entry that doesn't fit there is left out, and the answer is false; records that are put
-    /// back newest first always fit. The cost is at most the stack's height.
+    /// Puts an entry of the patch back at its place, counted from the oldest. Returns whether it is now the only entry
+    /// of the site. If the entry doesn't fit there, changes nothing and returns false; records that are put back newest
+    /// first always fit. The cost is at most the stack's height.
     #[inline(always)]
     pub fn put(&mut self, site: Site, patch: PatchId, place: Place) -> bool
         requires { 0 < spare_in self.old }
@@ -175,8 +175,8 @@ impl Stacks {
         }
     }
 
-    /// Whether a site has entries, but none of the patch. Only then does a nop of the patch change what runs there.
-    /// False for a site that doesn't exist. The cost is at most the stack's height.
+    /// Whether a site has entries, but none of the patch. Only then does a nop of the patch change what calls there
+    /// run. False for a site that doesn't exist. The cost is at most the stack's height.
     pub fn has_only_others(&self, site: Site, patch: PatchId) -> bool
         ensures { result
             ≡ (not (is_empty (entries_at self.now site)) && not (has_entry patch (entries_at self.now site))) }
@@ -187,14 +187,14 @@ impl Stacks {
         }
     }
 
-    /// Returns how many sites there are, at a constant cost: as many as `new` made.
+    /// Returns how many sites the stacks were made for, at a constant cost.
     pub fn sites(&self) -> usize
         ensures { result ≡ length self.now }
     {
         self.chains.len()
     }
 
-    /// Returns the entry of a patch on a site's stack. `None` if the patch has no entry there. The cost is the
+    /// Returns the entry of a patch on a site's stack. Returns `None` if the patch has no entry there. The cost is the
     /// number of newer entries.
     pub fn entry(&self, site: Site, patch: PatchId) -> Option<Entry>
         ensures value { result ≡ find (λ (e : AnyEntry). e.patch == patch) (entries_at self.now site) }
@@ -222,8 +222,8 @@ impl Stacks {
         }
     }
 
-    /// Copies the entries of a site into an array, newest first, so that the caller holds no borrow. The cost is
-    /// the stack's height.
+    /// Copies the entries of a site into an array, newest first, so that the caller needn't borrow the stacks. The cost
+    /// is the stack's height.
     pub fn entries(&self, site: Site) -> ArrayVec<Entry, MAX_PATCHES>
         ensures { result.items ≡ entries_at self.now site }
     {
@@ -233,9 +233,9 @@ impl Stacks {
         }
     }
 
-    /// Returns the version at a site that blocks a task: the task mustn't be inside of it when it switches (the
-    /// kernel's `klp_check_stack_func` looks for it). `None` if the patch in transition has no entry there. The
-    /// cost is the number of entries above the patch's.
+    /// Returns the version at a site that blocks a task: a task inside of this version can't be switched (the kernel's
+    /// `klp_check_stack_func` looks for such a version). Returns `None` if the patch in transition has no entry there.
+    /// The cost is the number of entries above the patch's.
     pub fn blocked(&self, site: Site, moving: Transition) -> Option<Version>
         ensures { option_to_list result ≡ blocked_among site moving (entries_at self.now site) }
     {

@@ -1,4 +1,4 @@
-//! How a run ends: what stands first on a page.
+//! How a run ended: the first part of a page.
 ghost use Rattle.std.specs.Prelude.{◌≡◌, ◌++◌, ◌∷◌, [], ◌-◌, ◌&&◌, nat_lt, codes, count_by, sum_by, is_some};
 ghost use Rattle.std.specs.Fmt.{decimal};
 ghost use Rattle.klp_markup.specs.Adds.{Adds};
@@ -45,7 +45,8 @@ fn add_reason(sheet: &mut Sheet, catalog: &Catalog, modules: &Modules, stay: &St
     }
 }
 
-/// Adds the tasks of one sentence that still sleep at the end, since which line and time, and in which function.
+/// Adds the tasks of one sentence that still sleep at the end. Says since which line and time they sleep, and in which
+/// function.
 fn add_sleepers(
     sheet: &mut Sheet,
     names: &Names,
@@ -88,7 +89,7 @@ fn add_sleeper(
     }
 }
 
-/// Returns how many tasks the sentence says sleep.
+/// Returns the number of sleeping tasks that the sentence names.
 fn tasks_of(sentence: &Sentence) -> usize
     ensures { result ≡ tasks_of sentence.now }
 {
@@ -98,8 +99,8 @@ fn tasks_of(sentence: &Sentence) -> usize
     }
 }
 
-/// Whether the end of the run shows this sentence: it lasts to the end, and fewer than [`MAX_HOLDERS`] were shown
-/// before.
+/// Whether the end of the run shows this sentence. It must last to the end, and fewer than [`MAX_HOLDERS`] sentences
+/// were shown before.
 fn is_shown(room: usize, sentence: &Sentence) -> bool
     ensures { result ≡ (nat_lt 0 room && is_lasting sentence.now) }
 {
@@ -142,7 +143,7 @@ fn others(sleepers: usize, sentences: &[Sentence]) -> usize
     left
 }
 
-/// Adds how many sleepers aren't named here, unless all are.
+/// Adds how many sleepers aren't named here. Adds nothing if all are named.
 fn add_others(sheet: &mut Sheet, count: usize)
     ensures { Adds sheet.old sheet.new (others_text count) }
 {
@@ -171,8 +172,8 @@ fn sleeping(stays: &[Option<Stay>]) -> usize
     count
 }
 
-/// Adds the tasks that hold the transition up, or sleep in code that isn't called now: first those of the first
-/// [`MAX_HOLDERS`] sentences that last, then how many others there are.
+/// Adds the tasks that hold the transition up, or sleep in code that isn't called now. First come those of the first
+/// [`MAX_HOLDERS`] sentences that last to the end, then how many others there are.
 fn add_all_sleepers(
     sheet: &mut Sheet,
     names: &Names,
@@ -189,7 +190,8 @@ fn add_all_sleepers(
     add_others(sheet, others(sleeping(stays), sentences));
 }
 
-/// Adds that nothing was done, if all lines were refused. `refused` is the number of lines then, else `None`.
+/// Adds the sentence that nothing was done, if all lines were refused. Then `refused` is the number of lines, otherwise
+/// `None`.
 fn add_refused(sheet: &mut Sheet, refused: &Option<u64>)
     ensures { Adds sheet.old sheet.new (refused_text refused.now) }
 {
@@ -230,11 +232,12 @@ fn add_first(
     sheet.markup("</h1>");
 }
 
-/// Adds how a run ends. First the transition under way, its direction and since when; or else the enabled patches.
-/// Then the tasks that hold it up, or sleep in code that isn't called now. Last the tasks that merely lag.
+/// Adds how a run ends. First comes the transition under way, with its direction and since when. If there is none, the
+/// enabled patches come first. Then come the tasks that hold the transition up, or sleep in code that isn't called now.
+/// Last come the tasks that merely lag.
 ///
-/// `view` is the state after the last line, and `sentences` are all sentences of the run. `refused` is the number of
-/// lines if each was refused. The catalog was assembled over these modules.
+/// `view` is the state after the last line, and `sentences` are all sentences of the run. If every line was refused,
+/// `refused` is the number of lines. The catalog must have been assembled over these modules.
 pub fn add_end(
     sheet: &mut Sheet,
     names: &Names,

@@ -1,5 +1,5 @@
-//! Worked examples of what a page says, by computation. A function here does nothing: its contract is the example, so
-//! the proof fails if a definition gives something else.
+//! Worked examples of what a page says. A function here does nothing: its contract is the example, and it is proved by
+//! computing the definitions. So the proof fails if a definition gives something else.
 ghost use Rattle.std.specs.Prelude.{◌≡◌, ◌++◌, ◌∷◌, [], codes, true, false, Some, None};
 ghost use Rattle.klp_types.specs.declared.task.Mode.TheVariants.{User, Kernel};
 ghost use Rattle.klp_timeline.specs.declared.moment.Fact.TheVariants.{Undoes, Completes};
@@ -21,8 +21,8 @@ pub fn tasks_are_shown_like_this()
         ≡ codes "tasks 1, 2, 3, 4, 5, 6, 7, 8 and 2 more" }
 {}
 
-/// Shows how a completed transition is written, with and without sleepers in code that isn't called now, and how
-/// undone events are.
+/// Shows the sentences on a completed transition, with and without sleepers in code that isn't called now, and the one
+/// on undone events.
 pub fn facts_are_shown_like_this()
     ensures complete { (catalog : AnyCatalog) → fact_text catalog (Completes (record { patch = 0; target = true }) 0)
         ≡ quoted_text catalog 0 ++ codes ": patching complete" ++ codes ": each task calls its functions." }
@@ -33,7 +33,8 @@ pub fn facts_are_shown_like_this()
         ≡ codes "1 event is undone: all is as it was at mark 2." }
 {}
 
-/// Shows how the lines of a stay are written, who holds a transition up, who lags, and that nothing was done.
+/// Shows how the lines of a stay are written, and the sentences that say who holds a transition up, who lags, and that
+/// nothing was done.
 pub fn stays_are_shown_like_this()
     ensures line { span_text nothing_known 7 (Some 7) ≡ codes "<li><a href=\"#line-7\">Line 7</a>: " }
     ensures lines { span_text nothing_known 7 (Some 12) ≡ codes "<li><a href=\"#line-7\">Lines 7</a> to 12: " }

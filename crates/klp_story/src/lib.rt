@@ -1,7 +1,8 @@
 //! What a page says of a run, in words: its sentences ([`add_story`], `specs/Sentences`), and before them how it ends
-//! ([`add_end`], `specs/End`). Each is promised, for each kind of fact and of stay.
+//! ([`add_end`], `specs/End`). For each kind of fact and of stay, the contracts state the words.
 //!
-//! What a sentence claims of a run is in `klp_timeline`, whose laws say that it is true, and that no stay is left out.
+//! `klp_timeline` decides what the sentences claim of a run. Its laws say that these claims are true, and that no stay
+//! is left out.
 #![tactic(auto)]
 
 mod end;

@@ -1,4 +1,4 @@
-//! Who sleeps where it matters, in words.
+//! Sentences on the sleepers that matter.
 ghost use Rattle.std.specs.Prelude.{◌≡◌, ◌++◌, ◌∷◌, [], codes, length};
 ghost use Rattle.std.specs.Fmt.{decimal};
 ghost use Rattle.klp_markup.specs.Adds.{Adds};
@@ -18,7 +18,7 @@ use klp_names::Names;
 use klp_timeline::{Sleepers, Stay};
 use klp_types::{TaskId, Transition, Version};
 
-/// Adds the text `before`, and a link to a line.
+/// Adds the text `before`, and then a link to a line.
 pub(crate) fn add_linked(sheet: &mut Sheet, before: &'static str, word: &'static str, line: u64)
     ensures { Adds sheet.old sheet.new (before.now ++ link_text word.now line) }
 {
@@ -72,7 +72,7 @@ fn add_anchor(sheet: &mut Sheet, line: u64, task: TaskId)
     sheet.markup("></i>");
 }
 
-/// Adds such an anchor for each of these tasks.
+/// Adds an anchor of the stay for each of these tasks.
 fn add_anchors(sheet: &mut Sheet, line: u64, tasks: &[TaskId])
     ensures { Adds sheet.old sheet.new (anchors_text line tasks.now) }
 {
@@ -82,7 +82,7 @@ fn add_anchors(sheet: &mut Sheet, line: u64, tasks: &[TaskId])
     }
 }
 
-/// Returns the verb for tasks that hold a transition up. If `to` is `None`, they still do at the end.
+/// Returns the verb for tasks that hold a transition up. If `to` is `None`, they still do so at the end of the run.
 fn holding(to: &Option<u64>, count: usize) -> &'static str
     ensures { result.now ≡ holding to.now count }
 {
@@ -92,7 +92,8 @@ fn holding(to: &Option<u64>, count: usize) -> &'static str
     }
 }
 
-/// Returns the verb for tasks that sleep in code that isn't called. If `to` is `None`, they still do at the end.
+/// Returns the verb for tasks that sleep in code that isn't called. If `to` is `None`, they still do so at the end of
+/// the run.
 fn sleeping(to: &Option<u64>, count: usize) -> &'static str
     ensures { result.now ≡ sleeping to.now count }
 {
@@ -102,7 +103,8 @@ fn sleeping(to: &Option<u64>, count: usize) -> &'static str
     }
 }
 
-/// Returns what it means that a task sleeps in code that isn't called. If `to` is `None`, it still does at the end.
+/// Returns what it means that a task sleeps in code that isn't called. If `to` is `None`, the task still does so at the
+/// end of the run.
 fn warning(to: &Option<u64>) -> &'static str
     ensures { result.now ≡ warning to.now }
 {
@@ -112,7 +114,7 @@ fn warning(to: &Option<u64>) -> &'static str
     }
 }
 
-/// Adds that tasks hold a patch's transition up, in which function they sleep, and why that function blocks the
+/// Adds that tasks hold a patch's transition up, in which function they sleep, and why this function blocks the
 /// transition. `verb` is `holds`, `hold` or `held`.
 fn add_hold(
     sheet: &mut Sheet,

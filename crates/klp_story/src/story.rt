@@ -87,8 +87,8 @@ fn add_earlier(sheet: &mut Sheet, count: usize)
     }
 }
 
-/// Adds a list item for each sentence that the page shows, in the order of their first lines. Then adds how many of
-/// the oldest sentences the page leaves out. The catalog was assembled over these modules.
+/// Adds a list item for each sentence that the page shows, in the order of their first lines. Then adds how many of the
+/// oldest sentences the page leaves out. The catalog must have been assembled over these modules.
 pub fn add_story(
     sheet: &mut Sheet,
     names: &Names,

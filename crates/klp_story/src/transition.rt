@@ -1,4 +1,4 @@
-//! What moves at the end of a run, or that nothing does.
+//! The transition under way at the end of a run, or that there is none.
 ghost use Rattle.std.specs.Prelude.{◌≡◌, ◌++◌, ◌∷◌, [], codes, count_by};
 ghost use Rattle.std.specs.Fmt.{decimal};
 ghost use Rattle.klp_markup.specs.Adds.{Adds};
@@ -47,7 +47,7 @@ fn add_since(sheet: &mut Sheet, names: &Names, since: &Option<Since>)
     }
 }
 
-/// Returns the words for a forced transition, or none if it wasn't forced.
+/// Returns the words for a forced transition. They are empty if it wasn't forced.
 fn forced(is_forced: bool) -> &'static str
     ensures { result.now ≡ forced_text is_forced }
 {
@@ -85,8 +85,8 @@ fn add_held(sheet: &mut Sheet, count: usize)
     }
 }
 
-/// Adds the transition under way: its patch, its target, since when, whether it was forced, and how many tasks hold it
-/// up.
+/// Adds the transition under way: its patch, its target, since when it has had this target, whether it was forced, and
+/// how many tasks hold it up.
 fn add_moving(
     sheet: &mut Sheet,
     names: &Names,
@@ -117,7 +117,7 @@ fn add_also(sheet: &mut Sheet, catalog: &Catalog, patches: &[PatchId])
     }
 }
 
-/// Adds which patches are enabled, in a state without a transition.
+/// Adds the sentence that lists the enabled patches, for a state without a transition.
 fn add_enabled(sheet: &mut Sheet, catalog: &Catalog, patches: &[PatchId])
     ensures { Adds sheet.old sheet.new (enabled_text catalog.now patches.now) }
 {
@@ -133,7 +133,7 @@ fn add_enabled(sheet: &mut Sheet, catalog: &Catalog, patches: &[PatchId])
     }
 }
 
-/// Adds that no transition is under way, and which patches are enabled.
+/// Adds the sentence that no transition is under way, and the one that lists the enabled patches.
 fn add_rest(sheet: &mut Sheet, catalog: &Catalog, patches: &[PatchId])
     ensures { Adds sheet.old sheet.new (rest_text catalog.now patches.now) }
 {
@@ -142,7 +142,8 @@ fn add_rest(sheet: &mut Sheet, catalog: &Catalog, patches: &[PatchId])
     add_enabled(sheet, catalog, patches);
 }
 
-/// Adds the transition under way, or that there is none and which patches are enabled.
+/// Adds the sentence on the transition under way. If there is none, adds the sentences that say so and list the enabled
+/// patches.
 pub(crate) fn add_state(
     sheet: &mut Sheet,
     names: &Names,

@@ -9,7 +9,7 @@ use klp_catalog::Catalog;
 use klp_markup::{Sheet, patch_name, plural};
 use klp_types::{PatchId, Transition, Version};
 
-/// Adds a number, with this text before it and behind it.
+/// Adds the text `before`, a number, and the text `behind`.
 pub(crate) fn add_number(sheet: &mut Sheet, before: &'static str, number: u64, behind: &'static str)
     ensures { Adds sheet.old sheet.new (before.now ++ decimal number ++ behind.now) }
 {

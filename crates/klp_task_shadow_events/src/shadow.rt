@@ -2,7 +2,7 @@
 //!
 //! An accepted event first empties the log, and then logs each variable that it changes, as it was before. A refused
 //! event changes nothing. For each event that can be refused, a function `.._refusal` returns why it would be refused,
-//! or None. A full journal calls it without taking the event.
+//! or `None`. If the journal is full, this function is called, and the event isn't done.
 ghost use Rattle.std.specs.Prelude.{◌≡◌, ◌<◌, None, IfNone};
 ghost use Rattle.std.specs.FinMap as finite;
 ghost use Rattle.klp_types.specs.declared.limits.TheConstants.{MAX_VARIABLES};
@@ -22,8 +22,8 @@ use klp_model::{Refusal, Reply};
 use klp_types::{MAX_VARIABLES, ShadowKey, ShadowValue};
 use klp_world::NotAdded;
 
-/// Adds a shadow variable. If it exists already the event is refused with `Exists`, while the kernel warns and returns
-/// nothing (`klp_shadow_alloc`). If no more variables fit it is refused with `Full`.
+/// Adds a shadow variable. If it exists already, the event is refused with `Exists`; the kernel warns instead and
+/// returns nothing (`klp_shadow_alloc`). If there is no room for another variable, the event is refused with `Full`.
 pub fn shadow_alloc(
     state: &mut ManagerState,
     catalog: &Catalog,
@@ -45,7 +45,7 @@ pub fn shadow_alloc(
     }
 }
 
-/// Returns why a variable can't be added, whatever its value, or None. `Exists` takes precedence over `Full`.
+/// Returns why a variable can't be added, whatever its value, or `None`. `Exists` takes precedence over `Full`.
 pub fn shadow_alloc_refusal(state: &ManagerState, key: ShadowKey) -> Option<Refusal>
     ensures refusal { (catalog : AnyCatalog) (value : AnyValue)
         → result ≡ refused_in state.now catalog (ShadowAlloc key value) }
@@ -60,8 +60,8 @@ pub fn shadow_alloc_refusal(state: &ManagerState, key: ShadowKey) -> Option<Refu
     }
 }
 
-/// Returns the value of a variable, and adds the variable with this value if it doesn't exist
-/// (`klp_shadow_get_or_alloc`). If it exists, nothing changes, and the event is accepted too.
+/// Returns the value of a variable. If the variable doesn't exist, first adds it with the given value
+/// (`klp_shadow_get_or_alloc`). If it exists, nothing changes, and the event is accepted all the same.
 pub fn shadow_get_or_alloc(
     state: &mut ManagerState,
     catalog: &Catalog,
@@ -84,7 +84,7 @@ pub fn shadow_get_or_alloc(
     Ok(Reply::Value(there))
 }
 
-/// Returns `Full` if the variable doesn't exist and there is no room for it, else None. An existing variable needs no
+/// Returns `Full` if the variable doesn't exist and there is no room for it, else `None`. An existing variable needs no
 /// room.
 pub fn shadow_get_or_alloc_refusal(state: &ManagerState, key: ShadowKey) -> Option<Refusal>
     ensures refusal { (catalog : AnyCatalog) (value : AnyValue)
@@ -119,8 +119,8 @@ pub fn shadow_free(
     Ok(BriefReply(Brief::Freed(u16::from(was_there))))
 }
 
-/// Removes all variables of this id (`klp_shadow_free_all`), whatever their parent objects. The reply says how many.
-/// The cost grows with the number of all variables.
+/// Removes all variables of this id (`klp_shadow_free_all`), whatever their parent objects. The reply says how many
+/// were removed. The cost grows with the number of all variables.
 pub fn shadow_free_all(
     state: &mut ManagerState,
     catalog: &Catalog,

@@ -1,8 +1,8 @@
-//! The events of tasks (livepatch, Consistency model). The cost of each is the same whatever is installed.
+//! The events of tasks (livepatch, Consistency model). The cost of each doesn't depend on what is installed.
 //!
-//! An accepted event changes one task's row, and leaves a log with the old row alone. A refused event changes nothing.
-//! For each event a function `.._refusal` returns why it would be refused, or None. A full journal calls it without
-//! taking the event.
+//! An accepted event changes one task's row, and afterwards the log has only the old row. A refused event changes
+//! nothing. For each event a function `.._refusal` returns why it would be refused, or `None`. If the journal is full,
+//! this function is called, and the event isn't done.
 ghost use Rattle.std.specs.Prelude.{◌≡◌, ◌<◌, not, true, false, ℕ, List, [], ◌∷◌, length, is_some, option_map, IfOk};
 ghost use Rattle.std.specs.Prelude.{IfNone};
 ghost use Rattle.std.specs.List.{list_any};
@@ -32,7 +32,7 @@ use klp_model::{Refusal, Reply};
 use klp_tasks::{Tasks, target_state};
 use klp_types::{Frames, MAX_TASKS, Mode, PatchState, TaskId, Transition, Version};
 
-/// Begins a task in user space. It is at the target of the transition, if there is one, since it has run nothing yet.
+/// Begins a task in user space. If there is a transition, the task is at its target, since it has run nothing yet.
 pub fn new_task(state: &mut ManagerState, task: TaskId) -> Result<BriefReply, Refusal>
     requires room { state.old.log.room ≡ MAX_RECORDS }
     ensures taken { TakesEventAlone state.old state.new (NewTask task) result }
@@ -50,7 +50,8 @@ pub fn new_task(state: &mut ManagerState, task: TaskId) -> Result<BriefReply, Re
     Ok(BriefReply(Brief::Done))
 }
 
-/// Returns why a task can't begin, or None: the number is too large, or a task of this number exists.
+/// Returns why a task can't begin, or `None`. The reasons are that the number is too large, or that a task with this
+/// number exists.
 pub fn new_task_refusal(state: &ManagerState, task: TaskId) -> Option<Refusal>
     ensures refusal { (catalog : AnyCatalog) → result ≡ refused_in state.now catalog (NewTask task) }
     ensures number { IfNone result (task < MAX_TASKS) }
@@ -85,7 +86,7 @@ pub fn fork(state: &mut ManagerState, parent: TaskId, child: TaskId) -> Result<B
     Ok(BriefReply(Brief::Done))
 }
 
-/// Returns why a task can't make another, or None. Both numbers are checked before the mode, as for other events.
+/// Returns why a task can't start another, or `None`. Both numbers are checked before the mode, as for other events.
 pub fn fork_refusal(state: &ManagerState, parent: TaskId, child: TaskId) -> Option<Refusal>
     ensures refusal { (catalog : AnyCatalog) → result ≡ refused_in state.now catalog (Fork parent child) }
     ensures there { IfNone result (is_some (task_at state.now.tasks parent) ≡ true) }
@@ -122,7 +123,7 @@ pub fn end_task(state: &mut ManagerState, task: TaskId) -> Result<BriefReply, Re
     Ok(BriefReply(Brief::Done))
 }
 
-/// Returns why a task can't end, or None: it doesn't exist, or it sleeps.
+/// Returns why a task can't end, or `None`. The reasons are that it doesn't exist, or that it sleeps.
 pub fn end_task_refusal(state: &ManagerState, task: TaskId) -> Option<Refusal>
     ensures refusal { (catalog : AnyCatalog) → result ≡ refused_in state.now catalog (EndTask task) }
     ensures there { IfNone result (is_some (task_at state.now.tasks task) ≡ true) }
@@ -155,7 +156,8 @@ pub fn enter_kernel(state: &mut ManagerState, task: TaskId) -> Result<BriefReply
     Ok(BriefReply(Brief::Done))
 }
 
-/// Returns why a task can't enter the kernel, or None: it doesn't exist, or isn't in user space.
+/// Returns why a task can't enter the kernel, or `None`. The reasons are that it doesn't exist, or that it isn't in
+/// user space.
 pub fn enter_kernel_refusal(state: &ManagerState, task: TaskId) -> Option<Refusal>
     ensures refusal { (catalog : AnyCatalog) → result ≡ refused_in state.now catalog (EnterKernel task) }
     ensures there { IfNone result (is_some (task_at state.now.tasks task) ≡ true) }
@@ -184,7 +186,7 @@ pub fn exit_to_user(state: &mut ManagerState, task: TaskId) -> Result<BriefReply
     Ok(BriefReply(Brief::Done))
 }
 
-/// Returns why a task can't return to user space, or None. A sleeper must wake up first.
+/// Returns why a task can't return to user space, or `None`. A sleeper must wake up first.
 pub fn exit_to_user_refusal(state: &ManagerState, task: TaskId) -> Option<Refusal>
     ensures refusal { (catalog : AnyCatalog) → result ≡ refused_in state.now catalog (ExitToUser task) }
     ensures there { IfNone result (is_some (task_at state.now.tasks task) ≡ true) }
@@ -218,8 +220,8 @@ pub fn sleep(
     Ok(BriefReply(Brief::Done))
 }
 
-/// Returns why a task can't fall asleep inside of these functions, or None. The functions are checked last, since that
-/// costs most.
+/// Returns why a task can't fall asleep inside of these functions, or `None`. The functions are checked last, since
+/// that costs most.
 pub fn sleep_refusal(
     state: &ManagerState,
     catalog: &Catalog,
@@ -242,7 +244,8 @@ pub fn sleep_refusal(
     }
 }
 
-/// Wakes a task up in the kernel. The reply has the functions that it slept inside of, since its row doesn't keep them.
+/// Wakes a task up in the kernel. The reply has the functions that it slept inside of, since they are removed from the
+/// task's row.
 pub fn wake(state: &mut ManagerState, task: TaskId) -> Result<Reply, Refusal>
     requires room { state.old.log.room ≡ MAX_RECORDS }
     ensures taken { TakesEventAlone state.old state.new (Wake task) result }
@@ -262,7 +265,7 @@ pub fn wake(state: &mut ManagerState, task: TaskId) -> Result<Reply, Refusal>
     Ok(Reply::Woken(frames))
 }
 
-/// Returns why a task can't wake up, or None: it doesn't exist, or doesn't sleep.
+/// Returns why a task can't wake up, or `None`. The reasons are that it doesn't exist, or that it doesn't sleep.
 pub fn wake_refusal(state: &ManagerState, task: TaskId) -> Option<Refusal>
     ensures refusal { (catalog : AnyCatalog) → result ≡ refused_in state.now catalog (Wake task) }
     ensures there { IfNone result (is_some (task_at state.now.tasks task) ≡ true) }
@@ -271,7 +274,8 @@ pub fn wake_refusal(state: &ManagerState, task: TaskId) -> Option<Refusal>
     refusal_unless_in(state, task, Mode::Asleep)
 }
 
-/// Returns `NoTask` if the task doesn't exist, else `WrongMode` if it isn't in this mode, else None.
+/// Returns `NoTask` if the task doesn't exist, and `WrongMode` if it exists in another mode. Returns `None` if it is in
+/// this mode.
 fn refusal_unless_in(state: &ManagerState, task: TaskId, mode: Mode) -> Option<Refusal>
     ensures refusal { result
         ≡ first_of ((not (is_some (task_at state.now.tasks task)), NoTask)
@@ -288,7 +292,7 @@ fn refusal_unless_in(state: &ManagerState, task: TaskId, mode: Mode) -> Option<R
     }
 }
 
-/// Empties the log and logs the row of this task as it is before the event, since a task event logs one record.
+/// Empties the log, and logs the row of this task as it is before the event. So a task event logs exactly one record.
 fn log_alone(tasks: &Tasks, task: TaskId, log: &mut Records)
     requires { log.old.room ≡ MAX_RECORDS }
     ensures { log.new ≡ record log.old { logged = record_of task (task_at tasks.now task) ∷ [] } }
@@ -325,7 +329,8 @@ fn is_in(state: &ManagerState, task: TaskId, mode: Mode) -> bool
     }
 }
 
-/// Returns a copy of a task's frames, empty if the task doesn't exist. The caller takes it before the task wakes up.
+/// Returns a copy of a task's frames. The copy is empty if the task doesn't exist. The caller makes it before the task
+/// wakes up.
 fn frames_of(state: &ManagerState, task: TaskId) -> Frames
     ensures { result ≡ frames_of (task_at state.now.tasks task) }
 {
@@ -335,8 +340,8 @@ fn frames_of(state: &ManagerState, task: TaskId) -> Frames
     }
 }
 
-/// Whether a version doesn't exist: the image has no such site, or the catalog no such function. Its object need not be
-/// loaded.
+/// Whether a version doesn't exist: the image has no such site, or the catalog no such function. The version's object
+/// need not be loaded.
 fn is_bad(state: &ManagerState, catalog: &Catalog, version: Version) -> bool
     requires { Invariant state.now catalog.now }
     ensures { result ≡ is_bad (setting_in state.now catalog.now) version }
@@ -347,7 +352,7 @@ fn is_bad(state: &ManagerState, catalog: &Catalog, version: Version) -> bool
     }
 }
 
-/// Whether one of these versions doesn't exist. One is enough to refuse the sleep.
+/// Whether one of these versions doesn't exist. One such version is enough to refuse the event.
 fn has_bad(state: &ManagerState, catalog: &Catalog, frames: &Frames) -> bool
     requires { Invariant state.now catalog.now }
     ensures { result ≡ list_any (is_bad (setting_in state.now catalog.now)) frames.now }

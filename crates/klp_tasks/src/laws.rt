@@ -9,8 +9,8 @@ ghost use Rattle.klp_model.specs.TaskStep.{change};
 ghost use Rattle.klp_tasks.specs.Changes.{changed, records_switched, HaveEffects};
 ghost use Rattle.klp_tasks.specs.Members.{VersionFlags, IsSetOf};
 
-/// Changing one task's row in the table is the same as the step that the model defines for a task event. So the
-/// table and the model's events can't drift apart.
+/// Changing one task's row in the table has the same effect as the step that the model defines for a task event. So the
+/// table always agrees with the model's events.
 pub fn rows_change_as_the_step_says()
     ensures { (state : State) (number : ℕ) (f : AnyTask → AnyTask)
         → change state number f ≡ with_tasks state (changed state.tasks number f) }
@@ -22,14 +22,14 @@ pub fn records_are_few()
         → length (records_switched number before after) ≤ length before }
 {}
 
-/// A switch logs only tasks whose state it changes: each record, put back in its turn, changes its task's row.
+/// A switch logs only tasks whose state it changes. So each of its records, put back in its turn, changes a task's row.
 #[tactic(auto, using(crate::proofs::EffectLemmas::switched_effective))]
 pub fn switches_tell_what_they_change()
     ensures { (before : Tasks) (after : Tasks) → HaveEffects after (records_switched 0 before after) }
 {}
 
-/// Every set of versions has exactly the versions of some list. So a fact that is proved of the sets of all lists
-/// holds of every set.
+/// For every set of versions there is a list with exactly the same versions. So a fact that is proved for the sets of
+/// all lists holds for every set.
 pub fn every_set_is_that_of_a_list()
     ensures { (flags : VersionFlags) → (versions : List AnyVersion) × IsSetOf flags versions }
 {}

@@ -32,7 +32,7 @@ impl TaskNumbers {
         }
     }
 
-    /// Removes the lowest number from the set, and returns it. `None` if the set is empty.
+    /// Removes the lowest number from the set, and returns it. Returns `None` if the set is empty.
     #[inline(always)]
     pub(crate) fn take_lowest(&mut self) -> Option<u8>
         ensures some { IfSome result (λ number. IsLowest number self.old.bits self.new.bits) }

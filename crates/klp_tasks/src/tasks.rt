@@ -27,9 +27,9 @@ use std::marker::Model;
 
 /// The tasks by their numbers, from 0 to [`MAX_TASKS`] - 1.
 ///
-/// [`Tasks::new`] allocates all memory. A change of one task takes the same time however many tasks there are; its
-/// caller logs the old row first, by [`Tasks::log_row`]. A walk over the tasks costs one step for each task that
-/// exists. Only [`Tasks::states`] reads all rows.
+/// [`Tasks::new`] allocates all memory. The time to change one task doesn't depend on the number of tasks. The caller
+/// must log the old row before the change, with [`Tasks::log_row`]. A walk over the tasks costs one step for each task
+/// that exists. Only [`Tasks::states`] reads all rows.
 #[derive(Drop)]
 pub struct Tasks {
     rows: Vec<Option<Task>>,
@@ -66,8 +66,8 @@ fn lags(row: &Option<Task>, target: bool) -> bool
     }
 }
 
-/// Returns the patch state of a task that is at this target: 1 if the patch comes in, 0 if it leaves. It is never -1,
-/// the state outside of a transition.
+/// Returns the patch state of a task that is at this target: 1 if the transition is to the patch, 0 if it is away from
+/// the patch. It is never -1, the state outside of a transition.
 pub fn target_state(target: bool) -> PatchState
     ensures { result ≡ at_target target }
 {
@@ -78,7 +78,8 @@ pub fn target_state(target: bool) -> PatchState
     }
 }
 
-/// Whether a task sleeps inside of one of the versions. A task that isn't asleep has no frames to look at.
+/// Whether a task sleeps inside of one of the versions. It is false for a task that isn't asleep, which has no frames
+/// here.
 fn sleeps_inside(row: &Option<Task>, versions: &VersionSet) -> bool
     ensures { result ≡ sleeps_where (has versions.now) row.now }
 {
@@ -88,15 +89,15 @@ fn sleeps_inside(row: &Option<Task>, versions: &VersionSet) -> bool
     }
 }
 
-/// Whether a task sleeps, and isn't inside of a blocked version. A task that isn't asleep is never free, since what it
-/// runs isn't known.
+/// Whether a task sleeps, and isn't inside of a blocked version. It is false for a task that isn't asleep, since what
+/// the task runs isn't known.
 fn is_free(task: &Task, blocked: &VersionSet) -> bool
     ensures { result ≡ (is_mode task.now.mode Asleep && not (list_any (has blocked.now) task.now.frames)) }
 {
     task.mode == Mode::Asleep && !blocked.holds(&task.frames)
 }
 
-/// Whether a task has this state already. Setting it again would change nothing, so nothing is logged then.
+/// Whether a task already has this state. If so, nothing has to be changed or logged.
 fn has_state(task: &Task, state: PatchState) -> bool
     ensures { result ≡ int_eq task.now.state state }
 {
@@ -114,7 +115,7 @@ fn set_words(words: &mut FrameWords, row: &Option<Task>)
 }
 
 impl Tasks {
-    /// Creates a table without tasks, with a row for each possible number. `Err` if memory is refused.
+    /// Creates a table without tasks, with a row for each possible number. Returns `Err` if memory is refused.
     pub fn new(alloc: Global) -> Result<Self, AllocError>
         ensures { IfOk result (λ tasks. tasks ≡ replicate MAX_TASKS None) }
     {
@@ -125,8 +126,8 @@ impl Tasks {
         })
     }
 
-    /// Returns the task with this number. `None` if there is no such task; numbers from [`MAX_TASKS`] on never have
-    /// one.
+    /// Returns the task with this number. Returns `None` if there is no such task; numbers from [`MAX_TASKS`] on never
+    /// have one.
     pub fn get(&self, task: TaskId) -> Option<&Task>
         ensures task { option_copied result ≡ task_at self.now task }
         ensures limit { length self.now ≡ MAX_TASKS }
@@ -134,8 +135,8 @@ impl Tasks {
         self.rows.get(usize::from(task.0))?.as_ref()
     }
 
-    /// Returns the patch state of the task with each number, as `/proc/<pid>/patch_state` shows it. `None` if a
-    /// number has no task. It reads all rows.
+    /// Returns for each task number the task's patch state, as `/proc/<pid>/patch_state` shows it. The element is
+    /// `None` if no task has the number. It reads all rows.
     pub fn states(&self) -> ArrayVec<Option<i8>, MAX_TASKS>
         ensures { result.items ≡ map (option_map (λ (t : AnyTask). t.state)) self.now }
     {
@@ -164,8 +165,8 @@ impl Tasks {
         count
     }
 
-    /// Whether any task sleeps inside of one of the versions. It switches no task. It reads only the rows of tasks,
-    /// and only sleepers' frames.
+    /// Whether any task sleeps inside of one of the versions. This switches no task. It reads only the rows that have a
+    /// task, and only the frames of sleepers.
     pub fn sleeps_in(&self, versions: &VersionSet) -> bool
         ensures { (test : AnyVersion → Bool) → ArePassing versions.now test
             → result ≡ list_any (sleeps_where test) self.now }
@@ -173,8 +174,8 @@ impl Tasks {
         self.any_sleeps_in(versions)
     }
 
-    /// Logs the row of a number before it changes, with or without a task. The row is lent to the log, which
-    /// encodes it without making a copy first.
+    /// Logs the row of a task number before the row changes. The row may have no task. It is passed to the log by
+    /// reference, and the log encodes it without making a copy first.
     #[inline(always)]
     pub fn log_row(&self, task: TaskId, log: &mut Records)
         requires { 0 < spare_of log.old }
@@ -204,8 +205,8 @@ impl Tasks {
         );
     }
 
-    /// Adds a task that another one starts. It takes over its parent's patch state (the kernel's
-    /// `klp_copy_process`), and runs in the kernel: it is in the middle of what its parent runs.
+    /// Adds the task `child`, which the task `parent` starts. The child gets its parent's patch state (the kernel's
+    /// `klp_copy_process`). It runs in the kernel, in the middle of the same functions as its parent.
     pub fn fork(&mut self, parent: TaskId, child: TaskId)
         requires there { is_some (task_at self.old parent) ≡ true }
         requires number { child < MAX_TASKS }
@@ -224,7 +225,7 @@ impl Tasks {
         );
     }
 
-    /// Removes a task. Its number is free again.
+    /// Removes a task. Another task can get its number.
     pub fn end(&mut self, task: TaskId)
         requires { is_some (task_at self.old task) ≡ true }
         ensures { Changes self.old self.new task (record_of task (task_at self.old task))
@@ -325,8 +326,8 @@ impl Tasks {
     }
 
     /// Switches each sleeping task that isn't inside of a blocked version to the target (the kernel's
-    /// `klp_try_switch_task`, for sleepers). Logs each task that changes, in the order of their numbers. It reads
-    /// only the rows of tasks, and only the frames of sleepers that aren't at the target.
+    /// `klp_try_switch_task`, for sleepers). Logs each task that changes, in the order of their numbers. It reads only
+    /// the rows that have a task, and only the frames of sleepers that aren't at the target.
     pub fn try_all(&mut self, blocked: &VersionSet, target: bool, log: &mut Records)
         requires { length self.old ≤ spare_of log.old }
         ensures tasks { (versions : List AnyVersion) → IsSetOf blocked.now versions
@@ -340,8 +341,9 @@ impl Tasks {
         }
     }
 
-    /// Gives every task the state, whatever the task is inside of: when a transition starts, when it ends, and when it
-    /// is forced. Logs each task whose state changes, in the order of their numbers. It reads only the rows of tasks.
+    /// Sets the patch state of every task, whatever the task is inside of. This is done when a transition starts, when
+    /// it ends, and when it is forced. Logs each task whose state changes, in the order of their numbers. It reads only
+    /// the rows that have a task.
     pub fn set_all(&mut self, state: PatchState, log: &mut Records)
         requires { length (records_switched 0 self.old (all_in state self.old)) ≤ spare_of log.old }
         ensures tasks { self.new ≡ all_in state self.old }
@@ -355,8 +357,8 @@ impl Tasks {
         }
     }
 
-    /// Restores the one row that the record names. A record of a number that no task can have changes nothing, nor
-    /// does a record of another part of the state: so every part can be given every record.
+    /// Restores the one row that the record names. A record of a number that no task can have changes nothing. A record
+    /// of another part of the state changes nothing either, so every record can be passed to every part.
     pub fn put_back(&mut self, row: Record)
         ensures { self.new ≡ put_back self.old row }
     {
@@ -367,8 +369,9 @@ impl Tasks {
         }
     }
 
-    /// Gives a number a task that is inside of nothing, as `put_back` of its record does. A number that no task can
-    /// have changes nothing. If the task there is inside of nothing already, its frames aren't written again.
+    /// Puts a task that is inside of nothing into the row of this number. This is what `put_back` of the task's record
+    /// does. A number that no task can have changes nothing. If the task in the row is already inside of nothing, its
+    /// frames aren't written again.
     #[inline(always)]
     pub fn put_without_frames(&mut self, task: TaskId, state: PatchState, mode: Mode)
         ensures { self.new ≡ with_task self.old task (Some (record { state = state; mode = mode; frames = [] })) }
@@ -385,7 +388,7 @@ impl Tasks {
         self.put(task, Some(was));
     }
 
-    /// Whether the number has a task, and that task is inside of nothing.
+    /// Whether a task has this number and is inside of nothing.
     #[inline(always)]
     fn has_no_frames(&self, task: TaskId) -> bool
         ensures { result ≡ true → (now : AnyTask) × ((task_at self.now task ≡ Some now) × (now.frames ≡ [])) }
@@ -397,8 +400,8 @@ impl Tasks {
     }
 
     /// Removes the newest record from the log if it is of a task whose frames still have the same words as in the
-    /// record. Returns what `put_switched` needs of that record. On `None` the log is unchanged, and may still end with
-    /// such a record.
+    /// record. Returns what `put_switched` needs of that record. If it returns `None`, the log is unchanged, and may
+    /// still end with such a record.
     #[inline(always)]
     pub fn take_switched(&self, log: &mut Records) -> Option<SwitchedTask>
         ensures newest { IfSome result (λ was. (now : AnyTask) × ((task_at self.now was.task ≡ Some now)
@@ -422,8 +425,8 @@ impl Tasks {
         row.mode = mode;
     }
 
-    /// Whether any task sleeps inside of a version of the set. This contract names the set itself; that of
-    /// `sleeps_in` allows any test that agrees with the set.
+    /// Whether any task sleeps inside of a version of the set. The contract here says this of the set itself. The
+    /// contract of `sleeps_in` says it of any test of versions that agrees with the set.
     fn any_sleeps_in(&self, versions: &VersionSet) -> bool
         ensures { result ≡ list_any (sleeps_where (has versions.now)) self.now }
     {
@@ -436,7 +439,7 @@ impl Tasks {
         false
     }
 
-    /// Copies a task that exists. The other arm is never reached, by the precondition.
+    /// Returns a copy of a task that exists. By the precondition, the arm for a missing task is never reached.
     fn there(&self, task: TaskId) -> Task
         requires { is_some (task_at self.now task) ≡ true }
         ensures { task_at self.now task ≡ Some result }
@@ -468,7 +471,7 @@ impl Tasks {
         }
     }
 
-    /// Replaces a row, as `put` does. Its contract adds that the record of the old row undoes the change.
+    /// Replaces a row, as `put` does. The contract also says that the record of the old row undoes the change.
     fn replace(&mut self, task: TaskId, row: Option<Task>)
         ensures { Changes self.old self.new task (record_of task (task_at self.old task))
             (with_task self.old task row) }
@@ -476,9 +479,9 @@ impl Tasks {
         self.put(task, row);
     }
 
-    /// Gives a task the state, if the task exists. Logs the old row if the state changes, since an unchanged row
-    /// has no record. The row is lent to the log, which encodes it without making a copy first. `set_all` calls
-    /// this for every task, and most tasks have the state already.
+    /// Sets a task's patch state, if the task exists. If this changes the state, logs the old row; an unchanged row has
+    /// no record. The row is passed to the log by reference, and the log encodes it without making a copy first.
+    /// `set_all` calls this for every task, and most tasks have the state already.
     #[inline(always)]
     fn set_state(&mut self, task: TaskId, state: PatchState, log: &mut Records)
         requires { is_some (record_if_switched task (task_at self.old task)
@@ -496,7 +499,7 @@ impl Tasks {
         self.put_state(task, state);
     }
 
-    /// Gives an existing task the state, without logging.
+    /// Sets the patch state of an existing task, without logging.
     fn put_state(&mut self, task: TaskId, state: PatchState)
         requires { is_some (task_at self.old task) ≡ true }
         ensures { self.new ≡ changed self.old task (in_state state) }

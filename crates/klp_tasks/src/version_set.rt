@@ -7,15 +7,15 @@ ghost use Rattle.klp_tasks.specs.Members.{has, IsSetOf, IsWithin};
 use klp_types::{Frames, MAX_FUNCTIONS, MAX_PATCHES, MAX_SITES, Version};
 use std::marker::Model;
 
-/// A set of versions, for example of those that block a sleeping task. It has a flag for each possible version instead
-/// of a list, so that a look-up takes the same time however many versions the set has. No call takes memory: the flags
-/// are 1,280 bytes, which `new` and `clear` write.
+/// A set of versions, for example of those that block a sleeping task. It is not a list but has a flag for each
+/// possible version. So the time of a look-up doesn't depend on the number of versions in the set. No call takes
+/// memory: the flags are 1,280 bytes, which `new` and `clear` write.
 #[derive(Drop)]
 pub struct VersionSet {
     /// By site, whether its original is in the set. Every possible site has a flag, so no look-up is needed.
     originals: [bool; MAX_SITES],
-    /// By patch and function, whether that new function is in the set. Every possible function has a flag, whatever
-    /// the catalog has.
+    /// By patch and function, whether that new function is in the set. Every possible function has a flag, whether the
+    /// catalog has the function or not.
     functions: [[bool; MAX_FUNCTIONS]; MAX_PATCHES],
 }
 
@@ -27,7 +27,7 @@ impl Model for VersionSet {
     ghost view = { λ s. record { originals = s.originals; functions = s.functions } };
 }
 
-/// Returns the flag of a number. An impossible number isn't set, so that frames with any numbers can be checked.
+/// Returns the flag of a number, or false if the number is out of range. So frames with any numbers can be checked.
 fn is_set(flags: &[bool], number: u16) -> bool
     ensures { result ≡ slice_index_or flags.now number false }
 {
@@ -54,7 +54,7 @@ impl VersionSet {
         }
     }
 
-    /// Puts a version into the set. It may be there already, so callers needn't check first.
+    /// Puts a version into the set. The version may be in the set already, so callers needn't check first.
     pub fn insert(&mut self, version: Version)
         requires { IsWithin version }
         ensures version { (other : AnyVersion) → has self.new other ≡ (has self.old other || is_version other version) }
@@ -92,7 +92,7 @@ impl VersionSet {
         }
     }
 
-    /// Whether one of the frames is in the set. Looks at the innermost frame first, since a sleeper mostly waits in a
+    /// Whether one of the frames is in the set. The innermost frame is checked first, since a sleeper mostly waits in a
     /// function that it called last. The cost is one look-up for each frame up to the first that is in the set.
     pub(crate) fn holds(&self, frames: &Frames) -> bool
         ensures { result ≡ list_any (has self.now) frames.now }

@@ -1,11 +1,11 @@
-//! Reads and writes that fail: no clause says that a failing stream of std is reported as failing.
+//! Reads and writes that fail. No clause says that the failure of a stream of std is reported, so it is tested here.
 use klp_program::{CATALOG, console};
 use std::alloc::{AllocError, Global};
 use std::io;
 use std::io::{Read, Write};
 
-/// Fails at each write, or else takes nothing, and fails at each read behind these lines, or else gives an empty line
-/// at each read.
+/// A stream that fails. Each write fails, or accepts no byte if `is_full`. Each read behind the lines fails, or gives
+/// an empty line if `is_endless`.
 #[derive(Drop)]
 struct Broken {
     lines: &'static [u8],
@@ -38,7 +38,7 @@ impl Write for Broken {
     }
 }
 
-/// A stream that fails.
+/// Returns a stream that gives these lines, and fails at all else.
 fn failing(lines: &'static [u8]) -> Broken {
     Broken {
         lines,
@@ -47,14 +47,14 @@ fn failing(lines: &'static [u8]) -> Broken {
     }
 }
 
-/// Whether the console ends with status 1 and this line on `err`.
+/// Whether the console ends with status 1, and writes exactly `printed` to `err`.
 fn ends_with(alloc: Global, mut input: Broken, mut out: Broken, printed: &[u8]) -> bool {
     let mut err = Vec::new(alloc);
     let status = console(alloc, CATALOG, &mut input, &mut out, &mut err);
     status == 1 && err.as_slice() == printed
 }
 
-/// What the console answers to `mark` and then a line that is too long by a byte, which has no line feed.
+/// What the console answers to `mark`, and then to a line that is one byte too long. That line has no line feed.
 fn long_line(alloc: Global) -> Result<(u8, Vec<u8>, Vec<u8>), AllocError> {
     let mut input = b"mark\n".to_vec(alloc)?;
     input.extend_from_slice(&[b'x'; 257])?;
@@ -91,7 +91,7 @@ fn streams_that_fail_or_never_end_are_reported(rt: HostRuntime) {
         is_endless: true,
         ..failing(b"")
     };
-    // an empty line has no answer, so no write fails
+    // an empty line has no answer, so nothing is written that could fail
     let endless = ends_with(rt.alloc(), endless, failing(b""), b"klpsim: Read\n");
     assert!(rt; read && write && taken && endless);
 }

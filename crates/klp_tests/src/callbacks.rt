@@ -1,11 +1,11 @@
-//! A catalog with more or fewer callbacks than its text has scripts. The contract leaves open which fault is reported
-//! if memory could be short too, and no program gets there.
+//! Catalogs for which more or fewer callbacks are given than their texts have scripts. The contract leaves open which
+//! fault is returned if memory may be short too. No program gives a wrong number.
 use crate::managed::{Given, outcome};
 use klp_catalog::AssembleFault;
 use klp_program::Fault;
 use std::alloc::Global;
 
-/// Two objects, a patch for both, and three callbacks.
+/// Two objects, a patch that changes both, and three callbacks.
 const THREE: &str = "handler ffffffff81000000
 object vmlinux
 symbol f ffffffff81001000 e800000000c3
@@ -19,7 +19,7 @@ target m
 pre 0
 ";
 
-/// Two functions for one site, and a callback.
+/// A patch that has two functions for the same site, and one callback.
 const TWICE: &str = "handler ffffffff81000000
 object vmlinux
 symbol f ffffffff81001000 e800000000c3
@@ -41,7 +41,7 @@ fn another_number_of_callbacks_is_refused(rt: HostRuntime) {
         (THREE, 3, None),
         (THREE, 2, wrong),
         (THREE, 4, wrong),
-        // a wrong number is reported first
+        // if the number of callbacks is wrong too, that is reported first
         (TWICE, 1, Some(Fault::Assemble(AssembleFault::SameSite))),
         (TWICE, 0, wrong),
         (TWICE, 2, wrong),

@@ -1,9 +1,10 @@
-//! Catalogs that are cut after each of their bytes: the line that is reported and for which cause, or that they boot.
-//! What is wanted follows from the line that is cut and where it is cut, not from reading the text.
+//! Catalogs that are cut after each of their bytes. The test checks which line is reported and why, or that the catalog
+//! boots. What should be reported follows from the line that is cut, and from where it is cut. No text is read for
+//! that.
 use klp_program::{CATALOG, console};
 use std::alloc::{AllocError, Global};
 
-/// Lines of each kind.
+/// A catalog that has lines of each kind.
 const KERNEL: &str = "\
 handler ffffffff81000000
 object vmlinux
@@ -58,17 +59,17 @@ target vmlinux
 func .klp.sym.vmlinux.d,0 d_s ffffffffc0007000
 ";
 
-/// What is wanted of a catalog that is cut.
+/// What should become of a catalog that is cut.
 #[derive(Clone, Copy)]
 enum Wanted {
     Boots,
-    /// The line that is cut is faulty.
+    /// This fault of the line that is cut should be reported.
     OfLine(&'static str),
-    /// The whole is.
+    /// This fault of the whole catalog should be reported.
     OfAll(&'static str),
 }
 
-/// How many words each kind of line has at least.
+/// The least number of words in each kind of line.
 const WORDS: [(&str, usize); 11] = [
     ("handler", 2),
     ("object", 2),
@@ -83,7 +84,7 @@ const WORDS: [(&str, usize); 11] = [
     ("postun", 2),
 ];
 
-/// How many words a line of this first word has at least. `None` if no line has it.
+/// The least number of words in a line with this first word. `None` if no line of a catalog begins with the word.
 fn words_of(first: &str) -> Option<usize> {
     let mut words = None;
     for (word, count) in WORDS {
@@ -94,7 +95,7 @@ fn words_of(first: &str) -> Option<usize> {
     words
 }
 
-/// How many words are begun.
+/// How many words this front of a line has. The last may be cut.
 fn words_in(front: &str) -> usize {
     let mut count = 0usize;
     for word in front.split(' ') {
@@ -115,7 +116,8 @@ fn colons(word: &str) -> usize {
     count
 }
 
-/// A body has two digits for each byte, and five bytes at least.
+/// What should become of a symbol whose body is cut to `last`. A body needs two digits for each byte, and at least five
+/// bytes.
 fn of_body(last: &str) -> Wanted {
     if last.len() % 2 == 1 {
         Wanted::OfLine("BadHex")
@@ -126,7 +128,8 @@ fn of_body(last: &str) -> Wanted {
     }
 }
 
-/// A status has a digit. An edit has all of its numbers, so no colon is last and none is missing.
+/// What should become of a callback whose word `whole` is cut to `last`. A status needs a digit. An edit needs all its
+/// numbers, so no colon may be last and none may be missing.
 fn of_callback(last: &str, whole: &str) -> Wanted {
     if last == "-" {
         Wanted::OfLine("BadNumber")
@@ -137,12 +140,12 @@ fn of_callback(last: &str, whole: &str) -> Wanted {
     }
 }
 
-/// What is wanted of a line that ends in its last word, which is the front of this whole one.
+/// What should become of a line that ends with the word `last`, which is the front of the word `whole`.
 fn of_last(first: &str, last: &str, whole: &str) -> Wanted {
     let is_whole = last == whole;
     match first {
         "symbol" => of_body(last),
-        // the first object has to be this one
+        // the first object must have this name
         "object" if whole == "vmlinux" && !is_whole => Wanted::OfAll("NoKernel"),
         "target" if !is_whole => Wanted::OfLine("UnknownObject"),
         "patch" if whole == "replace" && !is_whole => Wanted::OfLine("UnknownWord"),
@@ -151,7 +154,7 @@ fn of_last(first: &str, last: &str, whole: &str) -> Wanted {
     }
 }
 
-/// Where the last word begins.
+/// The index at which the last word begins.
 fn last_start(front: &str) -> usize {
     let mut start = 0usize;
     for (place, byte) in front.as_bytes().iter().enumerate() {
@@ -162,7 +165,7 @@ fn last_start(front: &str) -> usize {
     start
 }
 
-/// The word that begins there.
+/// The word that begins at the index `start`.
 fn word_at(line: &str, start: usize) -> &str {
     let rest = line.get(start..).unwrap_or("");
     let mut words = rest.split(' ');
@@ -172,7 +175,7 @@ fn word_at(line: &str, start: usize) -> &str {
     }
 }
 
-/// What is wanted of a line of which this front is left, if all lines before it are good.
+/// What should become of a catalog whose last line `line` is cut to `front`. All lines before it are good.
 fn wanted_of(line: &str, front: &str) -> Wanted {
     if front.is_empty() {
         return Wanted::Boots;
@@ -194,7 +197,7 @@ fn wanted_of(line: &str, front: &str) -> Wanted {
     }
 }
 
-/// Where the last line of this front begins, and how many lines are before it.
+/// The index at which the last line of this front begins, and how many lines are before it.
 fn line_at(front: &str) -> (usize, usize) {
     let mut start = 0usize;
     let mut number = 0usize;
@@ -207,7 +210,7 @@ fn line_at(front: &str) -> (usize, usize) {
     (start, number)
 }
 
-/// The line that begins there, without its line feed.
+/// The line that begins at the index `start`, without its line feed.
 fn line_from(text: &str, start: usize) -> &str {
     let rest = text.get(start..).unwrap_or("");
     let mut lines = rest.split('\n');
@@ -217,8 +220,8 @@ fn line_from(text: &str, start: usize) -> &str {
     }
 }
 
-/// What is written to standard error if this many lines are before the one that is cut. The first two lines name the
-/// handler and the kernel, without which there is nothing to boot.
+/// What should be written to standard error. `number` lines stand before the one that is cut. The first two name the
+/// handler and the kernel. Without these two, nothing can be booted.
 fn written(
     alloc: Global,
     wanted: Wanted,
@@ -237,8 +240,8 @@ fn written(
     }
 }
 
-/// What is written to standard error for this catalog, if the status is the one that goes with it, and nothing is
-/// answered.
+/// What is written to standard error for this catalog. `None` if the exit status doesn't go with that, or if anything
+/// is answered.
 fn reported(alloc: Global, catalog: &[u8]) -> Result<Option<Vec<u8>>, AllocError> {
     let mut out = Vec::new(alloc);
     let mut err = Vec::new(alloc);
@@ -248,7 +251,7 @@ fn reported(alloc: Global, catalog: &[u8]) -> Result<Option<Vec<u8>>, AllocError
     Ok(if is_right { Some(err) } else { None })
 }
 
-/// Whether a text that is cut after this front is reported so.
+/// Whether the text, cut at the index `cut`, is reported as it should be.
 fn is_reported(alloc: Global, text: &str, cut: usize) -> Result<bool, AllocError> {
     let front = text.get(..cut).unwrap_or("");
     let (start, number) = line_at(front);
@@ -261,7 +264,7 @@ fn is_reported(alloc: Global, text: &str, cut: usize) -> Result<bool, AllocError
     })
 }
 
-/// The cuts that aren't reported so: how many, and the last of them.
+/// How many cuts aren't reported as they should be, and the last of these.
 fn differing(alloc: Global, text: &str) -> Result<(usize, usize), AllocError> {
     let mut differing = (0usize, 0);
     for cut in 0..=text.len() {
@@ -280,7 +283,7 @@ fn a_catalog_that_is_cut_tells_the_line_that_is(rt: HostRuntime) {
     }
 }
 
-/// Fronts of the built-in catalog, by what they end with, and what is written for them.
+/// Fronts of the built-in catalog, each by the text with which it ends, and what should be written for it.
 const ROWS: [(&str, &[u8]); 6] = [
     ("", b"klpsim: line 0: Missing\n"),
     ("handler ffffffff81000000\n", b"klpsim: line 0: Missing\n"),
@@ -290,7 +293,7 @@ const ROWS: [(&str, &[u8]); 6] = [
     ("func .klp.sym.vmlinux.f,0 f_p ffff", b""),
 ];
 
-/// Whether this is written for the front of the built-in catalog that ends so.
+/// Whether `wanted` is written for the front of the built-in catalog that ends with `end`.
 fn is_row(alloc: Global, end: &str, wanted: &[u8]) -> Result<bool, AllocError> {
     let text = str::from_utf8(CATALOG).unwrap_or("");
     let start = text.find(end).unwrap_or(0);

@@ -1,15 +1,16 @@
-//! Each read and each write fails in its turn while scripts are served. What was answered stands, and at most
-//! one line more: a second manager that is fed these lines, by the answers alone, shows the same.
+//! Scripts are served, and each read and each write fails in its turn. The lines that were answered must stay done, and
+//! at most one more. A second manager serves just these lines, which are found from the answers alone. It must then
+//! show the same as the first.
 use crate::input::{Input, whole};
 use crate::managed::{Given, Shown, outcome};
 use klp_console::{ServeFault, Served};
 use klp_program::Fault;
 use std::alloc::{AllocError, Global};
 
-/// How many bytes a call gives or takes, if it isn't all at once.
+/// How many bytes a read gives or a write accepts, if it isn't all at once.
 const PIECE: usize = 7;
 
-/// Callbacks of each kind, which undo each other, and one that refuses.
+/// A catalog with callbacks of each kind, which undo what others do, and with one that refuses.
 const CATALOG: &str = "\
 handler ffffffff81000000
 object vmlinux
@@ -29,10 +30,10 @@ func .klp.sym.vmlinux.g,0 g_q ffffffffc0002000
 pre -16
 ";
 
-/// How many callbacks these are.
+/// How many callbacks this catalog has.
 const CALLBACKS: usize = 5;
 
-/// All that lines show of a manager, before and after all its events are taken back.
+/// Lines that show all that can be seen of a manager. After that, they undo all events, and show it again.
 const LOOKS: &[u8] = b"\
 mark
 ls /sys/kernel/livepatch
@@ -57,7 +58,7 @@ shadow get 4 4
 shadow get 5 5
 ";
 
-/// Events of tasks. All are done ahead of their answers, except the patch's.
+/// Events of tasks. Except for the patch's, all of them are done before earlier answers are written.
 const TASKS: &str = "\
 task new 1
 task enter 1
@@ -79,7 +80,7 @@ task enter 1
 task end 2
 ";
 
-/// Answers of many lines between events.
+/// Events, and between them queries whose answers have many lines.
 const LISTS: &str = "\
 shadow alloc 4 4 4
 text vmlinux
@@ -96,7 +97,7 @@ text vmlinux
 task exit 1
 ";
 
-/// What takes events from the journal.
+/// Lines that remove events from the journal.
 const TAKEN_BACK: &str = "\
 task new 1
 shadow alloc 4 4 4
@@ -119,7 +120,7 @@ task exit 2
 rewind 0
 ";
 
-/// Callbacks, of which one refuses.
+/// Events that run callbacks. One of the callbacks refuses.
 const CALLING: &str = "\
 task new 1
 load q
@@ -139,14 +140,14 @@ load p
 task new 2
 ";
 
-/// What a script comes to if nothing fails.
+/// A script, and what comes of it if nothing fails.
 #[derive(Drop)]
 struct Known {
     lines: &'static [u8],
     answers: Vec<u8>,
-    /// Where the answer to each line ends.
+    /// For each line, where its answer ends.
     ends: Vec<usize>,
-    /// What a manager shows after no line, after the first, and so on.
+    /// What a manager shows before the first line, and then after each line.
     states: Vec<Vec<u8>>,
 }
 
@@ -154,13 +155,13 @@ struct Known {
 #[derive(Drop)]
 struct Seen {
     ended: Option<Result<Served, ServeFault>>,
-    /// Whether a front of all answers was written, and to how many lines the answers are in it.
+    /// Whether what was written is a front of all answers. `answered` is how many lines have their whole answers in it.
     is_front: bool,
     answered: usize,
     state: Vec<u8>,
 }
 
-/// What the console answers to these inputs, by one manager.
+/// What one manager answers to these inputs.
 fn served(alloc: Global, inputs: &[Input<'_>]) -> Result<Shown, Fault> {
     let given = Given {
         text: CATALOG,
@@ -169,7 +170,7 @@ fn served(alloc: Global, inputs: &[Input<'_>]) -> Result<Shown, Fault> {
     outcome(alloc, given, inputs)
 }
 
-/// The answers to the first input, and to those after it.
+/// The answers to the first input, and the answers to the others.
 fn answers(shown: &Shown) -> (&[u8], &[u8]) {
     let end = shown.looks.first().map_or(0, |look| look.said);
     let first = shown.said.get(..end).unwrap_or(&[]);
@@ -182,7 +183,7 @@ fn state_after(alloc: Global, lines: &[u8]) -> Result<Vec<u8>, Fault> {
     Ok(Vec::from_slice(alloc, answers(&shown).1)?)
 }
 
-/// The lines of a text, each served by itself.
+/// Adds the lines of a text as inputs, so that each is served by itself.
 fn put_lines<'a>(inputs: &mut Vec<Input<'a>>, text: &'a str) -> Result<(), AllocError> {
     for line in text.lines() {
         inputs.push(whole(line.as_bytes()))?;
@@ -190,7 +191,7 @@ fn put_lines<'a>(inputs: &mut Vec<Input<'a>>, text: &'a str) -> Result<(), Alloc
     Ok(())
 }
 
-/// What a manager shows after the first lines, and after one more each time.
+/// Adds what a manager shows before the first line, and then after each line.
 fn put_states(alloc: Global, states: &mut Vec<Vec<u8>>, lines: &[u8]) -> Result<(), Fault> {
     states.push(state_after(alloc, b"")?)?;
     for (place, byte) in lines.iter().enumerate() {
@@ -219,7 +220,7 @@ fn known_of(alloc: Global, script: &'static str) -> Result<Known, Fault> {
     })
 }
 
-/// Serves the script, and shows what the manager is then.
+/// Serves the script, and returns what is then seen of the manager.
 fn seen_of(alloc: Global, known: &Known, input: Input<'_>) -> Result<Seen, Fault> {
     let shown = served(alloc, &[input, whole(LOOKS)])?;
     let (front, state) = answers(&shown);
@@ -231,7 +232,7 @@ fn seen_of(alloc: Global, known: &Known, input: Input<'_>) -> Result<Seen, Fault
     })
 }
 
-/// Whether a manager that was fed so many lines shows the same.
+/// Whether a manager that served only the first `lines` lines shows the same.
 fn is_after(known: &Known, seen: &Seen, lines: usize) -> bool {
     match known.states.get(lines) {
         Some(state) => seen.is_front && *state == seen.state,
@@ -243,7 +244,7 @@ fn line_feeds(text: &[u8]) -> usize {
     text.iter().filter(|byte| **byte == b'\n').count()
 }
 
-/// Whether a failure of the k-th read is reported, and all lines before it are answered and stand.
+/// Whether a failure of read number `k` is reported. Also, all lines before it must be answered, and stay done.
 fn is_read_cut_off(alloc: Global, known: &Known, gives: usize, k: usize) -> Result<bool, Fault> {
     let input = Input {
         gives,
@@ -259,8 +260,8 @@ fn is_read_cut_off(alloc: Global, known: &Known, gives: usize, k: usize) -> Resu
     )
 }
 
-/// Whether a failure of the k-th write is reported, and the lines stand whose answers were written, with the one whose
-/// answer is cut off. `None` if there are fewer writes.
+/// Whether a failure of write number `k` is reported. Also, the lines whose answers were written must stay done, and
+/// the one whose answer was cut off. `None` if there is no such write.
 fn is_write_cut_off(
     alloc: Global,
     known: &Known,
@@ -286,8 +287,8 @@ fn is_write_cut_off(
     })
 }
 
-/// Whether each write that fails leaves what was answered, one after another. There are at least as many as
-/// all at once would take.
+/// Whether each write that fails leaves the lines done whose answers were written, and the one whose answer was cut
+/// off. There must be at least as many writes as the answers need, with at most `cut[1]` bytes in each.
 fn are_writes_cut_off(alloc: Global, known: &Known, cut: [usize; 2]) -> Result<bool, Fault> {
     let mut right = true;
     for k in 0..known.answers.len() {
@@ -299,7 +300,7 @@ fn are_writes_cut_off(alloc: Global, known: &Known, cut: [usize; 2]) -> Result<b
     Ok(right)
 }
 
-/// Whether each read and each write that fails leaves what was answered. The read after the last byte fails too.
+/// Whether each read and each write that fails leaves done what was answered. The read behind the last byte fails too.
 fn are_all_cut_off(alloc: Global, script: &'static str) -> Result<bool, Fault> {
     let known = known_of(alloc, script)?;
     let mut right = known.states.len() == known.ends.len().saturating_add(1);

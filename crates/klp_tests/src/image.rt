@@ -1,16 +1,16 @@
-//! Faults of an image that no catalog's text leads to, since the text is refused before. A contract says which fault
-//! there is, but lets a lack of memory replace it.
+//! Faults of an image that no catalog's text can have, since such a text is refused earlier. The contract says which
+//! fault is returned, but allows that lack of memory is returned instead.
 use klp_text::{Image, ImageFault};
 use klp_types::{ObjectText, SymbolText};
 use std::alloc::{AllocError, Global};
 
 const HANDLER: u64 = 0xffff_ffff_8100_0000;
 
-/// The address of each symbol.
+/// The address that all symbols have.
 const ADDRESS: u64 = 0xffff_ffff_8100_1000;
 
-/// How many objects there are, of how many symbols each, of how many bytes; and the fault of an image of them. Limits
-/// are checked before all else.
+/// How many objects there are, how many symbols each has, and how many bytes each symbol has; and the fault of their
+/// image. Limits are checked before anything else.
 const ROWS: [([usize; 3], ImageFault); 8] = [
     ([0, 0, 0], ImageFault::NoKernel),
     ([2, 0, 0], ImageFault::DuplicateObject),
@@ -42,7 +42,7 @@ fn put_symbols(
     Ok(())
 }
 
-/// Adds objects, all of the kernel's name.
+/// Adds objects. All of them have the kernel's name.
 fn put_objects(
     alloc: Global,
     objects: &mut Vec<ObjectText>,
@@ -60,7 +60,7 @@ fn put_objects(
     Ok(())
 }
 
-/// The fault of an image of these objects.
+/// Returns the fault of an image of as many objects, symbols and bytes as `counts` says.
 fn fault_of(alloc: Global, counts: [usize; 3]) -> Option<ImageFault> {
     let mut objects = Vec::new(alloc);
     match put_objects(alloc, &mut objects, counts) {

@@ -1,4 +1,4 @@
-//! The console, served from memory and into memory, with calls that fail.
+//! Serves the console from memory and into memory, with reads and writes that may fail.
 ghost use Rattle.std.specs.Prelude.{◌≡◌, ◌≤◌};
 
 use klp_console::{ServeFault, Served, serve};
@@ -7,22 +7,22 @@ use klp_core::Manager;
 use std::marker::Brand;
 use std::sync::ledger::{Blank, Ledger};
 
-/// How many bytes of answers there is room for.
+/// How many bytes of answers fit.
 const ROOM: usize = 4096;
 
-/// What the console is served, and what the calls are like.
+/// The lines that the console serves, and how its reads and writes behave.
 #[derive(Clone, Copy)]
 pub struct Input<'a> {
     pub lines: &'a [u8],
-    /// How many bytes a read gives at most, and how many a write takes.
+    /// The most bytes that a read gives. `takes` is the most that a write accepts.
     pub gives: usize,
     pub takes: usize,
-    /// Which read fails and which write, counted from 0.
+    /// The number of the read that fails, counted from 0. `write` is that of the write that fails.
     pub read: Option<u32>,
     pub write: Option<u32>,
 }
 
-/// Lines that are read at once, and answered at once.
+/// Returns an input whose lines are read at once, and answered at once.
 pub fn whole(lines: &[u8]) -> Input<'_> {
     Input {
         lines,
@@ -33,7 +33,7 @@ pub fn whole(lines: &[u8]) -> Input<'_> {
     }
 }
 
-/// Serves the console, and adds what it answers.
+/// Serves the console, and adds the answers to `said`.
 fn serve_over<L: Ledger, M: Ledger>(
     manager: &mut Manager,
     input: &Input<'_>,
@@ -51,7 +51,7 @@ fn serve_over<L: Ledger, M: Ledger>(
     ended
 }
 
-/// Serves the console, and adds what it answers.
+/// Serves the console, and adds the answers to `said`.
 pub fn serve_input(
     manager: &mut Manager,
     input: &Input<'_>,

@@ -1,8 +1,14 @@
-//! Tests of what no contract says and no example shows: what the program's words ask for, the numbers of faults and
-//! refusals and the names that faults print, faults of images and catalogs that no text leads to, reads and writes that
-//! fail, with what stands then, what no line of the console shows, what docs/LIBRARY.md shows, and catalogs that are
-//! cut after each of their bytes, by rules of their own. What a manager does is proved, and what a script shows is an
-//! example.
+//! Tests of what no contract says and no example shows:
+//!
+//! - what the program's arguments ask for
+//! - the numbers of faults and refusals, and the names that faults print
+//! - faults of images and catalogs that no text can have
+//! - reads and writes that fail, and which lines stay done
+//! - what no line of the console shows
+//! - what docs/LIBRARY.md shows
+//! - catalogs that are cut after each of their bytes, checked by rules that don't read them
+//!
+//! What a manager does is proved, and what a script prints is shown by the examples.
 #![tactic(auto)]
 
 #[cfg(test)]

@@ -1,4 +1,4 @@
-//! What docs/LIBRARY.md shows, so that it compiles and does what the page says.
+//! The code of docs/LIBRARY.md. So it is known to compile, and to do what the page says.
 use klp_catalog::Catalog;
 use klp_core::Manager;
 use klp_model::Event;
@@ -7,7 +7,7 @@ use klp_types::{ObjId, PatchId};
 use std::alloc::Global;
 use std::test::Fail;
 
-/// Boots a manager over the text of a catalog whose patches have no callbacks.
+/// Boots a manager over a catalog's text. The catalog's patches must have no callbacks.
 fn booted(alloc: Global, text: &[u8]) -> Result<Manager, Fault> {
     let mut plan = Catalog::read(alloc, text)?;
     let (image, modules) = opened(alloc, &mut plan)?;
@@ -15,21 +15,20 @@ fn booted(alloc: Global, text: &[u8]) -> Result<Manager, Fault> {
     Ok(Manager::boot(alloc, image, modules, catalog)?)
 }
 
-/// Enables a patch, and polls once. Returns whether its transition is complete.
+/// Enables a patch, and polls once. Returns whether the patch's transition is then complete.
 fn enable(manager: &mut Manager, patch: PatchId) -> bool {
     manager.run(&[Event::Enable(patch), Event::Poll]) == (2, 0)
         && manager.transition(patch) == Some(false)
 }
 
-/// The first byte of the kernel's first function, by a query, which changes nothing.
+/// Returns the first byte of the kernel's first function. It asks by a query, which changes nothing.
 fn first_byte(manager: &Manager) -> Option<u8> {
     let text = manager.text(ObjId(0))?;
     let (_name, _address, body) = text.get(0)?;
     body.first().copied()
 }
 
-/// Enables a patch, and undoes all of it. Returns the first byte of the kernel's text before, in between and
-/// afterwards.
+/// Enables a patch, and undoes that. Returns the first byte of the kernel's text before, meanwhile and afterwards.
 fn enable_and_undo(manager: &mut Manager, patch: PatchId) -> [Option<u8>; 3] {
     let (mark, before) = (manager.mark(), first_byte(manager));
     let is_complete = enable(manager, patch);

@@ -1,4 +1,4 @@
-//! What no line of the console shows: how many more records the journal has room for, and the values of states.
+//! What no line of the console shows: how many records still fit into the journal, and the values of system states.
 use crate::input::whole;
 use crate::large::LARGE;
 use crate::managed::{Given, Shown, outcome};
@@ -6,7 +6,7 @@ use klp_program::Fault;
 use std::alloc::Global;
 use std::test::Fail;
 
-/// A patch that sets two states, and one that takes both over, in the other order.
+/// A patch that sets two system states, and a patch that takes over both in the other order.
 const HANDED_OVER: &str = "\
 handler ffffffff81000000
 object vmlinux
@@ -40,17 +40,17 @@ fn each_state_is_handed_over(rt: HostRuntime) -> Result<(), Fail> {
     Ok(())
 }
 
-/// A patch that comes and goes again.
+/// Lines that enable a patch and disable it again.
 const CYCLE: &[u8] = b"load p\npoll\necho 0 > /sys/kernel/livepatch/p/enabled\npoll\n";
 
-/// How often it does. Each time it leaves a record for each of its 64 functions' entries and sites twice, for its place
-/// in the list twice, and for what moves four times: 262 of 16,384.
+/// How often the cycle is done. Each time it adds 262 of 16,384 records. For each of the patch's 64 functions, its
+/// entry and its site have two each. The patch's place in the list has two, and the transition has four.
 const CYCLES: usize = 44;
 
-/// A task goes into the kernel and back, each of which is one record.
+/// Lines in which a task enters the kernel and leaves it. Each line adds one record.
 const TURN: &[u8] = b"task enter 1\ntask exit 1\n";
 
-/// How often it does.
+/// How often the turn is done.
 const TURNS: usize = 379;
 
 fn filled(alloc: Global) -> Result<Shown, Fail> {
@@ -71,7 +71,7 @@ fn filled(alloc: Global) -> Result<Shown, Fail> {
     Ok(outcome(alloc, given, &inputs)?)
 }
 
-/// How many records are free after each input. The last event is refused, so it changes nothing.
+/// How many records still fit after each input. The last event is refused, so it adds none.
 const FREE: [u32; 6] = [4856, 4855, 4097, 4096, 4095, 4095];
 
 fn is_counted(shown: &Shown) -> bool {

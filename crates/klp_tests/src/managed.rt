@@ -1,6 +1,6 @@
-//! What a manager over a catalog's text answers while it serves the console, input after input. Only this file and
-//! library.rt own managers here, since a function that owns one is costly to prove: each of its exits is then proved
-//! anew.
+//! What a manager over a catalog's text answers to several inputs, one after another. In this crate, only this file and
+//! library.rt own managers. A function that owns one is costly to prove, since each of its returns is proved on its
+//! own.
 ghost use Rattle.std.specs.Prelude.{length};
 ghost use Rattle.klp_catalog_text.specs.Within.{AreTargetsWithin};
 
@@ -16,14 +16,15 @@ use klp_types::PatchId;
 use klp_world::Script;
 use std::alloc::{AllocError, Global};
 
-/// What a manager is booted over: a catalog's text, with so many callbacks.
+/// A catalog's text, and how many callbacks a manager over it is booted with.
 #[derive(Clone, Copy)]
 pub struct Given<'a> {
     pub text: &'a str,
     pub callbacks: usize,
 }
 
-/// What an input came to, how many bytes were answered until then, and how many more records the journal had room for.
+/// What came of an input, how many bytes were answered up to then, and how many records then still fit into the
+/// journal.
 #[derive(Clone, Copy)]
 pub struct Look {
     pub ended: Result<Served, ServeFault>,
@@ -31,18 +32,18 @@ pub struct Look {
     pub free: u32,
 }
 
-/// What a manager answered.
+/// What is seen of a manager that served some inputs.
 #[derive(Drop)]
 pub struct Shown {
-    /// After each input.
+    /// A look after each input.
     pub looks: Vec<Look>,
-    /// What was answered to all of them together.
+    /// The answers to all inputs together.
     pub said: Vec<u8>,
-    /// In the end, the values of the states 3 and 4 of the first two patches.
+    /// At the end, the values of the system states 3 and 4 of the first two patches.
     pub states: [Option<u64>; 4],
 }
 
-/// The script of this number in the order of the text, or one that does nothing.
+/// The script with this number, counted in the order of the text. If there is none, a script that does nothing.
 fn script_at(plan: &Plan, number: usize) -> Script {
     match plan.script(number) {
         Some(script) => script.copy(),
@@ -53,7 +54,7 @@ fn script_at(plan: &Plan, number: usize) -> Script {
     }
 }
 
-/// Boots a manager over a plan with these callbacks, as many as they may be.
+/// Boots a manager over a plan with these callbacks. Their number may be wrong.
 fn booted(alloc: Global, mut plan: Plan, callbacks: Vec<Boxed>) -> Result<Manager, Fault>
     requires { AreTargetsWithin (length plan.objects) plan.patches }
 {
@@ -72,7 +73,7 @@ fn states_of(manager: &Manager) -> [Option<u64>; 4] {
     ]
 }
 
-/// What a manager answers to these inputs. Nothing is shown yet, and there is room for each look.
+/// Returns what a manager answers to these inputs. `shown` must be empty, with room for a look after each input.
 fn after(
     booted: Result<Manager, Fault>,
     inputs: &[Input<'_>],
@@ -90,7 +91,7 @@ fn after(
     Ok(shown)
 }
 
-/// Nothing is shown yet, and there is room for so many looks.
+/// Returns a `Shown` that is empty, and has room for `looks` looks.
 fn nothing_shown(alloc: Global, looks: usize) -> Result<Shown, AllocError> {
     Ok(Shown {
         looks: Vec::with_capacity(alloc, looks)?,
@@ -99,7 +100,7 @@ fn nothing_shown(alloc: Global, looks: usize) -> Result<Shown, AllocError> {
     })
 }
 
-/// What a manager answers to these inputs. If memory for a box is refused, a callback is missing.
+/// Returns what a manager answers to these inputs. If memory for a callback's box is refused, that callback is missing.
 pub fn outcome(alloc: Global, given: Given<'_>, inputs: &[Input<'_>]) -> Result<Shown, Fault> {
     let plan = Catalog::read(alloc, given.text.as_bytes())?;
     let shown = nothing_shown(alloc, inputs.len())?;

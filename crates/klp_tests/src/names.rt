@@ -1,4 +1,4 @@
-//! The numbers of faults and refusals, and the names that faults print: most of them stand in no example.
+//! The numbers of faults and refusals, and the names that faults print. Most of these aren't in any example.
 use klp_catalog::AssembleFault;
 use klp_catalog_text::TextFaultKind;
 use klp_core::BootFault;
@@ -55,7 +55,7 @@ BadEdit OutOfPlace Twice UnknownObject TooMany Missing NoMemory \
 Overlap ShortSymbol Displacement DuplicateObject TooMany NoMemory NoKernel \
 Missing Ambiguous NoPosition WrongCallbacks SameSite NoMemory";
 
-/// Writes their names, each behind a space.
+/// Writes a space and the name of each of these faults.
 fn put<T: Display>(out: &mut String, faults: &[T]) -> Result<(), fmt::Error> {
     for fault in faults {
         write!(out, " {fault}")?;
@@ -75,7 +75,7 @@ fn is_printed(alloc: Global) -> bool {
     put_all(&mut out).is_ok() && out.as_str() == NAMES
 }
 
-/// The numbers of faults and refusals, each kind from 1.
+/// The numbers of faults and refusals. For each type they count from 1.
 const NUMBERS: [&[u8]; 6] = [
     &[
         TextFaultKind::NotAscii as u8,

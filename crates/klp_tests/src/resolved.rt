@@ -1,12 +1,12 @@
-//! Which symbol a name and a position pick, and the three ways in which they pick none: the console reports all three
-//! alike.
+//! Tests which symbol a name and a position pick, and the three reasons why they may pick none. The console reports all
+//! three in the same way.
 use klp_catalog::Catalog;
 use klp_modules::{Modules, SymbolFault};
 use klp_program::{Fault, opened};
 use klp_types::{ObjId, Site};
 use std::alloc::Global;
 
-/// Two functions of one name, and one of that name in a module.
+/// Two functions of the kernel with the same name, and one of that name in a module.
 const TEXT: &str = "\
 handler ffffffff81000000
 object vmlinux

@@ -1,5 +1,6 @@
-//! How many entries all stacks have room for: those of 15 patches with 64 functions each, and of one more that has an
-//! entry on each of 256 sites. It is what the script `pool` of the examples does; no line shows the room.
+//! How many entries fit into all function stacks together. There must be room for 15 patches with 64 functions each,
+//! and for one more patch, which has an entry on each of 256 sites. The script `pool` of the examples does the same,
+//! but no line shows the room.
 ghost use Rattle.std.specs.Prelude.{◌≡◌, ◌≢◌, ◌⊎◌, ◌<◌, ℕ, false, [], ◌∷◌, length, replicate, slice_set};
 ghost use Rattle.klp_types.specs.declared.version.Entry.{Entry as AnyEntry};
 ghost use Rattle.klp_stack.specs.Stack.{entries_at, has_entry};
@@ -13,16 +14,16 @@ const SITES: u16 = 256;
 /// The patch that replaces all others, and has one function.
 const NEWEST: u8 = 15;
 
-/// How many sites a patch has functions for, one after another. The first patch begins at the first site, the next one
-/// after it, and so on, around the kernel.
+/// How many successive sites a patch has functions for. The first patch begins at the first site. Each further one
+/// begins behind the sites of the patch before it. Behind the last site, the next patch begins at the first again.
 const FUNCTIONS: u16 = 64;
 
-/// Whether the patch has an entry on the site: the newest one has one everywhere.
+/// Whether the patch has an entry on the site. The newest patch has one on each site.
 fn is_on(patch: u8, site: Site) -> bool {
     patch == NEWEST || u16::from(patch % 4) == site.0 / FUNCTIONS
 }
 
-/// Pushes the entry of a patch if there is room for it, and returns whether there was.
+/// Pushes an entry of a patch if there is room for it. Returns whether there was room.
 fn push(stacks: &mut Stacks, site: Site, patch: u8) -> bool
     requires there { site < length stacks.old }
     requires fresh { has_entry patch (entries_at stacks.old site) ≡ false }
@@ -46,7 +47,7 @@ fn push(stacks: &mut Stacks, site: Site, patch: u8) -> bool
     true
 }
 
-/// Pushes the entries of a site, the oldest first, and returns whether there was room for them.
+/// Pushes all entries of a site, oldest first. Returns whether there was room for all.
 fn push_all(stacks: &mut Stacks, site: Site) -> bool
     requires there { site < length stacks.old }
     requires empty { entries_at stacks.old site ≡ [] }
@@ -62,7 +63,7 @@ fn push_all(stacks: &mut Stacks, site: Site) -> bool
     has_room
 }
 
-/// Pushes the entries of all sites, and returns whether there was room for them.
+/// Pushes the entries of all sites. Returns whether there was room for all.
 fn fill(stacks: &mut Stacks) -> bool
     requires { stacks.old ≡ replicate 256 [] }
     ensures { length stacks.new ≡ 256 }
@@ -74,7 +75,7 @@ fn fill(stacks: &mut Stacks) -> bool
     has_room
 }
 
-/// Takes the newest patch out again, by the records of its entries.
+/// Removes the entries of the newest patch, by putting back their records.
 fn take_newest(stacks: &mut Stacks) {
     for site in 0..SITES {
         stacks.put_back(Record::StackEntry {
@@ -85,7 +86,8 @@ fn take_newest(stacks: &mut Stacks) {
     }
 }
 
-/// How much room there is at first, with all entries, and without the newest patch's; and whether all entries had room.
+/// How many entries fit at first, beside all entries, and after the newest patch's are removed. Also, whether there was
+/// room for all entries.
 fn spares(alloc: Global) -> Result<([u16; 3], bool), AllocError> {
     let mut stacks = Stacks::new(alloc, 256)?;
     let at_first = stacks.spare();

@@ -1,8 +1,8 @@
-//! The program's words: which of them are refused, and what the others ask for, by examples.
+//! Examples of the program's arguments: which of them are refused, and what the others ask for.
 use klp_program::{Wanted, parse_arguments};
 use std::alloc::{AllocError, Global};
 
-/// Words, and what they ask for: the files that they name, if they do.
+/// Arguments, and what they ask for, with the files that they name.
 const CASES: &str = "\
 console => console
  => console
@@ -34,7 +34,7 @@ fn put_words(alloc: Global, given: &mut Vec<String>, words: &str) -> Result<(), 
     Ok(())
 }
 
-/// What words ask for.
+/// What these arguments ask for, as a case spells it.
 fn wanted_words(alloc: Global, words: &Wanted) -> Result<String, AllocError> {
     match words {
         Wanted::Console(None) => String::from_str(alloc, "console"),
@@ -43,7 +43,7 @@ fn wanted_words(alloc: Global, words: &Wanted) -> Result<String, AllocError> {
     }
 }
 
-/// Whether the arguments `given` mean `wanted`. If they are refused, and only then, standard error has a line.
+/// Whether the arguments `given` ask for what `wanted` says. Only if they are refused, standard error must have a line.
 fn is_answer(alloc: Global, given: &[String], wanted: &str) -> Result<bool, AllocError> {
     let mut err = Vec::new(alloc);
     Ok(match parse_arguments(alloc, given, &mut err) {

@@ -10,8 +10,8 @@ use klp_types::{ENTRY_SITE_LEN, MAX_BODY, MAX_OBJECTS, MAX_SITES, ObjectText, Sy
 /// The name of the first object, which is the kernel itself. All other objects are modules.
 const KERNEL: &str = "vmlinux";
 
-/// Returns why these objects make no image. `None` if they do. The limits are checked first, since they bound the
-/// cost of the other checks.
+/// Returns the first fault that prevents an image of these objects. Returns `None` if there is no fault. The limits are
+/// checked first, since they bound the cost of the other checks.
 pub fn image_fault(handler: u64, objects: &[ObjectText]) -> Option<ImageFault>
     ensures { result ≡ faults.image_fault handler objects.now }
 {
@@ -95,8 +95,8 @@ fn has_name(objects: &[ObjectText], name: &str) -> bool
     objects.iter().any(|object| object.name.as_str() == name)
 }
 
-/// Returns the fault of the first symbol that has one. Symbols are checked in the image's order, so that the report
-/// names the first line at fault.
+/// Returns the fault of the first faulty symbol. Symbols are checked in the image's order, so that the report names the
+/// first line at fault.
 fn symbols_fault(handler: u64, objects: &[ObjectText]) -> Option<ImageFault>
     ensures { result ≡ faults.first_fault (faults.symbols_tests handler [] (symbols_of objects.now)) }
 {
@@ -108,8 +108,8 @@ fn symbols_fault(handler: u64, objects: &[ObjectText]) -> Option<ImageFault>
     None
 }
 
-/// Returns the fault of the first symbol of an object that has one. `earlier` are the objects before this one, since a
-/// symbol may share an address with one of their symbols.
+/// Returns the fault of an object's first faulty symbol. `earlier` are the objects before this object, since a symbol
+/// may share an address with one of their symbols.
 fn object_fault(handler: u64, earlier: &[ObjectText], symbols: &[SymbolText]) -> Option<ImageFault>
     ensures { result ≡ faults.first_fault (faults.symbols_tests handler (symbols_of earlier.now) symbols.now) }
 {
@@ -121,8 +121,8 @@ fn object_fault(handler: u64, earlier: &[ObjectText], symbols: &[SymbolText]) ->
     None
 }
 
-/// Returns the fault of one symbol. `objects` are the objects before its own, and `symbols` the symbols before it in
-/// its own object, since it may share an address with any of them.
+/// Returns the fault of `symbol`, if it has one. `objects` are the objects before its object, and `symbols` are the
+/// symbols before it in its object: it may share an address with any of them.
 fn symbol_fault(
     handler: u64,
     objects: &[ObjectText],
@@ -146,8 +146,8 @@ fn symbol_fault(
 
 /// Whether a symbol ends beyond the last address, or shares an address with one of the earlier symbols.
 ///
-/// Each symbol is compared with all before it: at most 256 * 255 / 2 times for an image. They aren't sorted by
-/// address, since sorting takes memory, and loses which symbol is first in the image's order (docs/DECISIONS.md,
+/// Each symbol is compared with all symbols before it: at most 256 * 255 / 2 comparisons for an image. The symbols
+/// aren't sorted by address, since sorting takes memory, and their order in the image would be lost (docs/DECISIONS.md,
 /// "Overlaps by pairs").
 fn is_in_the_way(objects: &[ObjectText], symbols: &[SymbolText], symbol: &SymbolText) -> bool
     ensures { result ≡ faults.is_in_the_way (symbols_of objects.now ++ symbols.now) symbol.now }

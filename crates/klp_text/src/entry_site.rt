@@ -12,8 +12,8 @@ pub const NOP: [u8; ENTRY_SITE_LEN] = [0x0f, 0x1f, 0x44, 0x00, 0x00];
 /// The opcode of a near call. Its displacement follows.
 const CALL: u8 = 0xe8;
 
-/// ENDBR64, the first instruction of a function that may be called through a pointer while the processor tracks
-/// such calls. It has to stay the first, so a hook goes after it.
+/// ENDBR64, the first instruction of a function that may be called through a pointer while the processor tracks such
+/// calls. It has to stay the first instruction, so a hook is written after it.
 const ENDBR64: [u8; 4] = [0xf3, 0x0f, 0x1e, 0xfa];
 
 /// Returns the offset in a body at which its entry site begins.

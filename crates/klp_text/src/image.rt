@@ -18,15 +18,15 @@ use std::marker::Model;
 
 /// The text of all objects, loaded or not: their names and symbols, and the bytes of each body at this moment.
 ///
-/// Sites are numbered over all objects in order. The objects never change; only the loaded flags and the hooks do. All
-/// calls but `new` cost the same however many sites there are, and take no memory.
+/// Sites are numbered over all objects in order. The objects never change; only the loaded flags and the hooks do. Only
+/// `new` takes memory. The cost of every other call is independent of the number of sites.
 #[derive(Drop)]
 pub struct Image {
     handler: u64,
-    /// The objects as they were given, since contracts speak of the image that was handed in (docs/DECISIONS.md,
-    /// "Bodies as they were given").
+    /// The objects as the caller passed them. Contracts describe the image by these objects (docs/DECISIONS.md, "Bodies
+    /// as they were given").
     objects: Vec<ObjectText>,
-    /// By object, whether it is loaded. `bytes` returns nothing of an object that isn't loaded.
+    /// By object, whether it is loaded. `bytes` returns `None` for an object that isn't loaded.
     loaded: Vec<bool>,
     /// By object, the site of its first symbol, so that a symbol's site is found without counting.
     first_sites: Vec<u16>,
@@ -50,14 +50,14 @@ impl Model for Image {
 }
 
 impl Image {
-    /// Makes an image of these objects, whose hooked sites call this handler. At first only object 0 is loaded, and
-    /// nothing is hooked: each entry site has the NOP, whatever bytes it was given with.
+    /// Makes an image of these objects. Its hooked sites call this handler. At first only object 0 is loaded and
+    /// nothing is hooked: each entry site has the NOP, whatever bytes the given body has there.
     ///
     /// Faults are checked in this order: `TooMany`, `NoKernel`, `DuplicateObject`, and then, symbol by symbol,
-    /// `ShortSymbol`, `Displacement` and `Overlap`. `NoMemory` may be reported in place of any of them. The objects
-    /// are dropped on a fault.
+    /// `ShortSymbol`, `Displacement` and `Overlap`. `NoMemory` may be reported in place of any of them. The objects are
+    /// dropped on a fault.
     ///
-    /// Each symbol is compared with all before it, and each body is copied.
+    /// Each symbol is compared with all symbols before it, and each body is copied.
     pub fn new(alloc: Global, objects: Vec<ObjectText>, handler: u64) -> Result<Image, ImageFault>
         ensures ok { IfOk result (λ image.
             (faults.image_fault handler objects.items ≡ None) × (image ≡ opening handler objects.items)) }
@@ -81,8 +81,8 @@ impl Image {
         })
     }
 
-    /// Writes a call of the handler over an entry site, in one write of five bytes. A hooked site may be hooked
-    /// again, which writes the same bytes (docs/DECISIONS.md, "Hooking twice").
+    /// Writes a call of the handler to an entry site, in one write of five bytes. Hooking a hooked site is allowed, and
+    /// writes the same bytes again (docs/DECISIONS.md, "Hooking twice").
     pub fn hook(&mut self, site: Site)
         requires { site < site_count self.old.image }
         ensures { self.new ≡ record self.old { hooked = slice_set self.old.hooked site true } }
@@ -90,8 +90,8 @@ impl Image {
         self.set_hooked(site, true);
     }
 
-    /// Writes the NOP over an entry site, in one write of five bytes, so that a call runs the original again. A
-    /// site that isn't hooked may be unhooked.
+    /// Writes the NOP to an entry site, in one write of five bytes. Then a call runs the original again. Unhooking a
+    /// site that isn't hooked is allowed.
     pub fn unhook(&mut self, site: Site)
         requires { site < site_count self.old.image }
         ensures { self.new ≡ record self.old { hooked = slice_set self.old.hooked site false } }
@@ -99,7 +99,7 @@ impl Image {
         self.set_hooked(site, false);
     }
 
-    /// Writes a call of the handler over an entry site, or the NOP.
+    /// Writes either a call of the handler or the NOP to an entry site.
     fn set_hooked(&mut self, site: Site, hooked: bool)
         requires { site < site_count self.old.image }
         ensures { self.new ≡ record self.old { hooked = slice_set self.old.hooked site hooked } }
@@ -107,9 +107,9 @@ impl Image {
         self.sites[usize::from(site.0)].set_hooked(hooked);
     }
 
-    /// Marks an object as loaded: from now on `bytes` returns the bodies of its symbols. Its sites stay hooked or
-    /// unhooked, because hooks follow entries and not modules. It writes one flag, however many symbols the object has.
-    /// A loaded object may be loaded again.
+    /// Marks an object as loaded: from now on `bytes` returns the bodies of its symbols. The hooks of its sites don't
+    /// change, because hooks follow entries and not modules. The call writes one flag, however many symbols the object
+    /// has. Loading a loaded object is allowed.
     pub fn load(&mut self, object: ObjId)
         requires { object < length self.old.image.objects }
         ensures { self.new ≡ record self.old { loaded = slice_set self.old.loaded object true } }
@@ -117,9 +117,9 @@ impl Image {
         self.loaded[usize::from(object.0)] = true;
     }
 
-    /// Marks an object as not loaded: from now on `bytes` returns nothing of it. Neither unloading nor loading an
-    /// object changes a hook of its sites, so the caller unhooks them first. It writes one flag, whatever the object
-    /// has. An object that isn't loaded may be unloaded. The caller must not unload `vmlinux`.
+    /// Marks an object as not loaded: from now on `bytes` returns `None` for its symbols. Like loading, this doesn't
+    /// change the hooks of its sites, so the caller unhooks them first. The call writes one flag, whatever the object
+    /// has. Unloading an object that isn't loaded is allowed. The caller must not unload `vmlinux`.
     pub fn unload(&mut self, object: ObjId)
         requires { object < length self.old.image.objects }
         ensures { self.new ≡ record self.old { loaded = slice_set self.old.loaded object false } }
@@ -138,8 +138,8 @@ impl Image {
             .unwrap_or(false)
     }
 
-    /// Returns the bytes of a symbol of a loaded object, as a processor would run them. `number` counts the symbols
-    /// of the object, from 0. `None` if the object isn't loaded or has no such symbol (docs/DECISIONS.md, "Numbers
+    /// Returns the bytes of a symbol of a loaded object, as a processor would run them. `number` counts the symbols of
+    /// the object, from 0. Returns `None` if the object isn't loaded or has no such symbol (docs/DECISIONS.md, "Numbers
     /// out of range").
     pub fn bytes(&self, object: ObjId, number: u16) -> Option<&[u8]>
         ensures { option_map (λ b. b.now) result ≡ bytes_at self.now object number }
@@ -167,7 +167,7 @@ impl Image {
         self.sites[usize::from(site.0)].address
     }
 
-    /// Returns how many objects there are, loaded or not. Each keeps its number while it is loaded and unloaded.
+    /// Returns how many objects there are, loaded or not. Loading or unloading an object doesn't change its number.
     pub fn objects(&self) -> u8
         ensures count { result ≡ length self.now.image.objects }
         // Every image is within these limits, so tables of crates above needn't check them.
@@ -176,8 +176,8 @@ impl Image {
         self.objects.len() as u8
     }
 
-    /// Returns how many symbols an object has, loaded or not, since a catalog is resolved before modules are
-    /// loaded. `None` if there is no such object.
+    /// Returns how many symbols an object has, loaded or not, since a catalog is resolved before modules are loaded.
+    /// Returns `None` if there is no such object.
     pub fn symbols(&self, object: ObjId) -> Option<u16>
         ensures { result ≡ option_map (λ (found : Object). length found.symbols)
             (slice_get self.now.image.objects object) }
@@ -186,7 +186,8 @@ impl Image {
         Some(object.symbols.len() as u16)
     }
 
-    /// Returns the name of an object, loaded or not, as in the catalog's text. `None` if there is no such object.
+    /// Returns the name of an object, loaded or not, as in the catalog's text. Returns `None` if there is no such
+    /// object.
     pub fn object_name(&self, object: ObjId) -> Option<&str>
         ensures { option_map (λ name. name.now) result
             ≡ option_map (λ (found : Object). found.name) (slice_get self.now.image.objects object) }
@@ -195,8 +196,8 @@ impl Image {
         Some(object.name.as_str())
     }
 
-    /// Returns the name and the address of a symbol, whether its object is loaded or not. `number` counts the
-    /// symbols of the object, from 0, since several may have the same name. `None` if there is no such symbol.
+    /// Returns the name and the address of a symbol, whether its object is loaded or not. `number` counts the symbols
+    /// of the object, from 0, since several may have the same name. Returns `None` if there is no such symbol.
     pub fn symbol(&self, object: ObjId, number: u16) -> Option<(&str, u64)>
         ensures name { option_map (λ found. found.0.now) result
             ≡ option_map (λ (s : Symbol). s.name) (given_symbol self.now.image object number) }
@@ -227,8 +228,8 @@ fn first_sites(alloc: Global, objects: &[ObjectText]) -> Result<Vec<u16>, AllocE
     Ok(sites)
 }
 
-/// Makes a list of all symbols, by site. Each has a NOP at its entry site, whatever bytes it was given with, and
-/// the bytes of its call of the handler.
+/// Makes a list of all symbols, by site. Each has a NOP at its entry site, whatever bytes the given body has there.
+/// Each also has the bytes of its call of the handler.
 fn stored_symbols(
     alloc: Global,
     objects: &[ObjectText],

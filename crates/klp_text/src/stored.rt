@@ -9,11 +9,11 @@ use klp_types::{ENTRY_SITE_LEN, SymbolText};
 use smallvec::SmallVec;
 use std::alloc::{AllocError, Global};
 
-/// A body of at most so many bytes lies in its symbol, and takes no memory of its own.
+/// The greatest length of a body that is stored inside of its symbol. A longer body takes memory of its own.
 const SHORT_BODY: usize = 32;
 
-/// A symbol with the bytes that it has now. The offset of its entry site and the bytes of the call are computed once.
-/// Hooking the site writes these bytes there.
+/// A symbol with its present bytes. The offset of its entry site and the bytes of the call are computed once. To hook
+/// the site, these bytes are written at this offset.
 #[derive(Drop)]
 pub struct StoredSymbol {
     /// The address of the entry site.
@@ -27,7 +27,8 @@ pub struct StoredSymbol {
 }
 
 impl StoredSymbol {
-    /// Copies the symbol, with a NOP at its entry site; the given symbol doesn't change. `Err` if memory is refused.
+    /// Copies the symbol, with a NOP at its entry site. The given symbol doesn't change. Returns `Err` if memory is
+    /// refused.
     pub fn new(alloc: Global, symbol: &SymbolText, handler: u64) -> Result<StoredSymbol, AllocError>
         requires long { entry_end symbol.now.body ≤ length symbol.now.body }
         requires near { FitsSigned w32 (displacement handler (entry_address symbol.now)) }
@@ -51,8 +52,8 @@ impl StoredSymbol {
         })
     }
 
-    /// Writes a call of the handler over the entry site, or the NOP, and sets the flag, so that bytes and flag always
-    /// agree.
+    /// Writes either a call of the handler or the NOP to the entry site, and sets the flag accordingly. So the bytes
+    /// and the flag always agree.
     pub fn set_hooked(&mut self, hooked: bool)
         requires { self.old.offset + 5 ≤ length self.old.body.items }
         ensures address { self.new.address ≡ self.old.address }
@@ -68,7 +69,7 @@ impl StoredSymbol {
     }
 }
 
-/// Writes these five bytes over the entry site that begins at `offset` in a body.
+/// Writes these five bytes to the entry site that begins at `offset` in a body.
 fn write_entry(body: &mut [u8], offset: usize, entry: &[u8; ENTRY_SITE_LEN])
     requires { offset + 5 ≤ length body.old }
     ensures { body.new ≡ with_entry_at offset entry.now body.old }

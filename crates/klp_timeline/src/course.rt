@@ -1,24 +1,24 @@
-//! The course of a transition: since which line it moves to its target, and whether it was forced.
+//! The course of a transition: the line from which on it has had its target, and whether it was forced.
 ghost use Rattle.std.specs.Prelude.{◌≡◌};
 ghost use Rattle.klp_timeline.specs.Course.{after_said, course_of};
 
 use crate::moment::{Fact, Said, Sentence};
 
-/// The line since which a transition moves to its present target.
+/// The line from which on a transition has had its present target.
 #[derive(Clone, Copy)]
 pub enum Since {
     /// The transition started with this line, or was reversed by it.
     Turned(u64),
-    /// This line undid events. The transition has had its present target at least since then.
+    /// This line undid events. The transition has had its present target at least since this line.
     Undone(u64),
 }
 
-/// The course of the transition at the end of a run. If there is none then, the course of the last one.
+/// The course of the transition at the end of a run. If there is no transition then, the course of the last one.
 #[derive(Clone, Copy)]
 pub struct Course {
-    /// None if the transition had its present target already before the run.
+    /// Since when the transition has had its target. `None` if it had this target already before the run.
     pub since: Option<Since>,
-    /// Whether it was forced, unless that was undone.
+    /// Whether the transition was forced and the force wasn't undone.
     pub is_forced: bool,
 }
 

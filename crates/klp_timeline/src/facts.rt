@@ -23,8 +23,8 @@ pub fn outdated(stays: &[Option<Stay>]) -> usize
     count
 }
 
-/// Returns what happened to the transition between two views: it started, completed, or was reversed. None if it is the
-/// same.
+/// Returns what happened to the transition between two views: it started, completed, or was reversed. Returns `None` if
+/// the transition didn't change.
 fn turn(before: &View, after: &View) -> Option<Fact>
     ensures { result ≡ turn before.now.moving after.now.moving after.now.stays }
 {
@@ -59,8 +59,8 @@ fn is_among(patch: PatchId, patches: &[PatchId]) -> bool
     false
 }
 
-/// Returns the fact that a patch left, unless it is still installed, or was the one in transition (whose completion is
-/// a fact of its own).
+/// Returns the fact that a patch left. Returns `None` if the patch is still installed. Returns `None` too if it was the
+/// one in transition, since its completion is a separate fact.
 fn leave_of(patch: PatchId, moved: &Option<Transition>, installed: &[PatchId]) -> Option<Fact>
     ensures { option_to_list result ≡ leave_of moved.now installed.now patch }
 {
@@ -71,7 +71,7 @@ fn leave_of(patch: PatchId, moved: &Option<Transition>, installed: &[PatchId]) -
     }
 }
 
-/// Appends the sentence that a line did `fact`, if there is a fact.
+/// If there is a fact, appends the sentence that the line did this.
 fn add_fact(sentences: &mut Vec<Sentence>, fact: Option<Fact>, line: u64) -> Result<(), AllocError>
     ensures { OnOk result (sentences.new.items
         ≡ sentences.old.items ++ map (did line) (option_to_list fact)) }

@@ -21,18 +21,20 @@ pub fn no_fact_is_left_out()
     ensures { (opening : AnyView) → (run : List AnyMoment) → IsEachFactShown opening run }
 {}
 
-/// Each sentence is true: of the facts of its line, or of each task that it names after each line that it spans.
+/// Each sentence is true. What it says of a line's facts is so, and what it says of tasks is so for each of these tasks
+/// after each line that the sentence spans.
 pub fn no_sentence_is_made_up()
     ensures { (opening : AnyView) → (run : List AnyMoment) → IsAllTrue opening run }
 {}
 
-/// If there is a transition at the end of a run, it has had its patch and target after every line since the one that
-/// its course names.
+/// If there is a transition at the end of a run, it had the same patch and target after the line that its course names,
+/// and after every later line. If its course names no line, it had them after every line of the run.
 pub fn what_moves_has_moved_since()
     ensures { (opening : AnyView) → (run : List AnyMoment) → IsGoingSince opening run }
 {}
 
-/// From a long list some sentences are left out and counted, but none that still lasts at the end of the run.
+/// If there are too many sentences, some are left out and counted, but none about a stay that still lasts at the end of
+/// the run.
 pub fn what_lasts_is_shown()
     ensures lasting { (all : List AnySentence) → (one : AnySentence) → Contains all one → is_lasting one ≡ true
         → Contains (shown all) one }
@@ -41,7 +43,7 @@ pub fn what_lasts_is_shown()
         → (length (shown all) ≤ MAX_SENTENCES) ⊎ All (λ one. is_lasting one ≡ true) (shown all) }
 {}
 
-/// The list of tasks that lag in a mode has each task that lags in it and no other, and its length is their number.
+/// The list of tasks that lag in a mode has exactly these tasks, and its length is their number.
 pub fn who_lags_is_named()
     ensures named { (waits : List (Option AnyMode)) → IsEachLaggardThere waits }
     ensures lags { (waits : List (Option AnyMode)) → IsNoLaggardMadeUp waits }

@@ -1,10 +1,11 @@
-//! What a page says of a run: what each line did, and from which line to which a sleeper blocked the transition or
-//! slept inside of replaced code.
+//! What a page says of a run: what each line did, which sleepers blocked the transition or slept inside of replaced
+//! code, and from which line to which line they did so.
 //!
 //! A run is a list of moments, one for each line ([`Moment`]): what the line did, and what the manager shows after it.
 //! The page has a list of sentences on the run, in the order of the lines where they begin ([`sentences`],
 //! `specs/Sentences`). No stay of a task is missing, none is made up, and each fact is true (`laws`, `specs/Telling`).
-//! From a long list the oldest sentences are left out, but none that still lasts at the end (`shown`, `specs/Shown`).
+//! If there are too many sentences, the oldest are left out, but none that still lasts at the end (`shown`,
+//! `specs/Shown`).
 #![tactic(auto)]
 
 mod course;

@@ -7,8 +7,8 @@ use klp_types::{MAX_PATCHES, MAX_TASKS, Mode, ObjId, PatchId, TaskId, Transition
 pub enum Stay {
     /// The version is blocked and the task isn't at the target, so the transition can't complete.
     Holds(Transition, Version),
-    /// The task sleeps in this version, but wouldn't run it if it called it now. Either the version was replaced while
-    /// the task slept, which only a force does, or the task was put to sleep in a version that isn't there yet.
+    /// The task sleeps in this version, but a call now would run another one. Either the version was replaced while the
+    /// task slept, which only a force does, or the task was put to sleep in a version that no call runs yet.
     Outdated(Version),
 }
 
@@ -28,16 +28,17 @@ pub struct View {
 pub enum Fact {
     /// The transition was forced.
     Forces(Transition),
-    /// The pre-patch callback of this patch for this object returned this status, so the event had no effect but this.
+    /// The pre-patch callback of this patch for this object returned this status, so the event had no other effect.
     PreFailed(PatchId, ObjId, i32),
-    /// The module is loaded.
+    /// The module was loaded.
     Comes(ObjId),
-    /// The module is unloaded.
+    /// The module was unloaded.
     Goes(ObjId),
-    /// Events were undone: the journal had the first number before, and has the second now.
+    /// Events were undone. The first number is how many events the journal had before, the second how many it has
+    /// after.
     Undoes(u32, u32),
     Starts(Transition),
-    /// The transition was reversed. This is what it is now.
+    /// The transition was reversed. This is the transition after that.
     Reverses(Transition),
     /// The transition completed, and this many tasks still sleep inside of code that they wouldn't call now.
     Completes(Transition, usize),
@@ -48,7 +49,7 @@ pub enum Fact {
 /// A line of a run.
 #[derive(Drop)]
 pub struct Moment {
-    /// What the line did, if views don't show it.
+    /// What the line did, if that can't be seen from the views before and after.
     pub act: Option<Fact>,
     pub view: View,
 }
@@ -58,7 +59,7 @@ pub struct Moment {
 pub(crate) struct Sleep {
     pub task: TaskId,
     pub stay: Stay,
-    /// The last line of the stay. None if it lasts until the end of the run.
+    /// The last line of the stay. `None` if it lasts until the end of the run.
     pub to: Option<u64>,
 }
 
@@ -66,16 +67,16 @@ pub(crate) struct Sleep {
 #[derive(Drop)]
 pub struct Sleepers {
     pub stay: Stay,
-    /// At least one.
+    /// The tasks, at least one.
     pub tasks: TaskList,
-    /// The last line of the stay. None if it lasts until the end of the run.
+    /// The last line of the stay. `None` if it lasts until the end of the run.
     pub to: Option<u64>,
 }
 
 /// What a sentence says.
 #[derive(Drop)]
 pub enum Said {
-    /// The line did this.
+    /// What the line did.
     Did(Fact),
     /// These tasks begin a stay with this line.
     Slept(Sleepers),
@@ -84,7 +85,7 @@ pub enum Said {
 /// A sentence about a run.
 #[derive(Drop)]
 pub struct Sentence {
-    /// The line with which it begins. Lines count from 1.
+    /// The line with which the sentence begins. Lines are counted from 1.
     pub line: u64,
     pub said: Said,
 }

@@ -17,14 +17,14 @@ pub fn is_lasting(sentence: &Sentence) -> bool
     }
 }
 
-/// Returns by how many the sentences exceed the limit.
+/// Returns how many sentences there are above the limit.
 pub fn excess(sentences: &[Sentence]) -> usize
     ensures { result ≡ excess sentences.now }
 {
     sentences.len().saturating_sub(MAX_SENTENCES)
 }
 
-/// Whether the first of some sentences is left out, if `excess` of them are too many.
+/// Whether the first sentence of a list is left out, if the list has `excess` sentences too many.
 pub fn is_left_out(excess: usize, sentence: &Sentence) -> bool
     ensures { result ≡ is_left_out excess sentence.now }
 {

@@ -40,7 +40,7 @@ pub(crate) fn is_stay(own: &Stay, other: &Stay) -> bool
     }
 }
 
-/// Whether a task is in this stay, if it is in one.
+/// Whether `other` is this stay. False if it is `None`.
 pub(crate) fn is_seen(stay: &Stay, other: &Option<Stay>) -> bool
     ensures { result ≡ is_seen stay.now other.now }
 {
@@ -50,8 +50,8 @@ pub(crate) fn is_seen(stay: &Stay, other: &Option<Stay>) -> bool
     }
 }
 
-/// Returns the last line of a stay that a task is in after `line`, if the lines `rest` follow. None if the stay lasts
-/// until the end. The cost grows with the length of the stay.
+/// Returns the last line of a stay that a task is in after `line`. The lines in `rest` follow that line. Returns `None`
+/// if the stay lasts until the end. The cost grows with the length of the stay.
 fn until(task: usize, stay: &Stay, line: u64, rest: &[Moment]) -> Option<u64>
     requires task { task < MAX_TASKS }
     requires lines { line + length rest.now < 2 ^ 64 }
@@ -67,7 +67,7 @@ fn until(task: usize, stay: &Stay, line: u64, rest: &[Moment]) -> Option<u64>
     None
 }
 
-/// Adds the stay that a task begins with a line, if it begins one.
+/// Adds the stay that a task begins with a line. Adds nothing if the task begins none.
 fn add_sleep(
     sleeps: &mut Vec<Sleep>,
     task: usize,
@@ -94,7 +94,8 @@ fn add_sleep(
     Ok(())
 }
 
-/// Returns the stays that begin with a line: those in `stays` that the same task doesn't have in `before`.
+/// Returns the stays that begin with a line. `before` has the stay of each task before the line, and `stays` after it.
+/// A stay in `stays` begins if the same task doesn't have it in `before`.
 pub(crate) fn sleeps_begun(
     alloc: Global,
     before: &[Option<Stay>],

@@ -1,4 +1,4 @@
-//! Lines without anything to say.
+//! Lines of which there is nothing to say.
 ghost use Rattle.std.specs.Prelude.{◌≡◌, ◌<◌};
 ghost use Rattle.klp_timeline.specs.Still.{is_same_move, is_same_stay, are_same, are_equal, is_still};
 
@@ -6,7 +6,7 @@ use crate::moment::{Moment, Stay, View};
 use crate::stays::{is_seen, is_transition};
 use klp_types::{PatchId, Transition};
 
-/// Whether both views show the same transition, or both none.
+/// Whether both views show the same transition, or both show none.
 fn is_same_move(before: &Option<Transition>, after: &Option<Transition>) -> bool
     ensures { result ≡ is_same_move before.now after.now }
 {
@@ -17,7 +17,7 @@ fn is_same_move(before: &Option<Transition>, after: &Option<Transition>) -> bool
     }
 }
 
-/// Whether a task is in the same stay before and after, or in none both times.
+/// Whether a task is in the same stay before and after, or in no stay at both times.
 fn is_same_stay(before: &Option<Stay>, after: &Option<Stay>) -> bool
     ensures { result ≡ is_same_stay before.now after.now }
 {
@@ -27,7 +27,7 @@ fn is_same_stay(before: &Option<Stay>, after: &Option<Stay>) -> bool
     }
 }
 
-/// Whether each task is in the same stay before and after, or in none both times.
+/// Whether each task is in the same stay before and after, or in no stay at both times.
 pub fn are_same(before: &[Option<Stay>], after: &[Option<Stay>]) -> bool
     ensures { result ≡ are_same before.now after.now }
 {
@@ -53,8 +53,8 @@ fn are_equal(before: &[PatchId], after: &[PatchId]) -> bool
     }
 }
 
-/// Whether a line has nothing to say: it did nothing that views don't show, and in the views the transition, the
-/// patches and the stays are as before.
+/// Whether there is nothing to say of a line. It did nothing except what views show, and its view shows the same
+/// transition, patches and stays as the view before.
 pub fn is_still(before: &View, moment: &Moment) -> bool
     ensures { result ≡ is_still before.now moment.now }
 {

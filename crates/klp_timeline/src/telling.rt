@@ -27,7 +27,7 @@ fn is_alike(own: &Sleep, other: &Sleep) -> bool
     is_stay(&own.stay, &other.stay) && is_end(&own.to, &other.to)
 }
 
-/// Whether the list has a stay that is alike to this one.
+/// Whether the list has a stay that is alike to `own`.
 fn has_alike(own: &Sleep, sleeps: &[Sleep]) -> bool
     ensures { result ≡ list_any (is_alike own.now) sleeps.now }
 {
@@ -39,7 +39,7 @@ fn has_alike(own: &Sleep, sleeps: &[Sleep]) -> bool
     false
 }
 
-/// Returns the tasks of all stays in the list that are alike to this one.
+/// Returns the tasks of all stays in the list that are alike to `own`.
 fn tasks_alike(alloc: Global, own: &Sleep, sleeps: &[Sleep]) -> Result<TaskList, AllocError>
     ensures { IfOk result (λ tasks. tasks ≡ tasks_alike own.now sleeps.now) }
 {

@@ -1,4 +1,4 @@
-//! What a kernel answered, as a line says it.
+//! The kernel's answer to an event, as a line of a trace has it.
 ghost use Rattle.std.specs.Prelude.{◌≡◌, ◌^◌, IfOk, option_map};
 ghost use Rattle.klp_model.specs.declared.event.Reply.TheVariants.{Pending, Completed, Value, Freed, Woken};
 ghost use Rattle.klp_words.specs.Words.{decimal_of, shadow_value_of};
@@ -15,7 +15,7 @@ use klp_model::{Refusal, Reply};
 use klp_words::{LineWords, Separators, number64, shadow_value, signed};
 use std::alloc::{AllocError, Global};
 
-/// All refusals. They are few, so the refusal in a text is found by trying each.
+/// All refusals. They are few, so the refusal of a text is found by trying each.
 static REFUSALS: [Refusal; 18] = [
     Refusal::NoPatch,
     Refusal::Busy,
@@ -87,8 +87,8 @@ fn woken_of(words: &mut LineWords<'_>, manager: &Manager) -> Option<Reply>
     Some(Reply::Woken(frames_of(words, manager)?))
 }
 
-/// Reads the reply that begins with this word. Ignores surplus words: once the reply is known, the whole text is
-/// compared with the console's.
+/// Reads the reply that begins with the word `first`. Ignores surplus words: once the reply is known, the whole text is
+/// compared with what the console writes.
 fn reply_with(first: &[u8], words: &mut LineWords<'_>, manager: &Manager) -> Option<Reply>
     ensures { result ≡ reply_with manager.now first.now words.old }
 {
@@ -115,7 +115,8 @@ fn reply_with(first: &[u8], words: &mut LineWords<'_>, manager: &Manager) -> Opt
     }
 }
 
-/// Reads the reply in a text, however its numbers are spelled. The text isn't compared with the console's yet.
+/// Reads the reply that a text has, however the numbers in the text are spelled. Doesn't compare the text with what the
+/// console writes.
 fn reply_in(text: &[u8], manager: &Manager) -> Option<Reply>
     ensures { result ≡ reply_in manager.now (words_between (separates Spaces) text.now) }
 {
@@ -124,7 +125,7 @@ fn reply_in(text: &[u8], manager: &Manager) -> Option<Reply>
     reply_with(first, &mut words, manager)
 }
 
-/// Whether the line is this text with a line feed behind it.
+/// Whether `line` is `text` followed by a line feed.
 fn is_line_of(text: &[u8], line: &str) -> bool
     ensures { result ≡ is_line_of text.now line.now }
 {
@@ -134,7 +135,8 @@ fn is_line_of(text: &[u8], line: &str) -> bool
     }
 }
 
-/// Returns the reply as an answer if the console writes exactly this text of it. `Err` if memory runs out.
+/// Returns the reply as an answer if the console writes exactly this text for it, else `None`. Returns `Err` if memory
+/// runs out.
 fn as_written(
     alloc: Global,
     text: &[u8],
@@ -154,7 +156,7 @@ fn as_written(
     }
 }
 
-/// Returns the refusal of which the console writes exactly this text. `None` if there is no such refusal.
+/// Returns the refusal for which the console writes exactly this text. Returns `None` if there is no such refusal.
 fn refusal_of(text: &[u8]) -> Option<Refusal>
     ensures { result ≡ refusal_of text.now }
 {
@@ -164,8 +166,8 @@ fn refusal_of(text: &[u8]) -> Option<Refusal>
         .copied()
 }
 
-/// Returns the answer of which the console writes exactly this text. `None` if there is no such answer. `Err` if memory
-/// runs out.
+/// Returns the answer for which the console writes exactly this text. Returns `None` if there is no such answer, and
+/// `Err` if memory runs out.
 pub(crate) fn answer_of(
     alloc: Global,
     text: &[u8],

@@ -11,7 +11,7 @@ use klp_watch::Observed;
 use klp_words::microseconds;
 use std::alloc::{AllocError, Global};
 
-/// An item, with its time if its line has one in front.
+/// An item of a trace, with the time of its line. The time is `None` if the line has none.
 #[derive(Clone, Copy)]
 pub struct Timed<T> {
     pub item: T,
@@ -21,8 +21,8 @@ pub struct Timed<T> {
 /// What a line of a trace says.
 pub type Entry = Timed<Observed>;
 
-/// Puts a time beside an item. `None` if there is no item. The function is generic, since the borrow checker doesn't
-/// cover it for [`Observed`].
+/// Puts a time beside an item. Returns `None` if there is no item. The function is generic, since the borrow checker
+/// doesn't cover it for [`Observed`].
 fn with_time<T: Drop>(item: Option<T>, time: Option<Microseconds>) -> Option<Timed<T>>
     ensures { result ≡ option_map (λ own. record { item = own; time = time }) item }
 {
@@ -32,7 +32,8 @@ fn with_time<T: Drop>(item: Option<T>, time: Option<Microseconds>) -> Option<Tim
     }
 }
 
-/// Reads an item whose line has this time, or none. `None` if the text is no item. `Err` if memory runs out.
+/// Reads an item. `time` is the time of its line, if it has one. Returns `None` if the text is no item, and `Err` if
+/// memory runs out.
 fn entry_at(
     alloc: Global,
     text: &[u8],
@@ -45,8 +46,8 @@ fn entry_at(
     Ok(with_time(item, time))
 }
 
-/// Reads a line: an item, and its time if it has one. `None` if the line is no item, or if its time isn't a time. `Err`
-/// if memory runs out.
+/// Reads a line: an item, and its time if it has one. Returns `None` if the line is no item or its time is misspelled,
+/// and `Err` if memory runs out.
 fn entry_of(alloc: Global, line: &[u8], manager: &Manager) -> Result<Option<Entry>, AllocError>
     ensures { IfOk result (λ entry. entry ≡ entry_of manager.now line.now) }
 {
@@ -59,8 +60,8 @@ fn entry_of(alloc: Global, line: &[u8], manager: &Manager) -> Result<Option<Entr
     }
 }
 
-/// Reads a line after others. `last` is their last time. `Err` with what is wrong if the line is no item, if its time
-/// is before `last`, or if memory runs out.
+/// Reads a line that follows other lines. `last` is the last time among these. Returns as `Err` what is wrong if the
+/// line is no item, if its time is before `last`, or if memory runs out.
 pub(crate) fn entry_behind(
     alloc: Global,
     last: Microseconds,

@@ -1,5 +1,5 @@
-//! Worked examples of the definitions, by computation. A function here does nothing: its contract is the example, so
-//! the proof fails if a definition gives something else.
+//! Worked examples of the definitions, proved by computation. A function here does nothing: its contract is the
+//! example, and its proof fails if a definition gives something else.
 ghost use Rattle.std.specs.Prelude.{◌≡◌, pos, negsuc, true, false, codes, Some, None, Ok, Err};
 ghost use Rattle.klp_model.specs.declared.event.Event.TheVariants.{Poll};
 ghost use Rattle.klp_model.specs.declared.event.Refusal.TheVariants.{Busy};
@@ -12,7 +12,7 @@ ghost use Rattle.klp_trace.specs.Answers.{answer_of};
 ghost use Rattle.klp_trace.specs.Items.{item_of};
 ghost use Rattle.klp_trace.specs.Traces.{entry_of};
 
-/// An answer is spelled as the console does, and in no other way.
+/// An answer is spelled exactly as the console spells it.
 pub fn answers_are_spelled_as_on_the_console()
     ensures done { (manager : Journaled) → answer_of manager (codes "ok") ≡ Some (Ok Done) }
     ensures upper_case { (manager : Journaled) → answer_of manager (codes "Ok") ≡ None }
@@ -29,7 +29,7 @@ pub fn answers_are_spelled_as_on_the_console()
     ensures no_number { (manager : Journaled) → answer_of manager (codes "error Busy") ≡ None }
 {}
 
-/// A line is an event, perhaps with its answer, a return, or what was seen.
+/// A line is an event with or without its answer, a return, or something that was seen.
 pub fn lines_are_items()
     ensures event { (manager : Journaled) → item_of manager (codes "poll") ≡ Some (Item (Happens Poll)) }
     ensures answered { (manager : Journaled) → item_of manager (codes "poll => pending 1")
@@ -50,7 +50,7 @@ pub fn lines_are_items()
     ensures no_task { (manager : Journaled) → item_of manager (codes "saw 64 0") ≡ None }
 {}
 
-/// A time stands at the front of its line, in seconds.
+/// A time stands in front of its line's item, in seconds.
 pub fn a_line_may_have_its_time()
     ensures time { (manager : Journaled) → entry_of manager (codes "@12.345 poll")
         ≡ Some (record { item = Item (Happens Poll); time = Some 12_345_000 }) }

@@ -8,15 +8,15 @@ use thiserror::Error;
 /// What is wrong with a line of a trace. If a line has both faults, `BadItem` is reported.
 #[derive(Clone, Copy, Debug, PartialEq, Eq)]
 pub enum TraceFaultKind {
-    /// The line is no item, has an impossible name, symbol or task, or has something else in place of its time.
+    /// The line is no item, names an impossible name, symbol or task, or has a misspelled time.
     BadItem,
-    /// The time of the line is before that of a line above, as if two logs were put together.
+    /// The time of the line is before that of an earlier line, as happens if two logs are joined.
     OutOfOrder,
-    /// Memory ran out. This may come in place of a fault of this line or a later one.
+    /// Memory ran out. This may be reported in place of a fault of this line or of a later one.
     NoMemory,
 }
 
-/// Its name, which is what `Debug` prints: one table of the names serves both.
+/// Writes the fault's name, as `Debug` does: both use one table of names.
 impl fmt::Display for TraceFaultKind {
     fn fmt<W: fmt::Write>(&self, f: &mut fmt::Formatter<W>) -> fmt::Result {
         fmt::Debug::fmt(self, f)
@@ -29,7 +29,7 @@ impl error::Error for TraceFaultKind {}
 #[derive(Clone, Copy, Debug, PartialEq, Eq, Error)]
 #[error("trace line {line}: {kind}")]
 pub struct TraceFault {
-    /// Counted from 1.
+    /// The number of the line, from 1.
     pub line: u64,
     pub kind: TraceFaultKind,
 }

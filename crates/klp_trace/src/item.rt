@@ -1,4 +1,4 @@
-//! The item that a line is, behind its time.
+//! Reads the item of a line, without the line's time.
 ghost use Rattle.std.specs.Prelude.{◌≡◌, IfOk};
 ghost use Rattle.klp_console.specs.Asked.{event_of};
 ghost use Rattle.klp_trace.specs.Items.{call_of, return_of, item_alone, event_answered, item_answered, item_of};
@@ -14,7 +14,7 @@ use klp_watch::Observed;
 use klp_words::{LineWords, Separators};
 use std::alloc::{AllocError, Global};
 
-/// Reads the words behind `call`: a task, and the symbol that it calls.
+/// Reads the words that follow `call`: a task, and the symbol that it calls.
 fn call_of(words: &mut LineWords<'_>, manager: &Manager) -> Option<Observed>
     ensures { result ≡ call_of manager.now words.old }
 {
@@ -25,7 +25,7 @@ fn call_of(words: &mut LineWords<'_>, manager: &Manager) -> Option<Observed>
     Some(Observed::Seen(Seen::Call(task, site_of(symbol, manager)?)))
 }
 
-/// Reads the word behind `return`: a task.
+/// Reads the word that follows `return`: a task.
 fn return_of(words: &mut LineWords<'_>) -> Option<Observed>
     ensures { result ≡ return_of words.old }
 {
@@ -35,8 +35,8 @@ fn return_of(words: &mut LineWords<'_>) -> Option<Observed>
     Some(Observed::Seen(Seen::Return(task_of(task)?)))
 }
 
-/// Reads an item without an answer. `event` is the event that the text asks for as a line of the console, if it asks
-/// for one. Looks up names in the manager's catalog, and doesn't use the manager's state.
+/// Reads an item that has no answer. `event` is the event that the text asks for as a console line, if it asks for one.
+/// Names are looked up in the manager's catalog. The manager's state isn't used.
 fn item_alone(text: &[u8], event: Option<Event>, manager: &Manager) -> Option<Observed>
     requires { event ≡ event_of manager.now text.now }
     ensures { result ≡ item_alone manager.now text.now }
@@ -60,8 +60,8 @@ fn item_alone(text: &[u8], event: Option<Event>, manager: &Manager) -> Option<Ob
     }
 }
 
-/// Reads what the kernel answered to an event. `?` is no answer, so then the item is the event alone. `None` if the
-/// console writes no such answer. `Err` if memory runs out.
+/// Reads what the kernel answered to an event. `?` stands for no answer, so the item is then the event alone. Returns
+/// `None` if the console writes no such answer, and `Err` if memory runs out.
 fn event_answered(
     alloc: Global,
     event: Event,
@@ -77,8 +77,8 @@ fn event_answered(
     Ok(answer.map(|answer| Observed::Answered(event, answer)))
 }
 
-/// Reads an event with its answer. `None` if the text asks for no event, or if the answer isn't one. `Err` if memory
-/// runs out.
+/// Reads an event with its answer. Returns `None` if the text asks for no event or the answer isn't one, and `Err` if
+/// memory runs out.
 fn item_answered(
     alloc: Global,
     text: &[u8],
@@ -93,7 +93,7 @@ fn item_answered(
     }
 }
 
-/// Reads a text as an item. `None` if it isn't one. `Err` if memory runs out.
+/// Reads a text as an item. Returns `None` if it is none, and `Err` if memory runs out.
 pub(crate) fn item_of(
     alloc: Global,
     text: &[u8],

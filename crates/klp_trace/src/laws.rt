@@ -7,13 +7,13 @@ ghost use Rattle.klp_console.specs.Refusals.{refusal_text};
 ghost use Rattle.klp_console.specs.Replies.{answer_text};
 ghost use Rattle.klp_trace.specs.Answers.{answer_of};
 
-/// A text that is read as an answer is, byte by byte, what the console writes of that answer.
+/// If a text is read as an answer, it is byte by byte what the console writes for that answer.
 pub fn an_answer_is_what_the_console_writes()
     ensures { (manager : Journaled) (text : List ℕ) (answer : Result Reply Refusal)
         → answer_of manager text ≡ Some answer → answer_text manager.managed.catalog answer ≡ text ++ codes "\n" }
 {}
 
-/// Each refusal that the console writes is read back as that refusal.
+/// What the console writes for a refusal is read back as that refusal.
 pub fn refusals_are_read_back()
     ensures { (manager : Journaled) (text : List ℕ) (refusal : Refusal)
         → refusal_text refusal ≡ text ++ codes "\n" → answer_of manager text ≡ Some (Err refusal) }

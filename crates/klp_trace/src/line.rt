@@ -1,4 +1,4 @@
-//! What stands where in a line.
+//! The parts of a line.
 ghost use Rattle.std.specs.Prelude.{◌≡◌, true, false, nat_eq, drop, codes, IfSome, MatchOption};
 ghost use Rattle.std.specs.List.{starts_with, before_first, after_first};
 ghost use Rattle.klp_trace.specs.Items.{is_equals_sign};
@@ -9,18 +9,18 @@ use klp_words::cut;
 /// A line of a trace in its parts, each as it is spelled.
 #[derive(Clone, Copy)]
 pub struct LineParts<'a> {
-    /// The seconds behind an `@` at the front.
+    /// The seconds after an `@` at the front of the line.
     pub time: Option<&'a [u8]>,
-    /// All that stands behind the time.
+    /// All that follows the time.
     pub text: &'a [u8],
     /// What happened or was seen.
     pub item: &'a [u8],
-    /// What stands behind `=> `.
+    /// What follows `=> `.
     pub answer: Option<&'a [u8]>,
 }
 
-/// Splits a text at its first `=`, if `> ` follows there: into the text of an item and that of its answer. Else the
-/// whole text is the item's, and there is no answer.
+/// Splits a text at its first `=`, if `> ` follows it: into an item and its answer. Otherwise the whole text is the
+/// item, and there is no answer.
 pub(crate) fn item_and_answer(text: &[u8]) -> (&[u8], Option<&[u8]>)
     ensures { MatchOption result.1
         ((starts_with nat_eq (after_first is_equals_sign text.now) (codes "> ") ≡ false) × (result.0.now ≡ text.now))
@@ -35,8 +35,8 @@ pub(crate) fn item_and_answer(text: &[u8]) -> (&[u8], Option<&[u8]>)
     }
 }
 
-/// Splits a line that begins with `@` into its time and the text behind that: the time ends at the first space. `None`
-/// if the line has no time.
+/// Splits a line that begins with `@` into its time and the text after the time, which ends at the first space. Returns
+/// `None` if the line has no time.
 pub(crate) fn time_and_rest(line: &[u8]) -> Option<(&[u8], &[u8])>
     ensures { MatchOption result (starts_with nat_eq line.now (codes "@") ≡ false)
         (λ parts. (starts_with nat_eq line.now (codes "@") ≡ true)
@@ -48,7 +48,8 @@ pub(crate) fn time_and_rest(line: &[u8]) -> Option<(&[u8], &[u8])>
 }
 
 impl<'a> LineParts<'a> {
-    /// Splits any line into its parts, also one that is no item. This is for messages to people, and has no contract.
+    /// Splits a line into its parts, even if the line is no item. It is used for messages to people, and has no
+    /// contract.
     pub fn of(line: &'a [u8]) -> LineParts<'a> {
         let (time, text) = match time_and_rest(line) {
             Some((time, text)) => (Some(time), text),

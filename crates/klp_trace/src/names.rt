@@ -8,7 +8,7 @@ use klp_core::Manager;
 use klp_types::{Frames, MAX_TASKS, ObjId, PatchId, PatchState, Site, TaskId, Version};
 use klp_words::{LineWords, cut, is_name, number64, text};
 
-/// Reads the number of a task. There may be no such task. `None` if the word is no number below [`MAX_TASKS`].
+/// Reads the number of a task, which needn't exist. Returns `None` if the word is no number below [`MAX_TASKS`].
 pub(crate) fn task_of(word: &[u8]) -> Option<TaskId>
     ensures { result ≡ task_of word.now }
 {
@@ -20,7 +20,7 @@ pub(crate) fn task_of(word: &[u8]) -> Option<TaskId>
     }
 }
 
-/// Reads the name of a patch. `None` if the catalog has no such patch.
+/// Reads the name of a patch. Returns `None` if the catalog has no such patch.
 pub(crate) fn patch_of(word: &[u8], manager: &Manager) -> Option<PatchId>
     ensures { result ≡ patch_of manager.now word.now }
 {
@@ -30,7 +30,7 @@ pub(crate) fn patch_of(word: &[u8], manager: &Manager) -> Option<PatchId>
     manager.catalog().patch(text(word))
 }
 
-/// Reads the name of an object, which may be loaded or not. `None` if the catalog has no such object.
+/// Reads the name of an object, which needn't be loaded. Returns `None` if the catalog has no such object.
 pub(crate) fn object_of(word: &[u8], manager: &Manager) -> Option<ObjId>
     ensures { result ≡ object_of manager.now word.now }
 {
@@ -41,8 +41,8 @@ pub(crate) fn object_of(word: &[u8], manager: &Manager) -> Option<ObjId>
     manager.modules().object(text(word))
 }
 
-/// Reads `PATCH:INDEX`, a new function of a patch. The patch may have no function of this index. `None` if the catalog
-/// has no such patch.
+/// Reads `PATCH:INDEX`, a new function of a patch. It isn't checked that the patch has this function. Returns `None` if
+/// the catalog has no such patch.
 fn new_function_of(word: &[u8], manager: &Manager) -> Option<Version>
     ensures { result ≡ new_function_of manager.now word.now }
 {
@@ -52,8 +52,8 @@ fn new_function_of(word: &[u8], manager: &Manager) -> Option<Version>
     Some(Version::New(patch, index))
 }
 
-/// Reads a function as `task sleep` spells it: the original of a symbol, or a new function of a patch. `None` if the
-/// word is neither.
+/// Reads a function as `task sleep` spells it: the original function of a symbol, or a new function of a patch. Returns
+/// `None` if the word is neither.
 pub(crate) fn version_of(word: &[u8], manager: &Manager) -> Option<Version>
     ensures { result ≡ version_of manager.now word.now }
 {
@@ -63,8 +63,8 @@ pub(crate) fn version_of(word: &[u8], manager: &Manager) -> Option<Version>
     }
 }
 
-/// Reads the functions that a task is inside of, innermost last. `None` if a word is no function, or if there are more
-/// than 32.
+/// Reads the functions that a task is inside of, innermost last. Returns `None` if a word is no function, or if there
+/// are more than 32 words.
 pub(crate) fn frames_of(words: &mut LineWords<'_>, manager: &Manager) -> Option<Frames>
     ensures { result ≡ frames_of manager.now words.old }
 {
@@ -77,8 +77,8 @@ pub(crate) fn frames_of(words: &mut LineWords<'_>, manager: &Manager) -> Option<
     Some(frames)
 }
 
-/// Returns the site at which a version is called. `None` for a new function that its patch doesn't have, or that has no
-/// site.
+/// Returns the site at which a version is called. Returns `None` for a new function that its patch doesn't have, or
+/// that has no site.
 pub(crate) fn site_of_version(version: Version, manager: &Manager) -> Option<Site>
     ensures { result ≡ site_of_version manager.now version }
 {
@@ -91,7 +91,7 @@ pub(crate) fn site_of_version(version: Version, manager: &Manager) -> Option<Sit
     }
 }
 
-/// Reads the state of a task, as its `patch_state` file has it: `-1`, `0` or `1`.
+/// Reads what a task's `patch_state` file has: `-1`, `0` or `1`.
 pub(crate) fn state_of(word: &[u8]) -> Option<PatchState>
     ensures { result ≡ state_of word.now }
 {

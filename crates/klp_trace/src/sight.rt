@@ -1,4 +1,4 @@
-//! What a kernel showed, as a line says it.
+//! What a kernel showed, read from the words of a line.
 ghost use Rattle.std.specs.Prelude.{◌≡◌};
 ghost use Rattle.klp_trace.specs.Items.{state_seen, gone_seen, files_seen, saw_of, version_seen, ran_of, text_of};
 
@@ -9,7 +9,7 @@ use klp_types::{TaskId, Version};
 use klp_watch::{PatchFiles, Sight};
 use klp_words::LineWords;
 
-/// Reads a task, and the state that it has.
+/// Reads a task, and its patch state.
 fn state_seen(task: &[u8], state: &[u8]) -> Option<Sight>
     ensures { result ≡ state_seen task.now state.now }
 {
@@ -17,14 +17,14 @@ fn state_seen(task: &[u8], state: &[u8]) -> Option<Sight>
     Some(Sight::State(task, Some(state_of(state)?)))
 }
 
-/// Reads the name of a patch that has no files.
+/// Reads the name of a patch that has no files: it is gone.
 fn gone_seen(patch: &[u8], manager: &Manager) -> Option<Sight>
     ensures { result ≡ gone_seen manager.now patch.now }
 {
     Some(Sight::Files(patch_of(patch, manager)?, None))
 }
 
-/// Reads a patch, and what its files have.
+/// Reads a patch, and what its files `enabled` and `transition` have.
 fn files_seen(patch: &[u8], enabled: &[u8], transition: &[u8], manager: &Manager) -> Option<Sight>
     ensures { result ≡ files_seen manager.now patch.now enabled.now transition.now }
 {
@@ -40,7 +40,7 @@ fn files_seen(patch: &[u8], enabled: &[u8], transition: &[u8], manager: &Manager
     ))
 }
 
-/// Reads the words behind `saw`: a task and its state, or a patch and what its files have.
+/// Reads the words that follow `saw`: a task and its state, or a patch and what its files have.
 pub(crate) fn saw_of(words: &mut LineWords<'_>, manager: &Manager) -> Option<Sight>
     ensures { result ≡ saw_of manager.now words.old }
 {
@@ -59,15 +59,15 @@ pub(crate) fn saw_of(words: &mut LineWords<'_>, manager: &Manager) -> Option<Sig
     }
 }
 
-/// Returns that a task called the site of this version and ran the version there. `None` if the version is a new
-/// function that its patch doesn't have, or that has no site, since its object has no such symbol.
+/// Returns the sight that a task called the site of this version and ran the version. Returns `None` if the version is
+/// a new function that its patch doesn't have, or that has no site because its object has no such symbol.
 fn version_seen(task: TaskId, version: Version, manager: &Manager) -> Option<Sight>
     ensures { result ≡ version_seen manager.now task version }
 {
     site_of_version(version, manager).map(|site| Sight::Version(task, site, version))
 }
 
-/// Reads the words behind `ran`: a task, and the version that it ran.
+/// Reads the words that follow `ran`: a task, and the version that it ran.
 pub(crate) fn ran_of(words: &mut LineWords<'_>, manager: &Manager) -> Option<Sight>
     ensures { result ≡ ran_of manager.now words.old }
 {
@@ -78,7 +78,7 @@ pub(crate) fn ran_of(words: &mut LineWords<'_>, manager: &Manager) -> Option<Sig
     version_seen(task, version_of(frame, manager)?, manager)
 }
 
-/// Reads the word behind `hooked` or `plain`: the symbol whose text was read.
+/// Reads the word that follows `hooked` or `plain`: the symbol whose text was read.
 pub(crate) fn text_of(words: &mut LineWords<'_>, hooked: bool, manager: &Manager) -> Option<Sight>
     ensures { result ≡ text_of manager.now hooked words.old }
 {

@@ -1,4 +1,4 @@
-//! An answer as the console writes it: the same text, by its own definitions.
+//! Returns an answer as text, as the console writes it. The text has definitions of its own.
 ghost use Rattle.std.specs.Prelude.{◌≡◌, ◌++◌, codes, string_bytes, IfOk};
 ghost use Rattle.std.specs.Fmt.{decimal, signed_decimal};
 ghost use Rattle.klp_types.specs.declared.version.Version.TheVariants.{Original};
@@ -39,14 +39,14 @@ pub(crate) fn refusal_line(refusal: Refusal) -> &'static str
     }
 }
 
-/// Returns the name of a patch. Empty if the catalog has no such patch.
+/// Returns the name of a patch, or an empty text if the catalog has no such patch.
 fn patch_name(manager: &Manager, patch: PatchId) -> &str
     ensures { result.now ≡ patch_name manager.now.managed.catalog patch }
 {
     manager.catalog().patch_name(patch).unwrap_or("")
 }
 
-/// Returns the name of an object. Empty if the catalog has no such object.
+/// Returns the name of an object, or an empty text if the catalog has no such object.
 fn object_name(manager: &Manager, object: ObjId) -> &str
     ensures { result.now ≡ object_name manager.now.managed.catalog.names object }
 {
@@ -73,7 +73,8 @@ fn symbol_text(
     Ok(text)
 }
 
-/// Writes an original function by its symbol, behind a space. The position among symbols of that name counts from 1.
+/// Writes a space and an original function, named by its symbol and the symbol's position among those of that name,
+/// from 1.
 fn original_text(alloc: Global, manager: &Manager, site: Site) -> Result<String, AllocError>
     ensures { IfOk result (λ text. string_bytes text ≡ frame_text manager.now.managed.catalog (Original site)) }
 {
@@ -97,7 +98,7 @@ fn new_text(alloc: Global, patch: &str, function: u16) -> Result<String, AllocEr
     Ok(text)
 }
 
-/// Writes a function that a task was inside of, behind a space.
+/// Writes a space and a function that a task was inside of.
 fn frame_text(alloc: Global, manager: &Manager, version: Version) -> Result<String, AllocError>
     ensures { IfOk result (λ text. string_bytes text ≡ frame_text manager.now.managed.catalog version) }
 {
@@ -107,7 +108,7 @@ fn frame_text(alloc: Global, manager: &Manager, version: Version) -> Result<Stri
     }
 }
 
-/// Writes the functions that a task was inside of, each behind a space, the outermost first.
+/// Writes the functions that a task was inside of, outermost first, with a space before each.
 fn frames_text(alloc: Global, manager: &Manager, versions: &[Version]) -> Result<String, AllocError>
     ensures { IfOk result (λ text. string_bytes text ≡ frames_text manager.now.managed.catalog versions.now) }
 {
@@ -118,7 +119,7 @@ fn frames_text(alloc: Global, manager: &Manager, versions: &[Version]) -> Result
     Ok(text)
 }
 
-/// Writes the line of a task that woke up, with the functions that it was inside of.
+/// Writes the answer line of a task that was woken, with the functions that it was inside of.
 fn woken_text(alloc: Global, manager: &Manager, frames: &Frames) -> Result<String, AllocError>
     ensures { IfOk result (λ text. string_bytes text ≡ reply_text manager.now.managed.catalog (Woken frames.now)) }
 {
@@ -126,7 +127,7 @@ fn woken_text(alloc: Global, manager: &Manager, frames: &Frames) -> Result<Strin
     format!(in alloc; "woken{frames}\n")
 }
 
-/// Writes the line of a shadow variable's value.
+/// Writes the answer line with a shadow variable's value.
 fn value_text(alloc: Global, value: &ShadowValue) -> Result<String, AllocError>
     ensures { IfOk result (λ text. string_bytes text ≡ codes "value " ++ value_text value.now ++ codes "\n") }
 {
@@ -139,7 +140,8 @@ fn value_text(alloc: Global, value: &ShadowValue) -> Result<String, AllocError>
     }
 }
 
-/// Writes the line of a patch that wasn't enabled, since the pre-patch callback for an object returned this status.
+/// Writes the answer line of a patch that wasn't enabled because its pre-patch callback for an object returned this
+/// status.
 fn pre_failed_text(
     alloc: Global,
     patch: &str,
@@ -159,7 +161,7 @@ fn pre_failed_text(
     Ok(text)
 }
 
-/// Writes the line of a reply, with its line feed.
+/// Writes the answer line of a reply, with its line feed.
 pub(crate) fn reply_text(
     alloc: Global,
     manager: &Manager,
@@ -184,7 +186,7 @@ pub(crate) fn reply_text(
     }
 }
 
-/// Returns the line that the console writes of an answer, with its line feed. `Err` if memory runs out.
+/// Returns the line that the console writes for an answer, with its line feed. Returns `Err` if memory runs out.
 pub fn answer_text(
     alloc: Global,
     manager: &Manager,

@@ -1,4 +1,4 @@
-//! A trace out of its text, line by line.
+//! Reads a trace line by line.
 ghost use Rattle.std.specs.Prelude.{◌≡◌, [], ◌∷◌, ◌++◌, IfOk, IfErr, MatchResult, Err, unwrap_or};
 ghost use Rattle.std.specs.Str.Lines.{lines};
 ghost use Rattle.klp_trace.specs.Traces.{IsTraceOf, IsTraceFault};
@@ -14,7 +14,8 @@ use klp_types::{Frames, ObjId, PatchId, PatchState, ShadowValue, Site, TaskId, V
 use klp_watch::{Observed, PatchFiles, Sight};
 use std::alloc::Global;
 
-/// What an item is made of. The borrow checker covers a function that moves items if it names all of these types.
+/// The types of which an item is made. The borrow checker covers a function that moves items only if it names all of
+/// these.
 type Happening = (Seen, Event, Reply, Refusal, Frames, ShadowValue);
 
 type Showing = (Sight, PatchFiles, PatchState, Version);
@@ -26,13 +27,13 @@ type Named = (ObjId, PatchId, Site, TaskId);
 pub struct Trace {
     /// The item of each line, in order.
     pub items: Vec<Observed>,
-    /// For each item its time, if its line has one.
+    /// The time of each item, or `None` if its line has none.
     pub times: Vec<Option<Microseconds>>,
 }
 
-/// Adds an item that was read, and its time. Returns the last time so far: the item's own, or `last` if it has none.
-/// `Err` with the fault if nothing was read, or if memory runs out. The function is generic, since the borrow checker
-/// doesn't cover it for [`Observed`].
+/// Adds an item that was read, with its time. Returns the last time so far: the item's own, or `last` if it has none.
+/// Returns the fault as `Err` if no item was read, or if memory runs out. The function is generic, since the borrow
+/// checker doesn't cover it for [`Observed`].
 fn take<T: Drop>(
     items: &mut Vec<T>,
     times: &mut Vec<Option<Microseconds>>,
@@ -56,8 +57,8 @@ fn take<T: Drop>(
 }
 
 impl Trace {
-    /// Reads a trace, which has one item on each line. `Err` with the first line that is at fault. Looks up names in
-    /// the manager's catalog, and doesn't use the manager's state. Allocates for the items as they come.
+    /// Reads a trace, which has one item on each line. Returns the first line at fault as `Err`. Names are looked up in
+    /// the manager's catalog. The manager's state isn't used. Memory is allocated for the items as they are read.
     pub fn read(alloc: Global, text: &[u8], manager: &Manager) -> Result<Trace, TraceFault>
         ensures read { IfOk result (λ trace. IsTraceOf manager.now text.now trace.items.items trace.times.items) }
         ensures fault { IfErr result (λ fault. IsTraceFault manager.now (lines text.now) fault.line fault.kind) }

@@ -1,4 +1,4 @@
-//! At how many rows a kernel differs from the rules.
+//! Counts the rows at which a kernel differs from the rules.
 ghost use Rattle.std.specs.Prelude.{◌≡◌, count_by};
 ghost use Rattle.klp_trace_page.specs.Pages.{differs, first_from, differing_in};
 
@@ -17,7 +17,8 @@ fn count(rows: &[Row]) -> u64
     count as u64
 }
 
-/// Returns the number of the first row at which the kernel differs from the rules, counted from 1; 0 if there is none.
+/// Returns the number of the first row at which the kernel differs from the rules, counted from 1. Returns 0 if there
+/// is no such row.
 fn first(rows: &[Row]) -> u64
     ensures { result ≡ first_from 1 rows.now }
 {
@@ -29,7 +30,7 @@ fn first(rows: &[Row]) -> u64
     0
 }
 
-/// Returns at how many rows the kernel differs from the rules, and the first of these rows.
+/// Returns at how many rows the kernel differs from the rules, and the number of the first of these.
 pub(crate) fn differing_in(rows: &[Row]) -> Differing
     ensures { result ≡ differing_in rows.now }
 {

@@ -1,4 +1,4 @@
-//! The part of a trace's line that the rules are asked about.
+//! Finds the part of a trace's line about which the rules say something.
 ghost use Rattle.std.specs.Prelude.{◌≡◌};
 ghost use Rattle.klp_trace_page.specs.Traced.{untimed, item_text};
 
@@ -14,7 +14,7 @@ fn untimed(line: &[u8]) -> &[u8]
     }
 }
 
-/// Returns what happened or was seen, by this line: the line without its time, and without the kernel's answer.
+/// Returns what happened or was seen in this line: the line without its time and without the kernel's answer.
 pub(crate) fn item_text(line: &[u8]) -> &[u8]
     ensures { result.now ≡ item_text line.now }
 {

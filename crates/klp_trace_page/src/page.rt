@@ -1,4 +1,4 @@
-//! Booting a manager over a catalog's text, and showing a kernel's trace beside it.
+//! Boots a manager over a catalog's text, and makes a page that compares a kernel's trace with it.
 ghost use Rattle.std.specs.Prelude.{◌≡◌, length, IfOk, IfErr};
 ghost use Rattle.std.specs.Str.Lines.{lines};
 ghost use Rattle.klp_catalog_text.specs.Within.{AreTargetsWithin};
@@ -21,8 +21,8 @@ use klp_watch::Observed;
 use std::alloc::{AllocError, Global};
 use std::io::Write;
 
-/// Plays a trace with these items on a manager that was just booted, and returns the text of its page. `Err` if memory
-/// runs out.
+/// Plays a trace on a manager that was just booted, and returns the text of its page. `items` are the items of the
+/// trace. `Err` if memory runs out.
 fn paged(
     alloc: Global,
     manager: &mut Manager,
@@ -52,7 +52,7 @@ fn paged(
 }
 
 /// Reads a trace by the names of a manager that was just booted, plays it, and returns the text of its page. `Err` with
-/// the first line that is at fault, or if memory runs out.
+/// the first faulty line, or if memory runs out.
 fn read_and_paged(
     alloc: Global,
     manager: &mut Manager,
@@ -70,8 +70,8 @@ fn read_and_paged(
     }
 }
 
-// Plays a trace on a manager, which is dropped then, and returns the page. Only `close` drops a manager, so that its
-// drop is proved once.
+// Plays a trace on a manager, drops the manager, and returns the page. Managers are dropped only by `close`, so that
+// the drop is proved once.
 fn page_over_manager(
     alloc: Global,
     mut manager: Manager,
@@ -112,9 +112,9 @@ fn page_over_plan(
 }
 
 /// Boots a manager over the catalog's text, plays the trace on it by the rules, and returns a page with a row for each
-/// line. `name` is the page's title, and `names` has the names of tasks and the times of lines. `Err` if the text boots
-/// no manager, with the first line of the trace that is at fault, or if memory runs out. Takes memory in proportion to
-/// the trace.
+/// line. `name` is the page's title. `names` has the names of tasks and the times of lines. `Err` if the text boots no
+/// manager, if a line of the trace is faulty (the first is returned), or if memory runs out. Allocates memory in
+/// proportion to the trace.
 pub fn page_over_trace(
     alloc: Global,
     catalog: &[u8],
@@ -129,8 +129,8 @@ pub fn page_over_trace(
     page_over_plan(alloc, plan, name, names, trace)
 }
 
-/// Writes the page of a trace to `out`, once all its lines are played: if one of them is at fault, nothing is written.
-/// If `out` refuses the page, the fault is that of the write.
+/// Writes the page of a trace to `out` after all lines are played. If there is a fault before that, writes nothing. If
+/// the page can't be written, returns the fault of a failed write.
 pub fn write_trace_page<W: Write>(
     alloc: Global,
     catalog: &[u8],

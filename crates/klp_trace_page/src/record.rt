@@ -1,4 +1,4 @@
-//! A trace is played line by line, and each line gets its row.
+//! Plays a trace line by line, and makes a row for each line.
 ghost use Rattle.std.specs.Prelude.{◌≡◌, ◌&&◌, not, length, bytes_eq, Some, IfOk};
 ghost use Rattle.std.specs.Str.Lines.{lines};
 ghost use Rattle.klp_core.specs.Journaled.{IsWellFormed};
@@ -24,7 +24,7 @@ use klp_views::view_of;
 use klp_watch::{Observed, Sight};
 use std::alloc::{AllocError, Global};
 
-/// Seals the journal if the next event might find no room in it.
+/// Seals the journal if it may have no room for the next event.
 fn make_room(manager: &mut Manager)
     requires { IsWellFormed manager.old }
     ensures { IsRoomy manager.old manager.new }
@@ -34,7 +34,7 @@ fn make_room(manager: &mut Manager)
     }
 }
 
-/// Puts the kernel's answer beside that of the rules, and marks the row if they differ.
+/// Adds the kernel's answer to a row, which has that of the rules. If the two differ, marks the row.
 fn compare(row: &mut Row, seen: Vec<u8>)
     ensures row { row.new ≡ record row.old {
       is_quiet = row.old.is_quiet && not row.new.differs;
@@ -49,8 +49,8 @@ fn compare(row: &mut Row, seen: Vec<u8>)
     row.seen = seen;
 }
 
-/// Takes the event that a line of the console asks for, by the rules. Returns its row and its moment. `Err` if memory
-/// runs out.
+/// Does the event that a console line asks for, by the rules. Returns the line's row and moment. `Err` if memory runs
+/// out.
 fn event_row(
     alloc: Global,
     manager: &mut Manager,
@@ -65,7 +65,7 @@ fn event_row(
     record_line(alloc, manager, text, before, layout)
 }
 
-/// Returns the kernel's answer, as the console writes its own. `Err` if memory runs out.
+/// Returns the kernel's answer in the form in which the console writes answers. `Err` if memory runs out.
 fn seen_answer(
     alloc: Global,
     manager: &Manager,
@@ -77,8 +77,8 @@ fn seen_answer(
     Vec::from_slice(alloc, text.as_bytes())
 }
 
-/// Takes an event as [`event_row`] does, and puts the kernel's answer beside that of the rules. `Err` if memory runs
-/// out.
+/// Does an event as [`event_row`] does, and adds the kernel's answer to the row, beside that of the rules. `Err` if
+/// memory runs out.
 fn answered_row(
     alloc: Global,
     manager: &mut Manager,
@@ -130,7 +130,7 @@ fn still_row(
     Ok((row, moment))
 }
 
-/// Returns the row and the moment of what the kernel showed. `Err` if memory runs out.
+/// Returns the row and the moment of a sight, which is what the kernel showed. `Err` if memory runs out.
 fn sight_row(
     alloc: Global,
     manager: &Manager,
@@ -155,7 +155,7 @@ fn sight_row(
     )
 }
 
-/// Plays an event, a call or a return of a trace. Returns its row and its moment. `Err` if memory runs out.
+/// Plays an event without an answer, a call or a return. Returns its row and its moment. `Err` if memory runs out.
 fn seen_row(
     alloc: Global,
     manager: &mut Manager,
@@ -216,8 +216,8 @@ fn add_line(
     Ok(())
 }
 
-/// Plays a trace with these items. Returns a row for each of its lines, and what each line did. `Err` if memory runs
-/// out.
+/// Plays a trace. `items` are the items of its lines. Returns a row for each line, and what each line did. `Err` if
+/// memory runs out.
 pub(crate) fn record_trace(
     alloc: Global,
     manager: &mut Manager,

@@ -1,4 +1,4 @@
-//! What the rules say where a kernel was looked at, and what it showed, in the same words.
+//! Says in the same words what the rules have where a kernel was looked at, and what the kernel showed.
 ghost use Rattle.std.specs.Prelude.{◌≡◌, string_bytes, Some, option_map, IfOk};
 ghost use Rattle.klp_types.specs.declared.version.Target.{Target as AnyTarget};
 ghost use Rattle.klp_model.specs.Entries.{is_site_loaded, is_hooked};
@@ -14,21 +14,21 @@ use klp_types::{PatchId, PatchState, Site, TaskId, Version};
 use klp_watch::{PatchFiles, Sight};
 use std::alloc::{AllocError, Global};
 
-/// Returns how a file of a patch reads.
+/// Returns what a file of a patch reads for this flag.
 fn flag_text(flag: bool) -> &'static str
     ensures { result.now ≡ flag_text flag }
 {
     if flag { "1" } else { "0" }
 }
 
-/// Returns the word for a site that is hooked, or isn't.
+/// Returns the word for a hooked site, or that for a site that isn't hooked.
 fn hook_text(is_hooked: bool) -> &'static str
     ensures { result.now ≡ hook_text is_hooked }
 {
     if is_hooked { "hooked" } else { "plain" }
 }
 
-/// Returns how both files of a patch read: `ENABLED TRANSITION`, or `gone` if they aren't there.
+/// Returns what the two files of a patch read, as `ENABLED TRANSITION`. Returns `gone` if the files don't exist.
 fn files_text(alloc: Global, files: Option<PatchFiles>) -> Result<String, AllocError>
     ensures { IfOk result (λ text. string_bytes text ≡ files_text files) }
 {
@@ -41,7 +41,7 @@ fn files_text(alloc: Global, files: Option<PatchFiles>) -> Result<String, AllocE
     Ok(text)
 }
 
-/// Returns the files of a patch by the rules. `None` if it isn't installed.
+/// Returns what the files of a patch read by the rules. Returns `None` if the patch isn't installed.
 fn files_of(manager: &Manager, patch: PatchId) -> Option<PatchFiles>
     ensures { result ≡ files_of manager.now.managed.state patch }
 {
@@ -51,7 +51,7 @@ fn files_of(manager: &Manager, patch: PatchId) -> Option<PatchFiles>
     })
 }
 
-/// Returns the state of a task as `/proc/<pid>/patch_state` reads, or `no task`.
+/// Returns a task's patch state, as `/proc/<pid>/patch_state` reads. Returns `no task` if there is none.
 fn state_text(alloc: Global, state: Option<i8>) -> Result<String, AllocError>
     ensures { IfOk result (λ text. string_bytes text ≡ state_text state) }
 {
@@ -61,7 +61,7 @@ fn state_text(alloc: Global, state: Option<i8>) -> Result<String, AllocError>
     }
 }
 
-/// Returns the number of a state that was seen.
+/// Returns the number of the patch state that was seen. Returns `None` if no task was.
 fn number_of(state: Option<PatchState>) -> Option<i8>
     ensures { result ≡ state }
 {
@@ -71,14 +71,14 @@ fn number_of(state: Option<PatchState>) -> Option<i8>
     }
 }
 
-/// Returns the name of a patch. Empty if the catalog has no such patch.
+/// Returns the name of a patch. The name is empty if the catalog has no such patch.
 fn patch_name(manager: &Manager, patch: PatchId) -> &str
     ensures { result.now ≡ patch_name manager.now.managed.catalog patch }
 {
     manager.catalog().patch_name(patch).unwrap_or("")
 }
 
-/// Returns a version that a task runs when it calls its site: `PATCH:INDEX`, or that it is the original one.
+/// Returns the words for a version that a task runs if it calls a site: `PATCH:INDEX`, or the words for the original.
 fn version_text(alloc: Global, manager: &Manager, version: Version) -> Result<String, AllocError>
     ensures { IfOk result (λ text. string_bytes text ≡ picked_text manager.now.managed.catalog (Some version)) }
 {
@@ -93,7 +93,8 @@ fn version_text(alloc: Global, manager: &Manager, version: Version) -> Result<St
     }
 }
 
-/// Returns a version as [`version_text`] does. `None` is the version of a task that can't call anything there.
+/// Returns the words for a version, as [`version_text`] does. `None` means that the task can't call anything at the
+/// site.
 fn picked_text(
     alloc: Global,
     manager: &Manager,
@@ -115,7 +116,8 @@ fn version_of(manager: &Manager, task: TaskId, site: Site) -> Option<Version>
     Some(manager.pick(task, site)?.version)
 }
 
-/// Returns whether a site is hooked by the rules, or that its object isn't loaded.
+/// Returns the word for whether a site is hooked by the rules. If the site's object isn't loaded, returns the words for
+/// that.
 fn text_text(manager: &Manager, site: Site) -> &'static str
     ensures { result.now ≡ text_text
         (is_site_loaded (setting_of manager.now.managed) manager.now.managed.state site)
@@ -127,7 +129,7 @@ fn text_text(manager: &Manager, site: Site) -> &'static str
     }
 }
 
-/// Returns what the rules say where this was seen.
+/// Returns what the rules have in place of this sight.
 pub(crate) fn rules_text(
     alloc: Global,
     manager: &Manager,
@@ -145,7 +147,7 @@ pub(crate) fn rules_text(
     }
 }
 
-/// Returns what was seen, in the words of [`rules_text`].
+/// Returns what this sight shows, in the words that [`rules_text`] uses.
 pub(crate) fn sight_text(
     alloc: Global,
     manager: &Manager,

@@ -1,12 +1,12 @@
-//! The times of a trace, as those of its lines.
+//! Takes the times of a trace as those of its lines.
 
 use klp_catalog_text::Lines;
 use klp_names::Names;
 use klp_trace::LineParts;
 use std::alloc::{AllocError, Global};
 
-/// Returns a text of names with the time of each line of the trace behind it. It has no contract: [`Names::read`] reads
-/// it.
+/// Returns a text of names, and behind it the times of the trace's lines. The function has no contract, since its
+/// result is read by [`Names::read`].
 fn with_lines(alloc: Global, names: &[u8], trace: &[u8]) -> Result<Vec<u8>, AllocError> {
     let mut text = Vec::from_slice(alloc, names)?;
     if !names.is_empty() && !names.ends_with(b"\n".as_slice()) {
@@ -26,8 +26,9 @@ fn with_lines(alloc: Global, names: &[u8], trace: &[u8]) -> Result<Vec<u8>, Allo
     Ok(text)
 }
 
-/// Returns the names of a text of names, with the trace's times as those of its lines. If the text has times itself,
-/// those stay. It has no contract. `None` if memory runs out, or if the text or a time is faulty.
+/// Reads a text of names, and adds the trace's times as those of its lines. If these can't follow the text, since it
+/// has times itself or one of them is faulty, reads the text alone. The function has no contract. Returns `None` if
+/// memory runs out, or if the text is faulty.
 pub fn timed_names(alloc: Global, names: &[u8], trace: &[u8]) -> Option<Names> {
     let text = with_lines(alloc, names, trace).ok()?;
     match Names::read(alloc, &text) {

@@ -1,19 +1,22 @@
-/// When a callback of a patch runs for an object (callbacks, Callbacks). The kinds make two pairs, in which the
-/// second has to clean up what the first set up: pre-patch and post-unpatch, post-patch and pre-unpatch.
+/// The kind of a callback: when it runs for an object of its patch (callbacks, Callbacks). There are two pairs:
+/// pre-patch with post-unpatch, and post-patch with pre-unpatch. The second of a pair has to clean up what the first
+/// set up.
 #[derive(Clone, Copy)]
 pub enum Which {
-    /// Pre-patch: before the object is patched. A status other than 0 refuses the patch. No other kind can refuse,
-    /// since only here nothing has been patched yet.
+    /// Pre-patch: runs before the object is patched. A status other than 0 refuses the patch. Only this kind can
+    /// refuse, since only it runs before anything is patched.
     Pre,
-    /// Post-patch: after the object was patched and all tasks run the patch, so that it may use the new functions.
+    /// Post-patch: runs once the object is patched and all tasks run the patch. So the callback may use the new
+    /// functions.
     Post,
-    /// Pre-unpatch: before the object is unpatched, while all tasks still run the patch. It undoes what `Post` did.
+    /// Pre-unpatch: runs before the object is unpatched, while all tasks still run the patch. It undoes what `Post`
+    /// did.
     PreUn,
-    /// Post-unpatch: after the object was unpatched and no task runs the patch any more. It undoes what `Pre` did.
+    /// Post-unpatch: runs once the object is unpatched and no task runs the patch any more. It undoes what `Pre` did.
     PostUn,
 }
 
-/// Returns pre-patch, the first kind. It fills the unused elements of an array of kinds; none of these is ever read.
+/// Returns pre-patch, the first kind. This value fills the unused elements of an array of kinds, which are never read.
 impl Default for Which {
     fn default() -> Self {
         Which::Pre

@@ -29,8 +29,8 @@ ghost use Rattle.klp_types.specs.Examples.{state_of, naming_kernel};
 
 use crate::task::PatchState;
 
-/// A cumulative patch puts a nop on a site for which it has no function but an older patch has one, because it
-/// takes the older one's function back. It puts no nop where no older patch has a function.
+/// A cumulative patch puts a nop on a site if an older patch has a function for it and the cumulative one has none. The
+/// nop takes the older patch's function back. Where no older patch has a function, there is no nop.
 pub fn a_nop_stands_over_an_older_patch()
     ensures nop { entries_from patched_kernel 1 (1 ∷ 0 ∷ [])
         ≡ record { patch = 1; func = None } ∷ record { patch = 0; func = Some 1 } ∷ [] }
@@ -40,8 +40,8 @@ pub fn a_nop_stands_over_an_older_patch()
     ensures newer { entries_from patched_kernel 1 (0 ∷ 1 ∷ []) ≡ record { patch = 0; func = Some 1 } ∷ [] }
 {}
 
-/// A task that isn't switched to the patch in transition passes over that patch's entry. Any other task doesn't,
-/// and runs the original if that entry is a nop.
+/// A task that isn't switched to the patch in transition skips that patch's entry. Any other task runs the entry. If
+/// the entry is a nop, it runs the original.
 pub fn tasks_pass_over_the_moving_entry()
     ensures older { newest_version 0
         (entries_for (Some (record { patch = 1; target = true })) (pos 0) (entries_from patched_kernel 0 (1 ∷ 0 ∷ [])))
@@ -77,9 +77,9 @@ pub fn versions_begin_where_their_code_does()
     ensures no_function { target_of patched_kernel (New 0 3) ≡ None }
 {}
 
-/// An ENDBR64 stays the first instruction of a function, hooked or not, and the entry site is after it. The call's
-/// displacement counts from there, and the original begins after the call. With any other beginning the entry site
-/// is the first five bytes.
+/// An ENDBR64 stays the first instruction of a function, hooked or not. The entry site begins after the ENDBR64: the
+/// call's displacement is counted accordingly, and the original begins after the call. With any other beginning, the
+/// entry site is the first five bytes.
 pub fn entry_sites_are_behind_endbr64()
     ensures resting { (resting tracked).body
         ≡ 0xf3 ∷ 0x0f ∷ 0x1e ∷ 0xfa ∷ 0x0f ∷ 0x1f ∷ 0x44 ∷ 0x00 ∷ 0x00 ∷ 0x90 ∷ 0xc3 ∷ [] }
@@ -109,8 +109,8 @@ pub fn transitions_end_with_the_callbacks_of_their_target()
         ≡ (0, PostUn) ∷ (1, PostUn) ∷ (2, PostUn) ∷ [] }
 {}
 
-/// Of each object the callback of the kind runs, if the object has one. An object without pre-patch refuses
-/// nothing. Only the status of pre-patch counts: any other than 0 refuses, whatever its sign.
+/// For each object, the callback of the kind runs, if the object has one. An object without pre-patch refuses nothing.
+/// Only the status of pre-patch counts: any status other than 0 refuses, whatever its sign.
 pub fn callbacks_run_where_they_are()
     ensures pre_unpatch { ran (calls_of 0 PreUn (objects_refusing_in 3)) ≡ (0, PreUn) ∷ (1, PreUn) ∷ (2, PreUn) ∷ [] }
     ensures of_the_patch { calls_of 6 Post ((2, object_calling Post (pos 0)) ∷ [])
@@ -159,8 +159,8 @@ pub fn patches_are_compatible_by_their_states()
     ensures each_state { is_compatible false (state_of 7 2 ∷ state_of 8 1 ∷ []) ((state_of 7 2 ∷ state_of 8 2 ∷ []) ∷ []) ≡ false }
 {}
 
-/// The previous state of a patch is in the newest patch that was installed before it and names the state: not in
-/// the patch itself, nor in an older or a later one.
+/// The previous state of a patch is that of the newest patch which was installed before it and names the state. It is
+/// never the patch's own state, nor that of a patch installed later.
 pub fn the_previous_state_is_of_the_newest_patch_before()
     ensures newest { previous_value four_installed 3 7 ≡ Some 50 }
     ensures behind { previous_value four_installed 5 7 ≡ Some 40 }
@@ -173,7 +173,7 @@ pub fn the_previous_state_is_of_the_newest_patch_before()
     ensures no_patch { state_value four_installed 2 7 ≡ None }
 {}
 
-/// A patch is added as the newest, with its states at 0, and takes its states along when it is removed. All other
+/// A patch is added as the newest, with its states at 0. When it is removed, its states are removed too. All other
 /// patches stay, also newer ones.
 pub fn states_come_at_0_and_go_with_their_patch()
     ensures last { (with_patch (world_of (patch_4 ∷ [])) 2 (7 ∷ 9 ∷ [])).installed
@@ -182,8 +182,8 @@ pub fn states_come_at_0_and_go_with_their_patch()
     ensures away { (without_patch four_installed 2).installed ≡ four_installed.installed }
 {}
 
-/// A script sets only states of its own patch, and only those that the patch names. Taking over a state that no
-/// older patch has changes nothing.
+/// A script sets only states of its own patch, and only those that the patch names. If no older patch has a state,
+/// `TakePrev` of that state changes nothing.
 pub fn scripts_set_states_of_their_patch()
     ensures set { (effect 3 four_installed (editing (TakePrev 7 ∷ SetData 7 1 ∷ []))).installed
         ≡ patch_4 ∷ patch_5 ∷ patch_6 ∷ patch_3 1 ∷ [] }
@@ -197,8 +197,8 @@ pub fn scripts_set_states_of_their_patch()
     ensures refused { (effect 3 four_installed (refusing (SetData 7 1 ∷ []))).installed ≡ four_installed.installed }
 {}
 
-/// An edit adds a shadow variable only if it doesn't exist, and removes the variables that it names. Removals don't
-/// reduce the number of variables for which there must be room, and a script that refuses makes no edit.
+/// An edit adds a shadow variable only if it doesn't exist, and removes only the variables that it names. Room must be
+/// there for all variables that edits add, even if other edits remove some. A script that refuses makes no edit.
 pub fn scripts_change_the_variables_that_they_name()
     ensures added { edited_at (key_of 1 2) None (Alloc (key_of 1 2) (5 ∷ [])) ≡ Some (5 ∷ []) }
     ensures kept { edited_at (key_of 1 2) (Some (4 ∷ [])) (Alloc (key_of 1 2) (5 ∷ [])) ≡ Some (4 ∷ []) }
@@ -214,7 +214,8 @@ pub fn scripts_change_the_variables_that_they_name()
     ensures refused { edits_made (refusing (Free (key_of 1 2) ∷ [])) ≡ [] }
 {}
 
-/// Keys are ordered by the parent object first, and then by the id. Only a value of eight bytes is a number.
+/// Keys are ordered by the parent object first, and then by the id. A value can be read as a number only if it has
+/// eight bytes.
 pub fn keys_go_by_their_parent_first()
     ensures parent { key_cmp (key_of 1 9) (key_of 2 3) ≡ Less }
     ensures id { key_cmp (key_of 2 9) (key_of 2 3) ≡ Greater }
@@ -222,8 +223,8 @@ pub fn keys_go_by_their_parent_first()
     ensures nine { number_of (1 ∷ 0 ∷ 0 ∷ 0 ∷ 0 ∷ 0 ∷ 0 ∷ 0 ∷ 0 ∷ []) ≡ None }
 {}
 
-/// Sites are counted over all objects in order, and each is in the object of its symbol. A function whose symbol
-/// isn't found is for no site.
+/// Sites are counted over all objects in order, and each belongs to the object of its symbol. A function whose symbol
+/// isn't found has no site.
 pub fn sites_lie_in_their_objects()
     ensures last_of_the_kernel { object_of kernel.objects 1 ≡ Some 0 }
     ensures first_of_the_module { object_of kernel.objects 2 ≡ Some 1 }
@@ -233,7 +234,7 @@ pub fn sites_lie_in_their_objects()
         ≡ Some 2 }
 {}
 
-/// The first case that holds gives the reason of a refusal. If no case holds, the result is the outcome.
+/// The first case that holds gives the reason for a refusal. If no case holds, the event's outcome is the result.
 pub fn the_first_reason_decides()
     ensures first { first_of {R = ℕ} ((false, 1) ∷ (true, 2) ∷ (true, 3) ∷ []) ≡ Some 2 }
     ensures none { first_of {R = ℕ} ((false, 1) ∷ []) ≡ None }
@@ -241,8 +242,8 @@ pub fn the_first_reason_decides()
     ensures done { unless {A = ℕ} {R = ℕ} None 2 ≡ Ok 2 }
 {}
 
-/// A script undoes another if each variable that one of them touches is afterwards what it was before both. So
-/// freeing a variable undoes adding it only if the variable didn't exist before.
+/// One script undoes another if both together leave each variable that either of them touches as it was. So freeing a
+/// variable undoes adding it only if the variable didn't exist before.
 pub fn a_script_undoes_another_where_all_is_as_before()
     ensures undone { Undoes 0 (editing (Free (key_of 1 2) ∷ [])) (editing (Alloc (key_of 1 2) [] ∷ [])) (world_of []) }
     ensures there_before { Undoes 0 (editing (Free (key_of 1 2) ∷ [])) (editing (Alloc (key_of 1 2) [] ∷ []))
@@ -252,14 +253,16 @@ pub fn a_script_undoes_another_where_all_is_as_before()
         (with_variable (world_of []) (key_of 1 2) (5 ∷ [])) → ⊥ }
 {}
 
-/// What is found has the property, and nothing else has it. If nothing is found, nothing has it.
+/// If a search finds a number, that number has the property, and no other number has it. If it finds nothing, no number
+/// has the property.
 pub fn what_is_found_is_all_there_is()
     ensures has { (has : ℕ → Bool) (x : ℕ) → Finds (λ n. has n ≡ true) (Some x) → has x ≡ true }
     ensures alone { (has : ℕ → Bool) (x y : ℕ) → Finds (λ n. has n ≡ true) (Some x) → has y ≡ true → y ≡ x }
     ensures none { (has : ℕ → Bool) (y : ℕ) → Finds (λ n. has n ≡ true) None → has y ≡ true → ⊥ }
 {}
 
-/// What a patch of the catalog names and replaces. A patch that doesn't exist names nothing and replaces nothing.
+/// Which system states a patch of the catalog names, and whether it replaces older patches. A patch that doesn't exist
+/// names nothing and replaces nothing.
 pub fn patches_are_what_the_catalog_tells()
     ensures states { named_states naming_kernel 1 ≡ state_of 7 1 ∷ state_of 9 2 ∷ [] }
     ensures ids { state_ids naming_kernel 1 ≡ 7 ∷ 9 ∷ [] }
@@ -269,7 +272,7 @@ pub fn patches_are_what_the_catalog_tells()
     ensures no_patch { replaces naming_kernel 2 ≡ false }
 {}
 
-/// A patch state is -1, 0 or 1. A number without a task is inside of nothing.
+/// A patch state is -1, 0 or 1. A task number that no task has is inside of no function.
 pub fn tasks_have_one_of_three_states()
     ensures at_rest { IsPatchState (negsuc 0) }
     ensures unpatched { IsPatchState (pos 0) }
@@ -295,7 +298,7 @@ pub fn states_are_numbered_as_the_kernel_does() -> (PatchState, PatchState, Patc
     )
 }
 
-/// Only the records of the current event take up its room, not those of earlier events.
+/// Only the records of the current event use up an event's room. The records of earlier events don't.
 pub fn records_of_one_event_take_room()
     ensures { spare_of (record { logged = NothingMoving ∷ NothingMoving ∷ []; room = 5; older = NothingMoving ∷ [] }) ≡ 3 }
 {}

@@ -1,5 +1,5 @@
 //! What is proved of the definitions themselves. Each law is the contract of a function that does nothing. The laws
-//! show that the definitions mean what they should, and a crate above may rely on them.
+//! show that the definitions mean what they should. Crates above may rely on them.
 ghost use Rattle.std.specs.Prelude.{◌≡◌, ℕ, ◌+◌, ◌-◌, ◌^◌, ◌<◌, ◌≤◌, Bool, ◌==◌, ◌&&◌, ◌||◌, true, false, not, List};
 ghost use Rattle.std.specs.Prelude.{[], ◌∷◌, ◌++◌, length, map, take, drop, get_or, slice_get, Option, Some, is_some};
 ghost use Rattle.std.specs.Prelude.{option_map, IfSome};
@@ -30,8 +30,8 @@ use crate::limits::{
     RECORDS_AFTER_SITES, RECORDS_BEFORE_SITES,
 };
 
-/// In the text of an object each function reads as it was built, except for its entry site. So hooks never change
-/// what is after it.
+/// In the text of an object, each function reads as it was built, except for its entry site. So hooks never change the
+/// bytes after the entry site.
 pub fn text_is_as_built_but_for_entry_sites()
     ensures { (image : Image) (hooked : ℕ → Bool) (object : ℕ) (number : ℕ)
         → symbol_in (text_where image hooked object) number
@@ -47,8 +47,8 @@ pub fn text_has_a_nop_where_not_hooked()
         → symbol_in (text_where image hooked object) number ≡ option_map resting (given_symbol image object number) }
 {}
 
-/// The keys of shadow variables are in a total order, and keys that compare as equal are equal. Finite maps need
-/// this, since their value mustn't depend on the order of insertions.
+/// The keys of shadow variables are in a total order, and keys that compare as equal are equal. Finite maps need such
+/// an order, since a map's value mustn't depend on the order of insertions.
 pub fn keys_are_in_order()
     ensures total { IsTotalOrder key_cmp }
     ensures antisymmetric { finite.IsAntisymmetric key_cmp }
@@ -56,14 +56,14 @@ pub fn keys_are_in_order()
     ensures one { (own key : ShadowKey) → is_key own key ≡ true → own ≡ key }
 {}
 
-/// Removing shadow variables never leaves more than there were. So a removal never lacks room.
+/// Removing shadow variables never increases their number. So a removal never lacks room.
 pub fn no_more_variables_are_left()
     ensures { (shadow : Shadow) (keep : ShadowKey → Bool)
         → finite.len (finite.retain_keys shadow keep) ≤ finite.len shadow }
 {}
 
-/// An edit changes each shadow variable independently of the others, and so does a list of edits. So what a script
-/// does to one variable can be computed without the others.
+/// An edit changes each shadow variable independently of the others, and so does a list of edits. So what a script does
+/// to one variable can be computed without the other variables.
 pub fn edits_go_key_by_key()
     ensures each { (patch : ℕ) (world : World) (edit : Edit) (key : ShadowKey)
         → variable (edited patch world edit) key ≡ edited_at key (variable world key) edit }
@@ -71,8 +71,8 @@ pub fn edits_go_key_by_key()
         → variable (edited_by patch world edits) key ≡ made_of key (variable world key) edits }
 {}
 
-/// A shadow variable that no edit touches doesn't change, and so for one that a script doesn't touch. So scripts
-/// show which variables a patch's callbacks can have changed.
+/// An edit doesn't change a shadow variable that it doesn't touch, and neither does a script. So scripts show which
+/// variables a patch's callbacks can have changed.
 pub fn untouched_variables_stay()
     ensures edits { (edits : List Edit) (key : ShadowKey) (was : Option ShadowValue)
         → list_any (edit_touches key) edits ≡ false → made_of key was edits ≡ was }
@@ -80,8 +80,8 @@ pub fn untouched_variables_stay()
         → variable (effect patch world script) key ≡ variable world key }
 {}
 
-/// Two scripts that touch no common shadow variable leave the same shadow variables in either order. This doesn't
-/// hold for the values of system states: of two scripts of one patch the later decides.
+/// Two scripts that touch no common shadow variable leave the same shadow variables in either order. The values of
+/// system states can depend on the order: if two scripts of one patch set the same state, the later decides.
 pub fn scripts_apart_commute()
     ensures { (p q : ℕ) (a b : Script) (world : World) → ((key : ShadowKey) → (touches a key && touches b key) ≡ false)
         → (effect q (effect p world a) b).shadow ≡ (effect p (effect q world b) a).shadow }
@@ -101,8 +101,8 @@ pub fn installed_patches_stay()
         ≡ map (λ (i : Installed). i.patch) world.installed }
 {}
 
-/// If there is room for the shadow variables that some edits add, then after the first edit there is still room for
-/// what the others add. So room is checked once, before the first edit.
+/// If there is room for the shadow variables that some edits add, there is still room after the first of these edits
+/// for the variables that the others add. So one check of the room before the first edit is enough.
 pub fn edits_keep_to_their_room()
     ensures { (patch : ℕ) (world : World) (edit : Edit) (edits : List Edit)
         → finite.len (edited patch world edit).shadow + alloc_count edits ≤ finite.len world.shadow + alloc_count (edit
@@ -116,14 +116,15 @@ pub fn variables_are_few()
         → finite.len (effect patch world script).shadow ≤ finite.len world.shadow + alloc_count script.edits }
 {}
 
-/// At most every edit adds a shadow variable. A script makes only its own edits, and none if its status isn't 0.
+/// At most as many shadow variables are added as there are edits. A script makes only its own edits, and none if its
+/// status isn't 0.
 pub fn allocs_are_edits()
     ensures each { (edits : List Edit) → alloc_count edits ≤ length edits }
     ensures made { (script : Script) → alloc_count (edits_made script) ≤ alloc_count script.edits }
 {}
 
-/// Which shadow variables callbacks leave depends only on the variables before, and on nothing else of the world.
-/// Taking over a value changes a system state, and no shadow variable.
+/// Which shadow variables callbacks leave depends only on the shadow variables before, and on nothing else of the
+/// world. `TakePrev` changes a system state, and no shadow variable.
 pub fn variables_go_by_variables_alone()
     ensures taken { (world : World) (patch id : ℕ) (value : Option ℕ)
         → (value_taken world patch id value).shadow ≡ world.shadow }
@@ -131,8 +132,8 @@ pub fn variables_go_by_variables_alone()
         → (after_calls a calls).shadow ≡ (after_calls b calls).shadow }
 {}
 
-/// The sites of an image are the symbols of its objects, one object after another. So the sites of an object are
-/// known from its first one.
+/// The sites of an image are the symbols of its objects, one object after another. So an object's first site and its
+/// number of symbols determine its sites.
 pub fn sites_go_object_by_object()
     ensures both { (first others : List Object) → symbols_of (first ++ others) ≡ symbols_of first ++ symbols_of others }
     ensures one_more { (objects : List Object) (index : ℕ) (at : Object) → index < length objects
@@ -150,7 +151,7 @@ pub fn sites_of_an_object_stand_together()
         → first_site objects index + length object.symbols ≤ length (symbols_of objects) }
 {}
 
-/// Reading the eight bytes of a number returns the number. So a variable shows the number that it was given.
+/// Reading the eight bytes of a number returns the number. So a variable shows the number to which it was set.
 pub fn numbers_are_read_as_written()
     ensures { (number : ℕ) → number < 2 ^ 64 → number_of (to_le_bytes w64 number) ≡ Some number }
 {}
@@ -171,8 +172,8 @@ pub fn the_newest_entry_is_on_top()
         ++ entries_from setting site older }
 {}
 
-/// Each entry is of one of the patches. The entry's patch has a function for the site or is cumulative, and an
-/// entry that isn't a nop names a function that its patch has.
+/// Each entry belongs to one of the patches. This patch has a function for the site or is cumulative. If the entry
+/// isn't a nop, it names a function that the patch has.
 pub fn entries_are_of_their_patches()
     ensures installed { (setting : Setting) (site patch : ℕ) (patches : List ℕ)
         → list_any (λ (e : Entry). e.patch == patch) (entries_from setting site patches) ≡ true

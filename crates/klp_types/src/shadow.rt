@@ -15,8 +15,8 @@ pub struct ShadowKey {
     pub id: u64,
 }
 
-/// The value of a shadow variable: 0 to 64 bytes. A kernel's has any data, and scripts only copy it (shadow-vars,
-/// Brief summary). Most values are the eight bytes of a number, the lowest first, as on x86-64.
+/// The value of a shadow variable: 0 to 64 bytes. In a kernel the value may be any data. Scripts only copy it
+/// (shadow-vars, Brief summary). Most values are the eight bytes of a number, lowest byte first, as on x86-64.
 #[derive(Clone, Copy, Debug, PartialEq, Eq)]
 pub struct ShadowValue {
     bytes: [u8; MAX_VALUE_BYTES],
@@ -40,8 +40,8 @@ impl Model for ShadowValue {
 }
 
 impl ShadowValue {
-    /// Returns a value of these bytes. `None` if there are more than [`MAX_VALUE_BYTES`]. The unused bytes are 0,
-    /// so that equal values are equal in every byte.
+    /// Returns a value of these bytes. Returns `None` if there are more than [`MAX_VALUE_BYTES`]. The unused bytes are
+    /// 0, so that equal values are equal in every byte.
     pub fn new(bytes: &[u8]) -> Option<Self>
         ensures { result ≡ (if nat_le (length bytes.now) MAX_VALUE_BYTES then Some bytes.now else None) }
     {
@@ -56,7 +56,7 @@ impl ShadowValue {
         })
     }
 
-    /// Returns the value of a number: its eight bytes, the lowest first.
+    /// Returns a number as a value: its eight bytes, the lowest first.
     pub fn of(number: u64) -> Self
         ensures { result ≡ to_le_bytes w64 number }
     {
@@ -84,14 +84,14 @@ impl ShadowValue {
         usize::from(self.count)
     }
 
-    /// Returns the bytes with zeros after them, up to the length of the longest value.
+    /// Returns the bytes of the value, followed by zeros up to the length of the longest value.
     pub fn padded(&self) -> &[u8]
         ensures { result.now ≡ padded MAX_VALUE_BYTES 0 self.now }
     {
         &self.bytes
     }
 
-    /// Returns the value of the first `count` bytes. `None` unless all other bytes are zeros.
+    /// Returns a value of the first `count` bytes. Returns `None` if any other byte isn't 0.
     pub fn unpadded(bytes: [u8; MAX_VALUE_BYTES], count: u8) -> Option<Self>
         requires { count ≤ MAX_VALUE_BYTES }
         ensures { Finds (λ value. (length value ≡ count) × (padded MAX_VALUE_BYTES 0 value ≡ bytes)) result }
@@ -103,7 +103,8 @@ impl ShadowValue {
         }
     }
 
-    /// Returns the number whose eight bytes these are, the lowest first. `None` for a value of another length.
+    /// Returns the number whose eight bytes these are, the lowest first. Returns `None` if the value has another
+    /// length.
     pub fn number(&self) -> Option<u64>
         ensures { result ≡ number_of self.now }
     {

@@ -6,7 +6,7 @@ use crate::number::Site;
 use crate::version::Version;
 use std::marker::Model;
 
-/// A task, by its number. The number is free again when the task ends.
+/// A task, by its number. When the task ends, another task can get the number.
 #[derive(Clone, Copy, PartialEq, Eq)]
 pub struct TaskId(pub u8);
 
@@ -20,8 +20,8 @@ impl Model for TaskId {
     ghost inverse = { λ n. record { 0 = n } };
 }
 
-/// The patch state of a task, as `/proc/<pid>/patch_state` shows it: -1, 0 or 1. Its type excludes any other
-/// number, so the definitions of states needn't.
+/// The patch state of a task, as `/proc/<pid>/patch_state` shows it: -1, 0 or 1. The type excludes any other number, so
+/// the definitions of states don't have to.
 #[derive(Clone, Copy, PartialEq, Eq)]
 pub struct PatchState(i8);
 
@@ -57,11 +57,11 @@ impl PatchState {
     }
 }
 
-/// Where a task is. There are three modes because a transition switches each in another way: a sleeper by its
-/// frames, a task in the kernel when it leaves, and one in user space when it has entered and leaves again.
+/// Where a task is. There are three modes because a transition switches each of them at another time: a sleeper while
+/// it sleeps, by its frames; a task in the kernel when it leaves; a task in user space when it next enters and leaves.
 #[derive(Clone, Copy, PartialEq, Eq)]
 pub enum Mode {
-    /// In user space: it runs no function of the kernel. It is switched when it next leaves the kernel.
+    /// In user space: the task runs no function of the kernel. It is switched when it next leaves the kernel.
     User,
     /// Running in the kernel. Its frames aren't known, so no poll switches it.
     Kernel,
@@ -69,8 +69,8 @@ pub enum Mode {
     Asleep,
 }
 
-/// The functions that a sleeping task is inside of, innermost last. The type has room for 32, so an allowed state
-/// needn't require that (docs/DECISIONS.md, "Frames in allowed states").
+/// The functions that a sleeping task is inside of, innermost last. The type has room for at most 32, so the definition
+/// of an allowed state doesn't need that limit (docs/DECISIONS.md, "Frames in allowed states").
 #[derive(Clone, Copy, Debug, PartialEq, Eq)]
 pub struct Frames {
     versions: [Version; MAX_FRAMES],
@@ -98,7 +98,8 @@ impl Model for Frames {
 }
 
 impl Frames {
-    /// Returns no frames. The unused elements are the original of site 0, so that equal frames are equal values.
+    /// Returns an empty list of frames. The unused elements are the original of site 0, so that equal frames are equal
+    /// values.
     pub fn new() -> Self
         ensures { result ≡ [] }
     {
@@ -132,8 +133,8 @@ impl Frames {
         &versions[..self.count as usize]
     }
 
-    /// Appends a frame as the innermost, and returns true. If there is no room, returns false and changes nothing;
-    /// the caller decides which fault that is.
+    /// Appends a frame as the innermost, and returns true. If there is no room, returns false and changes nothing. The
+    /// caller decides which fault to report then.
     pub fn push(&mut self, version: Version) -> bool
         ensures full { result ≡ nat_lt (length self.old) MAX_FRAMES }
         ensures pushed { result ≡ true → self.new ≡ self.old ++ version ∷ [] }
@@ -148,7 +149,7 @@ impl Frames {
         }
     }
 
-    /// Removes the innermost frame, if there is one: the task returned from it.
+    /// Removes the innermost frame, if there is one: the task has returned from that function.
     pub fn pop(&mut self)
         ensures { self.new ≡ take (length self.old - 1) self.old }
     {
@@ -163,9 +164,9 @@ impl Frames {
 /// undo record is a copy of it.
 #[derive(Clone, Copy)]
 pub struct Task {
-    /// -1 if there is no transition, else 1 if the task runs the patch in transition, and 0 if it doesn't.
+    /// -1 if there is no transition. Otherwise 1 if the task runs the patch in transition, and 0 if it doesn't.
     pub state: PatchState,
     pub mode: Mode,
-    /// The frames of a sleeping task. A task that doesn't sleep has none, since they change all the time.
+    /// The frames of a sleeping task. A task that doesn't sleep has none here, since its frames change all the time.
     pub frames: Frames,
 }

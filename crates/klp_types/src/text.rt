@@ -1,8 +1,8 @@
 use std::marker::Model;
 
-/// A symbol of an object: its name, the address of its first byte, and the bytes of its body. It has plain fields,
-/// and contracts see a record of lists. So taking it apart gives back what it was made of (docs/DECISIONS.md,
-/// "Texts as records of lists").
+/// A symbol of an object: its name, the address of its first byte, and the bytes of its body. The fields are plain, and
+/// contracts see a record of lists. So whoever takes a symbol apart gets what it was made of (docs/DECISIONS.md, "Texts
+/// as records of lists").
 #[derive(Drop)]
 pub struct SymbolText {
     pub name: String,
@@ -19,7 +19,7 @@ impl Model for SymbolText {
     ghost view = { λ s. record { name = string_bytes s.name; address = s.address; body = s.body.items } };
 }
 
-/// An object of the image: its name, and its symbols in order. Its sites are in the same order.
+/// An object of the image: its name, and its symbols in order. The object's sites have the same order as its symbols.
 #[derive(Drop)]
 pub struct ObjectText {
     pub name: String,

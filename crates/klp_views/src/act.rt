@@ -1,4 +1,4 @@
-//! What a line did, as far as views don't show it.
+//! What a line did that views don't show.
 ghost use Rattle.std.specs.Prelude.{◌≡◌};
 ghost use Rattle.klp_views.specs.Views.{fact_of, act_of};
 
@@ -7,7 +7,7 @@ use klp_model::{Event, Reply};
 use klp_timeline::Fact;
 use klp_types::Transition;
 
-/// Returns what an accepted event did, if views don't show it. `moving` is the transition before the event.
+/// Returns what an accepted event did that views don't show. `moving` is the transition before the event.
 fn fact_of(moving: &Option<Transition>, event: &Event, reply: &Reply) -> Option<Fact>
     ensures { result ≡ fact_of moving.now event.now reply.now }
 {
@@ -25,8 +25,8 @@ fn fact_of(moving: &Option<Transition>, event: &Event, reply: &Reply) -> Option<
     }
 }
 
-/// Returns what a line with this outcome did, if views don't show it. `moving` is the transition before the line. The
-/// journal had `from` events before the line, and has `to` now.
+/// Returns what a line with this outcome did that views don't show. `moving` is the transition before the line. The
+/// journal had `from` events before the line, and has `to` events after it.
 pub fn act_of(moving: &Option<Transition>, outcome: &Outcome, from: u32, to: u32) -> Option<Fact>
     ensures { result ≡ act_of moving.now outcome.now from to }
 {

@@ -1,9 +1,10 @@
 //! What a page reads from a manager: a view after each line, and what the line did (`specs/Views`).
 //!
-//! A view shows the transition, the installed patches, and the stay of each task: why it matters what it sleeps inside
-//! of. Either the task blocks the transition, or its code isn't what it would call now. [`view_of`] reads a manager,
-//! and [`act_of`] the outcome of a line. `klp_timeline` makes sentences of a run of views. Its laws need a quiet view
-//! at the beginning of the run, and a booted manager shows one (`laws`).
+//! A view shows the transition, the installed patches, and the stay of each task. A stay says why it matters where a
+//! task sleeps: the task blocks the transition, or it sleeps inside of a version that it wouldn't run if it called the
+//! function now. [`view_of`] reads a manager, and [`act_of`] the outcome of a line. `klp_timeline` makes sentences of a
+//! list of views. Its laws need a quiet view at the beginning of the list, and a manager that was just booted shows one
+//! (`laws`).
 #![tactic(auto)]
 
 mod act;

@@ -28,7 +28,7 @@ fn is_same(own: &Version, other: &Version) -> bool
     }
 }
 
-/// Returns the site at which a version is called. None for a new function that has no site.
+/// Returns the site at which a version is called. Returns `None` for a new function that has no site.
 fn site_of(manager: &Manager, version: &Version) -> Option<Site>
     ensures { result ≡ site_of (setting_of manager.now.managed) version.now }
 {
@@ -38,7 +38,7 @@ fn site_of(manager: &Manager, version: &Version) -> Option<Site>
     }
 }
 
-/// Whether the version is the one that was picked.
+/// Whether the version is that of the target.
 fn is_picked(version: &Version, target: &Option<Target>) -> bool
     ensures { result ≡ is_picked version.now target.now }
 {
@@ -48,7 +48,7 @@ fn is_picked(version: &Version, target: &Option<Target>) -> bool
     }
 }
 
-/// Whether this task would run the version if it called the version's site now.
+/// Whether this task would run the version if it called the version's function now.
 fn is_current(manager: &Manager, task: TaskId, version: &Version) -> bool
     ensures { result ≡ is_current (setting_of manager.now.managed) manager.now.managed.state
         (task_at manager.now.managed.state.tasks task) version.now }
@@ -59,7 +59,8 @@ fn is_current(manager: &Manager, task: TaskId, version: &Version) -> bool
     }
 }
 
-/// Returns the innermost of these versions that this task wouldn't run now. The versions are outermost first.
+/// Returns the innermost of these versions that this task wouldn't run if it called the function now. The versions are
+/// outermost first.
 fn outdated_among(manager: &Manager, task: TaskId, versions: &[Version]) -> Option<Version>
     ensures { result ≡ innermost_outside (is_current (setting_of manager.now.managed) manager.now.managed.state
         (task_at manager.now.managed.state.tasks task)) versions.now }
@@ -73,7 +74,7 @@ fn outdated_among(manager: &Manager, task: TaskId, versions: &[Version]) -> Opti
     found
 }
 
-/// Returns the innermost version that a task sleeps inside of and wouldn't run now.
+/// Returns the innermost version that a task sleeps inside of but wouldn't run if it called the function now.
 fn outdated(manager: &Manager, task: TaskId) -> Option<Version>
     ensures { result ≡ outdated_in (setting_of manager.now.managed) manager.now.managed.state
         (task_at manager.now.managed.state.tasks task) }
@@ -81,8 +82,8 @@ fn outdated(manager: &Manager, task: TaskId) -> Option<Version>
     outdated_among(manager, task, manager.frames(task).as_slice())
 }
 
-/// Returns the stay of a task: that it blocks the transition, or else that it sleeps inside of a version that it
-/// wouldn't run now. None if neither is so.
+/// Returns the stay of a task: it blocks the transition, or else it sleeps inside of a version that it wouldn't run
+/// now. Returns `None` if neither is so.
 fn stay_of(
     manager: &Manager,
     task: TaskId,
@@ -101,7 +102,7 @@ fn stay_of(
     }
 }
 
-/// Returns the stay of a task, by the lags of all tasks.
+/// Returns the stay of the task with this number. `lags` has the lag of each task.
 fn stay_in(
     manager: &Manager,
     number: usize,
@@ -119,7 +120,7 @@ fn stay_in(
     stay_of(manager, TaskId(number as u8), moving, &lags[number])
 }
 
-/// Returns for each task number the stay of its task.
+/// Returns the stay of each task, by task number.
 fn stays(manager: &Manager, lags: &[Option<Lag>; MAX_TASKS]) -> [Option<Stay>; MAX_TASKS]
     requires { lags.now ≡ holders (setting_of manager.now.managed) manager.now.managed.state }
     ensures { result ≡ map (stay_in (setting_of manager.now.managed) manager.now.managed.state)
@@ -134,7 +135,7 @@ fn stays(manager: &Manager, lags: &[Option<Lag>; MAX_TASKS]) -> [Option<Stay>; M
     stays
 }
 
-/// Returns the mode of a task that lags without blocking the transition.
+/// Returns the mode of a task that isn't at the target but doesn't block the transition.
 fn wait_of(lag: &Option<Lag>) -> Option<Mode>
     ensures { result ≡ wait_by lag.now }
 {
@@ -144,7 +145,7 @@ fn wait_of(lag: &Option<Lag>) -> Option<Mode>
     }
 }
 
-/// Returns for each task number the mode of its task, if the task lags without blocking the transition.
+/// Returns, by task number, the mode of each task that isn't at the target but doesn't block the transition.
 fn waits(lags: &[Option<Lag>; MAX_TASKS]) -> [Option<Mode>; MAX_TASKS]
     ensures { result ≡ map wait_by lags.now }
 {
@@ -155,8 +156,8 @@ fn waits(lags: &[Option<Lag>; MAX_TASKS]) -> [Option<Mode>; MAX_TASKS]
     waits
 }
 
-/// Returns what a manager shows. The cost is that of a poll that switches nobody, and of a pick for each frame of each
-/// sleeper.
+/// Returns what a manager shows. The cost is that of a poll that switches nobody, and of one pick for each frame of
+/// each sleeper.
 pub fn view_of(manager: &Manager) -> View
     ensures { IsView (setting_of manager.now.managed) manager.now.managed.state result }
 {

@@ -4,16 +4,16 @@ use thiserror::Error;
 /// The numbers are this project's own, and won't change.
 #[derive(Clone, Copy, Debug, PartialEq, Eq, Error)]
 pub enum Cause {
-    /// A task was there at the start, so what it is inside of isn't known.
+    /// A task existed at the start, so it isn't known what the task is inside of.
     #[error("NotOpening")]
     NotOpening = 1,
-    /// A task fell asleep with other frames than those that it is inside of.
+    /// A task fell asleep, but the frames of the event aren't those that the task is inside of.
     #[error("Frames")]
     Frames = 2,
     /// A task left the kernel or ended while it was inside of a function.
     #[error("FramesLeft")]
     FramesLeft = 3,
-    /// A module went while a task was inside of one of its functions.
+    /// A module was unloaded while a task was inside of one of its functions.
     #[error("ModuleInUse")]
     ModuleInUse = 4,
     /// A transition was forced.
@@ -25,7 +25,8 @@ pub enum Cause {
     /// A return by a task that is inside of nothing, or isn't in the kernel.
     #[error("NoReturn")]
     NoReturn = 7,
-    /// A call by a task that is already inside of [`klp_types::MAX_FRAMES`] functions, the most that are kept.
+    /// A call by a task that is already inside of [`klp_types::MAX_FRAMES`] functions, the most that the watcher can
+    /// store.
     #[error("Deep")]
     Deep = 8,
 }
@@ -34,7 +35,7 @@ pub enum Cause {
 #[derive(Clone, Copy, Debug, PartialEq, Eq, Error)]
 #[error("item {item}: {cause}")]
 pub struct NotHonest {
-    /// Counted from 1; 0 if nothing could begin.
+    /// The number of the item, counted from 1. 0 if the run couldn't begin.
     pub item: usize,
     pub cause: Cause,
 }

@@ -17,12 +17,14 @@ use crate::observed::Observed;
 use crate::watching::{functions_are_in_objects, has_task, watch_item};
 use klp_core::Manager;
 
-/// Does the items that happen as [`watch`](crate::watch) does, over a manager without tasks. Compares what the kernel
-/// answered and showed between them with what the rules answer and the state shows there. Returns the first item at
-/// which the two differ, or that breaks a premise. If an event does both, returns the premise.
+/// Does the events, calls and returns of the items, as [`watch`](crate::watch) does, on a manager without tasks.
+/// Compares the kernel's answers with those of the rules, and what the kernel showed with the manager's state at that
+/// point. Returns the first item at which they differ, or which breaks a premise. If an event does both, returns the
+/// premise.
 ///
-/// The returned item leaves nothing: an event is taken back by its own records, but its callbacks have run. All items
-/// before it are done, and agree with the rules. Allocates nothing. An item costs as much as its event or its look-up.
+/// The returned item changes nothing: an event is taken back by its own records, though its callbacks have run. All
+/// items before it are done, and agree with the rules. Allocates nothing. An item costs as much as its event or its
+/// look-up.
 pub fn compare(manager: &mut Manager, items: &[Observed]) -> Result<(), Differs>
     ensures compared { IfOk result (λ _. AreCompared manager.old manager.new items.now) }
     // what is compared is consistent at every moment
@@ -48,7 +50,7 @@ pub fn compare(manager: &mut Manager, items: &[Observed]) -> Result<(), Differs>
     compare_all(manager, items)
 }
 
-/// Compares the items in order. No task is there at first.
+/// Compares the items in order. There is no task at first.
 fn compare_all(manager: &mut Manager, items: &[Observed]) -> Result<(), Differs>
     ensures compared { IfOk result
         (λ _. HasNoTask manager.old.managed.state → AreCompared manager.old manager.new items.now) }
@@ -73,7 +75,7 @@ fn compare_all(manager: &mut Manager, items: &[Observed]) -> Result<(), Differs>
     Ok(())
 }
 
-/// Compares one item. `inside` keeps what the tasks are inside of.
+/// Compares one item. `inside` has what the tasks are inside of.
 pub(crate) fn compare_item(
     manager: &mut Manager,
     inside: &mut Inside,

@@ -15,8 +15,9 @@ use klp_core::Manager;
 use klp_model::{Event, Refusal, Reply};
 use klp_types::{Frames, ShadowValue};
 
-/// Takes an event, or refuses it, which is no fault if the kernel refused it for the same reason. Takes an event back
-/// by its own records if it breaks a premise, or was answered otherwise.
+/// Passes an event to the manager. If the manager refuses it, this is no fault if the kernel refused it for the same
+/// reason. If the manager accepts it, but it breaks a premise or was answered otherwise, takes it back by its own
+/// records.
 pub(crate) fn take_answered(
     manager: &mut Manager,
     inside: &mut Inside,
@@ -49,7 +50,8 @@ pub(crate) fn take_answered(
     Ok(())
 }
 
-/// How an accepted event differs from the rules, if it does: by the premise that it breaks, and else by its answer.
+/// Returns how an accepted event differs from the rules, or `None` if it doesn't. If it breaks a premise, returns the
+/// premise. Otherwise returns `Answer` if the kernel's answer isn't that of the rules.
 fn difference(manager: &Manager, inside: &Inside, event: &Event, is_so: bool) -> Option<Difference>
     ensures found { IfSome result (λ difference. (stacks : Stacks) → AreInside inside.now.rows stacks
         → IsFound (setting_of manager.now.managed) stacks event.now is_so difference) }

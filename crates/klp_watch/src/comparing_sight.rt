@@ -37,7 +37,7 @@ pub(crate) fn other_than(sight: &Sight) -> Difference
     }
 }
 
-/// Returns whether a task is in a patch state; with `None`, whether it is no task.
+/// Whether a task has this patch state. If `state` is `None`, whether there is no such task.
 fn is_in_state(manager: &Manager, task: TaskId, state: Option<PatchState>) -> bool
     ensures { IsTrue result
         ↔ (option_map (λ (t : AnyTask). t.state) (task_at manager.now.managed.state.tasks task) ≡ state) }
@@ -49,7 +49,7 @@ fn is_in_state(manager: &Manager, task: TaskId, state: Option<PatchState>) -> bo
     }
 }
 
-/// Returns whether the files of a patch read so; with `None`, whether it has no files.
+/// Whether the files of a patch read as in `files`. If `files` is `None`, whether the patch has no files.
 fn is_reading(manager: &Manager, patch: PatchId, files: Option<PatchFiles>) -> bool
     ensures { IsTrue result ↔ (files_of manager.now.managed.state patch ≡ files) }
 {
@@ -62,7 +62,7 @@ fn is_reading(manager: &Manager, patch: PatchId, files: Option<PatchFiles>) -> b
     }
 }
 
-/// Returns whether a call of a task at a site would run this version.
+/// Whether a call of a task at a site would run this version.
 fn is_running(manager: &Manager, task: TaskId, site: Site, version: Version) -> bool
     ensures { IsTrue result
         ↔ (option_map (λ (t : AnyTarget). t.version)
@@ -74,7 +74,7 @@ fn is_running(manager: &Manager, task: TaskId, site: Site, version: Version) -> 
     }
 }
 
-/// Returns whether a site is loaded, and hooked or not.
+/// Whether a site's object is loaded, and the site is hooked or not as `hooked` says.
 fn is_text(manager: &Manager, site: Site, hooked: bool) -> bool
     ensures { IsTrue result
         ↔ ((is_site_loaded (setting_of manager.now.managed) manager.now.managed.state site ≡ true)

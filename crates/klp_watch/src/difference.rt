@@ -1,28 +1,29 @@
 use crate::cause::Cause;
 use thiserror::Error;
 
-/// How a kernel differs from the rules at an item. Each kind of item differs in its own way; if several apply, the
-/// first is reported. The numbers go on from those of [`Cause`]: an answer that differs has 9, and what was seen 10 to
-/// 13, in this order. They are this project's own, and won't change.
+/// How a kernel differs from the rules at an item. Each kind of item can differ in its own way. If several of these
+/// apply, the first is reported. The numbers continue those of [`Cause`]: 9 is a different answer, and 10 to 13 are
+/// different sights, in this order. The numbers are this project's own, and won't change.
 #[derive(Clone, Copy, Debug, PartialEq, Eq, Error)]
 pub enum Difference {
-    /// The item breaks a premise of the consistency model, so the rules aren't asked about it.
+    /// The item breaks a premise of the consistency model, so it isn't compared with the rules.
     #[error("{0}")]
     Premise(Cause),
-    /// The kernel answered an event otherwise than the rules: with another reply, another refusal, or one in place of
-    /// the other.
+    /// The kernel's answer to an event isn't that of the rules: it is another reply, another refusal, or a reply in
+    /// place of a refusal or the reverse.
     #[error("Answer")]
     Answer,
-    /// A task has another state, or exists or is missing against the rules.
+    /// A task's patch state isn't that of the rules. Or the task exists but shouldn't by the rules, or the reverse.
     #[error("State")]
     State,
-    /// A file of a patch reads otherwise, or exists or is missing against the rules.
+    /// A patch's file doesn't read as the rules say. Or it exists but shouldn't by the rules, or the reverse.
     #[error("Files")]
     Files,
     /// A task ran another version than the rules pick, or ran one where it can't call anything.
     #[error("Version")]
     Version,
-    /// A site is hooked or plain against the rules, or has no text, since its object isn't loaded.
+    /// A site is hooked but shouldn't be by the rules, or the reverse. Or it has no text, since its object isn't
+    /// loaded.
     #[error("Text")]
     Text,
 }
@@ -31,7 +32,7 @@ pub enum Difference {
 #[derive(Clone, Copy, Debug, PartialEq, Eq, Error)]
 #[error("item {item}: {cause}")]
 pub struct Differs {
-    /// Counted from 1; 0 if nothing could begin.
+    /// The number of the item, counted from 1. 0 if the comparison couldn't begin.
     pub item: usize,
     pub cause: Difference,
 }

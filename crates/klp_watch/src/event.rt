@@ -1,4 +1,4 @@
-//! Events among what tasks do: each is taken, and is taken back if it breaks a premise.
+//! The events of a trace. Each is done, and taken back if it breaks a premise.
 ghost use Rattle.std.specs.Prelude.{◌≡◌, IfOk, IfErr, IfSome, IfNone};
 ghost use Rattle.klp_model.specs.declared.seen.Seen.TheVariants.{Event as Happens};
 ghost use Rattle.klp_model.specs.Observed.{Stacks, begun, IsHonestEvent};
@@ -13,7 +13,7 @@ use klp_core::Manager;
 use klp_model::Event;
 use klp_types::Frames;
 
-/// Which premise an accepted event breaks, if any, judged by what the tasks are inside of.
+/// Returns the premise that an accepted event breaks, if it breaks one. What the tasks are inside of decides this.
 pub(crate) fn against(manager: &Manager, inside: &Inside, event: &Event) -> Option<Cause>
     ensures found { IfSome result (λ cause. (stacks : Stacks) → AreInside inside.now.rows stacks
         → IsAgainst (setting_of manager.now.managed) stacks event.now cause) }
@@ -42,8 +42,9 @@ pub(crate) fn begin(inside: &mut Inside, event: &Event)
     }
 }
 
-/// Takes an event, or refuses it, which is no fault. Takes an event that breaks a premise back by its own records, so
-/// no later item sees it. What these records lead back to is known of a well-formed manager.
+/// Passes an event to the manager. A refusal is no fault. If an accepted event breaks a premise, takes it back by its
+/// own records, so no later item sees it. Since the manager is well formed, it is known to which state these records
+/// lead back.
 pub(crate) fn happen(manager: &mut Manager, inside: &mut Inside, event: &Event) -> Result<(), Cause>
     requires { IsWellFormed manager.old }
     ensures done { IfOk result (λ _. (stacks : Stacks) → AreInside inside.old.rows stacks

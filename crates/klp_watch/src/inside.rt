@@ -17,7 +17,7 @@ pub(crate) struct Inside {
 }
 
 impl Inside {
-    /// No task is inside of anything.
+    /// Makes the value in which no task is inside of anything.
     pub(crate) fn new() -> Self
         ensures { result.rows ≡ replicate MAX_TASKS [] }
     {
@@ -26,7 +26,7 @@ impl Inside {
         }
     }
 
-    /// The versions of a task, innermost last. Empty for a number that no task can have.
+    /// Returns the versions that a task is inside of, innermost last. Empty for a number that no task can have.
     pub(crate) fn frames(&self, task: TaskId) -> Frames
         ensures { result ≡ frames_at self.now.rows task }
     {
@@ -36,7 +36,7 @@ impl Inside {
         }
     }
 
-    /// Notes that a task is inside of these from now on. Keeps nothing for a number that no task can have.
+    /// Stores that a task is inside of these versions from now on. Does nothing for a number that no task can have.
     pub(crate) fn put(&mut self, task: TaskId, frames: Frames)
         ensures { self.new.rows ≡ slice_set self.old.rows task frames }
     {
@@ -46,7 +46,7 @@ impl Inside {
         }
     }
 
-    /// Whether any task is inside of the object, however deep. It looks at all versions of all tasks.
+    /// Whether any task is inside of the object, in any of its frames. It looks at all versions of all tasks.
     pub(crate) fn is_entered(&self, manager: &Manager, object: ObjId) -> bool
         ensures { result ≡ list_any (are_in (setting_of manager.now.managed) object) self.now.rows }
     {

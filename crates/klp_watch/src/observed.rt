@@ -1,11 +1,11 @@
 use klp_model::{Event, Refusal, Reply, Seen};
 use klp_types::{PatchId, PatchState, Site, TaskId, Version};
 
-/// What was observed of a kernel, one item after another: what happened to it, and what it showed in between. This
-/// project itself chose to ask a kernel for what it shows, and chose the form of the answers.
+/// What was observed of a kernel, one item after another: what happened to it, and what it showed in between. Which
+/// questions a kernel is asked, and the form of the answers, are this project's own.
 #[derive(Clone, Copy)]
 pub enum Observed {
-    /// An event, a call or a return, as [`watch`](crate::watch) takes it. What the kernel answered isn't known.
+    /// An event, a call or a return, as for [`watch`](crate::watch). The kernel's answer isn't known.
     Seen(Seen),
     /// An event, and what the kernel answered: its reply, or why it refused the event.
     Answered(Event, Result<Reply, Refusal>),
@@ -16,13 +16,13 @@ pub enum Observed {
 /// What a kernel shows of its state at one moment.
 #[derive(Clone, Copy)]
 pub enum Sight {
-    /// The state of a task, as `/proc/<pid>/patch_state` reads; `None` where there is no such task.
+    /// The state of a task, as `/proc/<pid>/patch_state` reads. `None` if there is no such task.
     State(TaskId, Option<PatchState>),
-    /// What the files of a patch read; `None` where they aren't there, as the patch isn't installed.
+    /// What the files of a patch read. `None` if they don't exist, because the patch isn't installed.
     Files(PatchId, Option<PatchFiles>),
     /// The task ran this version when it called the site's function.
     Version(TaskId, Site, Version),
-    /// Whether the site is hooked: its five bytes are a call of the handler, and else the NOP.
+    /// Whether the site is hooked. If it is, its five bytes are a call of the handler, otherwise the NOP.
     Text(Site, bool),
 }
 

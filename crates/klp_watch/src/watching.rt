@@ -16,13 +16,13 @@ use klp_core::Manager;
 use klp_model::Seen;
 use klp_types::{MAX_TASKS, TaskId};
 
-/// Takes the items of a trace in order, over a manager without tasks, and returns the first that isn't honest: it
-/// breaks a premise of the consistency model, or finds no room. If several [`Cause`]s hold, returns the first. A
-/// refused event counts as done. Allocates nothing. An item costs as much as its event or its look-up; a module that
-/// goes costs a look at all that tasks are inside of.
+/// Does the items of a trace in order, on a manager without tasks. Returns the first item that isn't honest: it breaks
+/// a premise of the consistency model, or there is no room for it. If several [`Cause`]s hold, returns the first. A
+/// refused event counts as done. Allocates nothing. An item costs as much as its event or its look-up. Unloading a
+/// module also costs a look at all that tasks are inside of.
 ///
-/// All items before the returned one are done. That one leaves nothing: an event's records are put back, but its
-/// callbacks have run.
+/// All items before the returned one are done. The returned one changes nothing: an event's records are put back,
+/// though its callbacks have run.
 pub fn watch(manager: &mut Manager, items: &[Seen]) -> Result<(), NotHonest>
     ensures watched { IfOk result (λ _. AreWatched manager.old manager.new items.now) }
     // what is watched is consistent at every moment
@@ -55,7 +55,7 @@ pub(crate) fn functions_are_in_objects(manager: &Manager)
     let _named = manager.catalog();
 }
 
-/// Watches the items in order. No task is there at first.
+/// Watches the items in order. There is no task at first.
 fn watch_all(manager: &mut Manager, items: &[Seen]) -> Result<(), NotHonest>
     ensures watched { IfOk result
         (λ _. HasNoTask manager.old.managed.state → AreWatched manager.old manager.new items.now) }
@@ -80,7 +80,7 @@ fn watch_all(manager: &mut Manager, items: &[Seen]) -> Result<(), NotHonest>
     Ok(())
 }
 
-/// Whether any task is there. No task has a number from [`MAX_TASKS`] on.
+/// Whether any task exists. No task has a number from [`MAX_TASKS`] on.
 pub(crate) fn has_task(manager: &Manager) -> bool
     ensures there { result ≡ true → (task : ℕ) × (is_there manager.now.managed.state task ≡ true) }
     ensures nobody { result ≡ false → HasNoTask manager.now.managed.state }
@@ -93,7 +93,7 @@ pub(crate) fn has_task(manager: &Manager) -> bool
     false
 }
 
-/// Watches one item. `inside` keeps what the tasks are inside of.
+/// Watches one item. `inside` has what the tasks are inside of.
 pub(crate) fn watch_item(
     manager: &mut Manager,
     inside: &mut Inside,

@@ -1,4 +1,5 @@
-//! Watching a trace of any length: the journal is sealed on the way, so no event is refused for lack of room in it.
+//! Watching a trace of any length. The journal is sealed whenever it is full, so no event is refused for lack of room
+//! in it.
 ghost use Rattle.std.specs.Prelude.{◌≡◌, true, IfOk, IfErr};
 ghost use Rattle.klp_journal.specs.Journal.{has_room};
 ghost use Rattle.klp_model.specs.Observed.{HasNoTask};
@@ -14,9 +15,9 @@ use klp_core::Manager;
 use klp_model::Seen;
 use klp_types::{MAX_GROUPS, MAX_RECORDS};
 
-/// Does as [`watch`](crate::watch) over any number of items. Seals the journal whenever it has no room for one more
-/// event, so what is accepted or refused, and the result, are what the rules say of the whole list. Doesn't promise
-/// which events can be taken back afterwards.
+/// Does the same as [`watch`](crate::watch) for any number of items. Seals the journal whenever it has no room for one
+/// more event. So what is accepted or refused, and the result, are what the rules say of the whole list. It isn't
+/// promised which events can be taken back afterwards.
 pub fn watch_whole(manager: &mut Manager, items: &[Seen]) -> Result<(), NotHonest>
     ensures watched { IfOk result (λ _. LeadHonestly manager.old.managed manager.new.managed items.now) }
     // what is watched is consistent at every moment
@@ -41,7 +42,7 @@ pub fn watch_whole(manager: &mut Manager, items: &[Seen]) -> Result<(), NotHones
     watch_each(manager, items)
 }
 
-/// Watches the items in order. No task is there at first.
+/// Watches the items in order. There is no task at first.
 fn watch_each(manager: &mut Manager, items: &[Seen]) -> Result<(), NotHonest>
     ensures watched { IfOk result (λ _. HasNoTask manager.old.managed.state
         → LeadHonestly manager.old.managed manager.new.managed items.now) }

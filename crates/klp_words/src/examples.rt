@@ -7,7 +7,7 @@ ghost use Rattle.klp_words.specs.Split.{separates, words_between};
 ghost use Rattle.klp_words.specs.Words.{is_name, is_symbol_name, hexadecimal_of, decimal_of, sympos_of, status_of};
 ghost use Rattle.klp_words.specs.Words.{shadow_value_of, value_text, spelling_of};
 
-/// Separators are between words; there may be any number of them. If only spaces separate, a tab is part of a word.
+/// Words are separated by any number of separators. If only spaces are separators, a tab is part of a word.
 pub fn words_stand_between_separators()
     ensures spaces { words_between (separates Spaces) (codes "  load   p ") ≡ codes "load" ∷ codes "p" ∷ [] }
     ensures tab_of_a_word { words_between (separates Spaces) (codes "a\tb c") ≡ codes "a\tb" ∷ codes "c" ∷ [] }

@@ -47,7 +47,7 @@ fn lanes_beyond_ascii(lanes: u8x16) -> u64
     lanes.simd_ge(u8x16::splat(0x80)).to_bitmask()
 }
 
-/// Whether the bytes are ASCII, tested one by one. It is used for a rest that doesn't fill all lanes.
+/// Whether the bytes are ASCII, tested one by one. It is used for the last bytes if they don't fill all lanes.
 fn are_each_ascii(bytes: &[u8]) -> bool
     ensures { result ≡ list_all is_ascii bytes.now }
 {

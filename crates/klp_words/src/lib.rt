@@ -1,11 +1,11 @@
 //! The words of a line, for both a catalog's text and the console.
 //!
-//! [`LineWords`] cuts a line into words, separated by spaces, or by spaces and tabs (`specs/Split`). [`cut`] splits
-//! a text at the first byte of a kind. [`number64`] and its like read numbers, [`shadow_value`] reads the value of
-//! a shadow variable, [`spelling_of`] a symbol as a `func` line spells it (`specs/Words`), and [`microseconds`] the
-//! time of a log (`specs/Seconds`). [`is_ascii`] tests whether a line is ASCII. None of these takes memory. They only
-//! say that a word is wrong; the caller decides which fault that is. `examples` shows which words of each kind are read
-//! as what, and which are refused.
+//! [`LineWords`] cuts a line into words, separated by spaces, or by spaces and tabs (`specs/Split`). [`cut`] splits a
+//! text at the first occurrence of a byte. [`number64`] and similar functions read numbers. [`shadow_value`] reads the
+//! value of a shadow variable, [`spelling_of`] a symbol as a `func` line spells it (`specs/Words`), and
+//! [`microseconds`] the time of a log (`specs/Seconds`). [`is_ascii`] tests whether a line is ASCII. None of these
+//! functions takes memory. They report only that a word is wrong; the caller decides which fault that is. `examples`
+//! shows how words of each kind are read, and which words are refused.
 #![tactic(auto)]
 
 pub mod examples;

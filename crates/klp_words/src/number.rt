@@ -1,5 +1,5 @@
-//! Reads numbers in decimal and hexadecimal digits. The standard library also accepts a leading plus; here it is no
-//! part of a number.
+//! Reads numbers in decimal and hexadecimal digits. The standard library also accepts a leading plus; the functions
+//! here don't.
 
 ghost use Rattle.std.specs.Prelude.{◌≡◌, ◌||◌, ◌==◌, ◌^◌, if◌then◌else◌, Some, None};
 ghost use Rattle.std.specs.Char.{is_ascii_digit, is_ascii_hexdigit, digit_value};
@@ -9,22 +9,23 @@ ghost use Rattle.klp_words.specs.Words.{decimal_of, hexadecimal_of, status_of};
 use crate::spelling::text;
 use klp_types::MAX_ADDRESS_DIGITS;
 
-/// Whether the word has only digits and minus signs. This excludes a plus before the standard library parses it.
+/// Whether the word has only digits and minus signs. This check refuses a plus, which the standard library would
+/// accept.
 fn has_only_digits_and_minus(word: &[u8]) -> bool
     ensures { result ≡ list_all (λ b. is_ascii_digit b || b == 45) word.now }
 {
     word.iter().all(|b| b.is_ascii_digit() || *b == b'-')
 }
 
-/// Reads a decimal number of 32 bits. Only digits are allowed, also leading zeros. `None` for any other word.
+/// Reads a decimal number of 32 bits. Only digits are allowed, also leading zeros. Returns `None` for any other word.
 pub fn number32(word: &[u8]) -> Option<u32>
     ensures { result ≡ decimal_of (2 ^ 32) word.now }
 {
     u32::try_from(number64(word)?).ok()
 }
 
-/// Reads a decimal number less than 2 to the 64th. Only digits are allowed. `None` for any other word. It reads the
-/// digits only once, since all numbers of catalogs and of the console are read by it.
+/// Reads a decimal number less than 2 to the 64th. Only digits are allowed. Returns `None` for any other word. The
+/// digits are read only once, since this function reads all numbers of catalogs and of the console.
 pub fn number64(word: &[u8]) -> Option<u64>
     ensures { result ≡ decimal_of (2 ^ 64) word.now }
 {
@@ -43,8 +44,8 @@ pub fn number64(word: &[u8]) -> Option<u64>
     Some(number)
 }
 
-/// Reads a number of 32 bits with a sign: digits, or a minus and digits. `None` for any other word; a plus isn't
-/// allowed.
+/// Reads a number of 32 bits with a sign: digits, or a minus and digits. Returns `None` for any other word; a plus
+/// isn't allowed.
 #[tactic(auto, using(crate::proofs::NumberLemmas::ascii_from_status))]
 pub fn signed(word: &[u8]) -> Option<i32>
     ensures { result ≡ status_of word.now }
@@ -55,8 +56,9 @@ pub fn signed(word: &[u8]) -> Option<i32>
     text(word).parse::<i32>().ok()
 }
 
-/// Returns the value of a hexadecimal digit, in either case. `None` for any other byte. A byte's wrapped distance
-/// from `0`, `a` or `A` shows by one comparison whether it is a digit of that range.
+/// Returns the value of a hexadecimal digit, in either case. Returns `None` for any other byte. For each of the three
+/// ranges, which begin at `0`, `a` and `A`, the byte's wrapped distance from the beginning is compared once with the
+/// range's length.
 fn hexadecimal_digit(byte: u8) -> Option<u8>
     ensures { result ≡ (if is_ascii_hexdigit byte then Some (digit_value byte) else None) }
 {
@@ -74,7 +76,7 @@ fn hexadecimal_digit(byte: u8) -> Option<u8>
     }
 }
 
-/// Reads a number of 1 to 16 hexadecimal digits, in either case, as an address is written. `None` for any other
+/// Reads a number of 1 to 16 hexadecimal digits, in either case, as an address is written. Returns `None` for any other
 /// word. The number of digits is checked first, so the number can't overflow.
 pub fn hexadecimal(word: &[u8]) -> Option<u64>
     ensures { result ≡ hexadecimal_of word.now }

@@ -6,10 +6,10 @@ ghost use Rattle.klp_words.specs.Seconds.{millionths_of, microseconds_of, second
 use crate::number::number64;
 use crate::split::position_of;
 
-/// How many decimals a millionth has.
+/// How many decimals the microseconds of a second have.
 const DECIMALS: usize = 6;
 
-/// One to six decimals, as millionths.
+/// Returns one to six decimals as millionths. Returns `None` if there are fewer or more, or if one isn't a digit.
 fn millionths(decimals: &[u8]) -> Option<u64>
     ensures { result ≡ millionths_of decimals.now }
 {
@@ -21,15 +21,16 @@ fn millionths(decimals: &[u8]) -> Option<u64>
     number64(&digits)
 }
 
-/// The microseconds of whole seconds and millionths of one, unless they are too many for 64 bits.
+/// Returns a number of seconds and millionths of a second, in microseconds. Returns `None` if that doesn't fit in 64
+/// bits.
 fn added(seconds: u64, millionths: u64) -> Option<u64>
     ensures { result ≡ microseconds_of seconds millionths }
 {
     seconds.checked_mul(1_000_000)?.checked_add(millionths)
 }
 
-/// A time as a log writes it, in microseconds: seconds, in digits alone, or with a point and one to six decimals. Where
-/// 64 bits don't hold it, it is none.
+/// Reads a time as a log writes it, and returns it in microseconds. The word is a number of seconds: only digits, or
+/// digits, a point and one to six decimals. Returns `None` for any other word, or if the time doesn't fit in 64 bits.
 pub fn microseconds(word: &[u8]) -> Option<u64>
     ensures { result ≡ seconds_of word.now }
 {

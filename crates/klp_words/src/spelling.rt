@@ -92,7 +92,7 @@ pub fn is_symbol_name(word: &[u8]) -> bool
     has_only_symbol_bytes(word)
 }
 
-/// Returns the word as text. It is ASCII, so nothing is copied or checked again, and nothing can fail.
+/// Returns the word as text. The word must be ASCII. So nothing is copied or checked again, and nothing can fail.
 pub fn text(word: &[u8]) -> &str
     requires { IsAscii word.now }
     ensures { result.now ≡ word.now }
@@ -118,7 +118,7 @@ impl<'a> Model for Spelling<'a> {
     ghost view = { λ s. record { object = s.object.now; symbol = s.symbol.now; sympos = s.sympos } };
 }
 
-/// Makes a spelling of its three parts. `None` if a part is wrong.
+/// Makes a spelling of its three parts. Returns `None` if a part is wrong.
 fn spelling_of_parts<'a>(
     object: &'a [u8],
     symbol: &'a [u8],
@@ -147,7 +147,7 @@ fn spelling_behind_prefix(text: &[u8]) -> Option<Spelling<'_>>
 }
 
 /// Reads a word of the form `.klp.sym.objname.symbol_name,sympos` (livepatch module ELF format, livepatch symbols).
-/// `None` for any other word. Nothing is copied: the parts are borrowed from the word.
+/// Returns `None` for any other word. Nothing is copied: the parts are borrowed from the word.
 pub fn spelling_of(word: &[u8]) -> Option<Spelling<'_>>
     ensures { result ≡ spelling_of word.now }
 {

@@ -1,4 +1,4 @@
-//! Cuts bytes into words, and at one byte. Catalogs and the console use the same functions.
+//! Cuts bytes into words, or at a given byte. Catalogs and the console use the same functions.
 
 ghost use Rattle.std.specs.Prelude.{◌≡◌, ℕ, ◌==◌, not, position, List, ◌∷◌, [], MatchOption};
 ghost use Rattle.std.specs.List.{position_or_len, before_first, after_first};
@@ -15,7 +15,7 @@ pub enum Separators {
 }
 
 impl Separators {
-    /// Returns the byte that separates words besides a space. If only spaces do, this is a space again.
+    /// Returns the byte that separates words in addition to a space. If only spaces separate words, returns a space.
     fn beside_space(self) -> u8
         ensures { (b : ℕ) → is_either 32 result b ≡ separates self b }
     {
@@ -26,8 +26,8 @@ impl Separators {
     }
 }
 
-/// The words of a line that are still to be read, and what separates them. They are cut off one by one, so no list
-/// of them is made.
+/// The words of a line that are still to be read, and what separates them. Words are cut off one by one, so no list of
+/// them is made.
 #[derive(Drop)]
 pub struct LineWords<'a> {
     rest: &'a [u8],
@@ -64,8 +64,8 @@ impl<'a> LineWords<'a> {
         }
     }
 
-    /// Returns the next word, which is never empty. `None` if no word is left. The time is linear in the length of
-    /// the word and of the separators before it, of which there may be any number.
+    /// Returns the next word, which is never empty. Returns `None` if no word is left. The time is linear in the length
+    /// of the word and of the separators before it, of which there may be any number.
     pub fn next(&mut self) -> Option<&'a [u8]>
         ensures { MatchOption result (self.old ≡ []) (λ word. self.old ≡ word.now ∷ self.new) }
     {
@@ -79,7 +79,7 @@ impl<'a> LineWords<'a> {
     }
 }
 
-/// Returns the index of the first byte that equals `at`. `None` if there is none.
+/// Returns the index of the first byte that equals `at`. Returns `None` if there is none.
 pub fn position_of(bytes: &[u8], at: u8) -> Option<usize>
     ensures { result ≡ position (λ b. b == at) bytes.now }
 {
@@ -91,8 +91,8 @@ pub fn position_of(bytes: &[u8], at: u8) -> Option<usize>
     }
 }
 
-/// Returns the bytes before the first byte `at`, and those after it. Without such a byte it returns the whole text
-/// and an empty rest; so a text without the byte gives the same as one that ends with it.
+/// Returns the bytes before the first byte `at`, and those after it. If there is no such byte, returns the whole text
+/// and an empty rest. So a text without the byte gives the same result as the text with the byte added at its end.
 pub fn cut(text: &[u8], at: u8) -> (&[u8], &[u8])
     ensures before { result.0.now ≡ before_first (λ b. b == at) text.now }
     ensures after { result.1.now ≡ after_first (λ b. b == at) text.now }

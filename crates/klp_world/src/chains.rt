@@ -39,8 +39,8 @@ impl Chains {
         })
     }
 
-    /// Returns the lowest slot of a bucket that is above `slot`: the slot that links to it, or would if `slot` were in
-    /// the bucket, which it need not be. `None` if the bucket has no slot above it.
+    /// Returns the lowest slot of a bucket whose number is above `slot`. If `slot` is in the bucket, this is the slot
+    /// that links to it; but `slot` needn't be there. Returns `None` if the bucket has no slot above it.
     fn above(&self, bucket: u8, slot: u16) -> Option<u16>
         requires chained { IsChained self.now }
         requires bucket { bucket < BUCKETS }
@@ -85,7 +85,7 @@ impl Chains {
         }
     }
 
-    /// Adds a slot, with the next number, to a bucket. It becomes the newest there.
+    /// Adds the slot with the next number to a bucket, as the newest slot there.
     pub(crate) fn push(&mut self, bucket: u8)
         requires chained { IsChained self.old }
         requires few { length self.old.links.items < MAX_VARIABLES }
@@ -139,7 +139,7 @@ impl Chains {
         };
     }
 
-    /// Removes a slot. Unless it was the last, the last slot takes over its number.
+    /// Removes a slot. If it isn't the last slot, the last slot gets its number.
     pub(crate) fn swap_remove(&mut self, slot: u16)
         requires chained { IsChained self.old }
         requires there { slot < length self.old.links.items }

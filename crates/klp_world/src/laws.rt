@@ -15,8 +15,8 @@ use klp_types::MAX_VARIABLES;
 /// Two scripts that touch no common shadow variable leave the same variables in either order.
 pub use klp_types::laws::scripts_apart_commute;
 
-/// A script logs at most one record for each edit, one more for each edit that adds a shadow variable, and one for
-/// each variable that the script removes. The last part is there because removing an id logs every variable that it
+/// A script logs at most one record for each edit, one more for each edit that adds a shadow variable, and one for each
+/// variable that the script removes. The last of these are counted because removing an id logs every variable that it
 /// removes.
 pub fn records_are_few()
     ensures { (patch : ℕ) (world : World) (script : Script)
@@ -31,16 +31,16 @@ pub fn freed_and_left_are_all()
         → length (rows_of_free_all world id) + finite.len (without_id world id).shadow ≡ finite.len world.shadow }
 {}
 
-/// Putting back the records of a script restores the world before it, if that world has room for all variables that
-/// the script adds: a variable that is put back needs room too.
+/// Putting back the records of a script restores the world before the script, if that world has room for all variables
+/// that the script adds: a variable that is put back needs room too.
 pub fn scripts_are_undone()
     ensures { (patch : ℕ) (world : World) (script : Script)
         → finite.len world.shadow + alloc_count script.edits ≤ MAX_VARIABLES
         → undone (effect patch world script) (rows_of_script patch world script) ≡ world }
 {}
 
-/// Each record of a script, put back in its turn, changes its row, if the world before has room for all variables
-/// that the script adds. An edit that leaves a row as it was logs nothing.
+/// If the world before a script has room for all variables that the script adds, each record of the script changes its
+/// row when it is put back in its turn. An edit that doesn't change a row logs nothing.
 #[tactic(auto, using(crate::proofs::EffectLemmas::effective_script))]
 pub fn scripts_tell_what_they_change()
     ensures { (patch : ℕ) (world : World) (script : Script)
@@ -48,7 +48,7 @@ pub fn scripts_tell_what_they_change()
         → HaveEffects (effect patch world script) (rows_of_script patch world script) }
 {}
 
-/// Changes of the world log rows of the world only. So the other parts of a manager needn't look at these records.
+/// Changes of the world log only rows of the world. So the other parts of a manager needn't look at these records.
 #[tactic(auto, using(crate::proofs::KindLemmas::of_free_all, crate::proofs::KindLemmas::of_add, crate::proofs::KindLemmas::of_drop, crate::proofs::KindLemmas::of_script))]
 pub fn what_is_logged_is_of_the_world()
     ensures alloc { (world : World) (key : ShadowKey) → All (λ row. is_of_world row ≡ true) (rows_of_alloc world key) }

@@ -8,8 +8,8 @@ use arrayvec::ArrayVec;
 use klp_types::{MAX_STATES, PatchId};
 use std::marker::Model;
 
-/// A system state of an installed patch: its id and its value. Its version never changes, so only the catalog has
-/// it.
+/// A system state of an installed patch: its id and its value. Its version never changes, so it is stored only in the
+/// catalog.
 #[derive(Clone, Copy, Default)]
 pub(crate) struct SystemState {
     pub(crate) id: u64,
@@ -44,15 +44,15 @@ impl Model for InstalledPatch {
     ghost view = { λ i. record { patch = i.patch; values = i.states.items } };
 }
 
-/// Returns the index of the state with this id. `None` if there is none. A patch names each id at most once.
+/// Returns the index of the state with this id. Returns `None` if there is none. A patch names each id at most once.
 fn place_of_state(states: &[SystemState], id: u64) -> Option<usize>
     ensures { result ≡ position (λ (s : ℕ × ℕ). s.0 == id) states.now }
 {
     states.iter().position(|state| state.id == id)
 }
 
-/// Returns the index of an installed patch, counted from the oldest. Undo records have this index. `None` if the
-/// patch isn't installed.
+/// Returns the index of an installed patch, counted from the oldest. Undo records have this index. Returns `None` if
+/// the patch isn't installed.
 pub(crate) fn place_of_patch(patches: &[InstalledPatch], patch: PatchId) -> Option<usize>
     ensures { result ≡ position (λ (i : Installed). i.patch == patch) patches.now }
 {
@@ -81,7 +81,7 @@ impl InstalledPatch {
         &self.states
     }
 
-    /// Whether the patch has no states: before they are added, and once undo has taken them all out.
+    /// Whether the patch has no states. This is so before they are added, and when undo has removed them all.
     pub(crate) fn is_bare(&self) -> bool
         ensures { result ≡ is_empty self.now.values }
     {
@@ -94,8 +94,8 @@ impl InstalledPatch {
         self.patch
     }
 
-    /// Returns the value of the state with this id. `None` if the patch doesn't name it. A patch can't read another
-    /// patch's states this way.
+    /// Returns the value of the state with this id. Returns `None` if the patch doesn't name it. A patch can't read
+    /// another patch's states this way.
     pub(crate) fn value(&self, id: u64) -> Option<u64>
         ensures { result ≡ value_among id self.now.values }
     {
@@ -106,8 +106,8 @@ impl InstalledPatch {
         Some(state.value)
     }
 
-    /// Sets the state with this id, and returns its old value, so that the caller knows whether it changed. `None`,
-    /// with nothing changed, if the patch doesn't name the state.
+    /// Sets the state with this id, and returns its old value, so that the caller knows whether it changed. If the
+    /// patch doesn't name the state, changes nothing and returns `None`.
     pub(crate) fn set_value(&mut self, id: u64, value: u64) -> Option<u64>
         ensures was { result ≡ value_among id self.old.values }
         ensures states { self.new ≡ record self.old { values = set_among id value self.old.values } }
@@ -139,8 +139,8 @@ impl InstalledPatch {
         }
     }
 
-    /// Removes the state with this id (`None`), or adds it after the others if there is room. A record that
-    /// doesn't fit changes nothing; records that are put back newest first always fit.
+    /// Restores the state with this id. If `was` is `None`, removes the state. Otherwise adds it after the others, if
+    /// there is room. A record that doesn't fit changes nothing; records that are put back newest first always fit.
     pub(crate) fn put_back(&mut self, id: u64, was: Option<u64>)
         ensures { self.new ≡ record self.old { values = put_state id was self.old.values } }
     {

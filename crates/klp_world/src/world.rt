@@ -25,16 +25,15 @@ use klp_types::{MAX_PATCHES, MAX_STATES, MAX_VARIABLES, PatchId, Record, ShadowK
 use std::alloc::{AllocError, Global};
 use std::marker::Model;
 
-/// The installed patches with the values of their system states (system-state), and the shadow variables
-/// (shadow-vars).
+/// The installed patches with the values of their system states (system-state), and the shadow variables (shadow-vars).
 ///
-/// [`World::new`] allocates all memory. Each change logs every row that it changes, as it was, in the records that it
-/// is given; a row that doesn't change isn't logged. These records, put back newest first, restore the world before the
-/// change.
+/// [`World::new`] allocates all memory. Each change logs the old value of every row that it changes, in the records
+/// that the caller passes. A row that doesn't change isn't logged. These records, put back newest first, restore the
+/// world before the change.
 #[derive(Drop)]
 pub struct World {
     patches: Vec<InstalledPatch>,
-    /// The numbers of `patches`, kept in a second list so that `installed` can lend them as a slice
+    /// The numbers of `patches`, stored in a second list so that `installed` can return them as a slice
     /// (docs/DECISIONS.md, "The list of installed patches").
     installed: ArrayVec<PatchId, MAX_PATCHES>,
     shadow: ShadowMap,
@@ -73,8 +72,8 @@ fn note_states(patch: PatchId, states: &[SystemState], log: &mut Records)
     }
 }
 
-/// Returns the newest patch before `patch` that names the state. `None` if there is no such patch. It walks from the
-/// oldest patch and stops at `patch`, since later ones don't count.
+/// Returns the newest patch before `patch` that names the state. Returns `None` if there is no such patch. The search
+/// walks from the oldest patch and stops at `patch`, since patches after it don't count.
 fn newest_before(patches: &[InstalledPatch], patch: PatchId, id: u64) -> Option<PatchId>
     ensures { result ≡ newest_naming id (installed_before patch patches.now) }
 {
@@ -92,7 +91,7 @@ fn newest_before(patches: &[InstalledPatch], patch: PatchId, id: u64) -> Option<
 
 impl World {
     /// Creates a world without installed patches and without shadow variables, and allocates all memory that later
-    /// changes need. `Err` if memory is refused.
+    /// changes need. Returns `Err` if memory is refused.
     pub fn new(alloc: Global) -> Result<Self, AllocError>
         ensures { IfOk result (λ world. world ≡ record { installed = []; shadow = finite.empty }) }
     {
@@ -103,8 +102,8 @@ impl World {
         })
     }
 
-    /// Returns the value of a shadow variable (`klp_shadow_get`). `None` if there is no such variable. No callback
-    /// reads one, since scripts have no conditions.
+    /// Returns the value of a shadow variable (`klp_shadow_get`). Returns `None` if there is no such variable. No
+    /// callback reads one, since scripts have no conditions.
     pub fn get(&self, key: ShadowKey) -> Option<ShadowValue>
         ensures { result ≡ variable self.now key }
     {
@@ -118,9 +117,10 @@ impl World {
         self.shadow.has(key)
     }
 
-    /// Returns the lowest address, above `after`, of a parent object that has a shadow variable of this id, or the
-    /// lowest of all without `after`. `None` if there is no such parent object. To go over all variables of an id, a
-    /// caller passes each answer to the next call. Each call walks over all variables.
+    /// Returns the lowest address of a parent object that is above `after` and has a shadow variable of this id. If
+    /// `after` is `None`, returns the lowest of all that have one. Returns `None` if there is no such parent object. To
+    /// go over all variables of an id, a caller passes each answer to the next call. Each call walks over all
+    /// variables.
     pub fn next_parent(&self, id: u64, after: Option<u64>) -> Option<u64>
         ensures { IsNextParent self.now.shadow id (lowest_above after) result }
     {
@@ -144,8 +144,8 @@ impl World {
         &self.installed
     }
 
-    /// Copies the installed patches, oldest first, into a list of its own, to be kept while callbacks change the
-    /// world, or to be shown.
+    /// Returns a copy of the list of installed patches, oldest first. A caller can keep it while callbacks change the
+    /// world, or show it.
     pub fn installed_list(&self) -> ArrayVec<PatchId, MAX_PATCHES>
         ensures value { result.items ≡ map (λ (i : Installed). i.patch) self.now.installed }
         ensures limit { length result.items ≤ MAX_PATCHES }
@@ -155,8 +155,8 @@ impl World {
         list
     }
 
-    /// Whether the patch is installed. This includes a patch in transition, which is in the list from its start to
-    /// its end.
+    /// Whether the patch is installed. This includes a patch in transition, which is in the list from the start of the
+    /// transition to its end.
     pub fn is_installed(&self, patch: PatchId) -> bool
         ensures { result ≡ list_any (λ (i : Installed). i.patch == patch) self.now.installed }
     {
@@ -165,8 +165,8 @@ impl World {
             .any(|installed| installed.patch() == patch)
     }
 
-    /// Returns the value of a system state of an installed patch. `None` if the patch isn't installed or doesn't
-    /// name the state.
+    /// Returns the value of a system state of an installed patch. Returns `None` if the patch isn't installed or
+    /// doesn't name the state.
     pub fn value(&self, patch: PatchId, id: u64) -> Option<u64>
         ensures { result ≡ state_value self.now patch id }
     {
@@ -176,15 +176,16 @@ impl World {
         self.patches[place].value(id)
     }
 
-    /// Returns the newest patch installed before this one that names the state. If the patch isn't installed, all
-    /// installed patches count as before it, since it would be the newest. (The rule is this project's own.)
+    /// Returns the newest patch that was installed before this one and names the state. If the patch isn't installed,
+    /// all installed patches count as installed before it, since it would be the newest. (The rule is this project's
+    /// own.)
     pub fn previous(&self, patch: PatchId, id: u64) -> Option<PatchId>
         ensures { result ≡ previous_patch self.now patch id }
     {
         newest_before(&self.patches, patch, id)
     }
 
-    /// Adds a shadow variable, and returns whether it did: an existing variable keeps its value
+    /// Adds a shadow variable and returns true. If the variable exists, it keeps its value and the result is false
     /// (`klp_shadow_alloc`).
     pub fn alloc(&mut self, key: ShadowKey, value: ShadowValue, log: &mut Records) -> bool
         requires room { variable self.old key ≡ None → finite.len self.old.shadow < MAX_VARIABLES }
@@ -200,10 +201,10 @@ impl World {
         true
     }
 
-    /// Adds a shadow variable as the only change of an event, and returns `None`; the log then has this change
-    /// alone, and older records in it are dropped. If the variable exists or there is no room, returns that reason
-    /// and changes neither the world nor the log. It searches for the key once; a caller that asked first would
-    /// search twice.
+    /// Adds a shadow variable as the only change of an event, and returns `None`. Earlier records of the event are
+    /// dropped, so the log then has only this change. If the variable exists or there is no room, returns this reason
+    /// and changes neither the world nor the log. The call searches for the key once; a caller that checked for the
+    /// variable first would search twice.
     pub fn alloc_alone(
         &mut self,
         key: ShadowKey,
@@ -224,7 +225,7 @@ impl World {
         None
     }
 
-    /// Returns the value of a shadow variable; if it doesn't exist, adds it with this value first
+    /// Returns the value of a shadow variable. If the variable doesn't exist, first adds it with the given value
     /// (`klp_shadow_get_or_alloc`). An existing variable needs no room.
     pub fn get_or_alloc(
         &mut self,
@@ -245,7 +246,7 @@ impl World {
         value
     }
 
-    /// Removes a shadow variable, and returns whether it existed (`klp_shadow_free`). Logs nothing if it didn't.
+    /// Removes a shadow variable, and returns whether it existed (`klp_shadow_free`). If it didn't exist, logs nothing.
     pub fn free(&mut self, key: ShadowKey, log: &mut Records) -> bool
         requires { length (rows_of_free self.old key) ≤ spare_of log.old }
         ensures answer { result ≡ is_some (variable self.old key) }
@@ -273,7 +274,7 @@ impl World {
         (before - self.shadow.len()) as u16
     }
 
-    /// Adds a patch as the newest, with these system states. Their values are 0 until a callback takes over others.
+    /// Adds a patch as the newest, with these system states. Their values are 0 until callbacks change them.
     pub fn add_states(&mut self, patch: PatchId, ids: &[u64], log: &mut Records)
         requires fresh { list_any (λ (i : Installed). i.patch == patch) self.old.installed ≡ false }
         requires room { length self.old.installed < MAX_PATCHES }
@@ -295,8 +296,8 @@ impl World {
         self.put_last(installed);
     }
 
-    /// Removes a patch with its system states, if it is installed. The newer patches move down by one. The states
-    /// are logged before the patch, so that undo puts the patch back before its states.
+    /// Removes a patch with its system states, if it is installed. The indexes of all newer patches become lower by
+    /// one. The states are logged before the patch, so that undo puts the patch back before its states.
     pub fn drop_states(&mut self, patch: PatchId, log: &mut Records)
         requires { length (rows_of_drop self.old patch) ≤ spare_of log.old }
         ensures changes { Changes self.old self.new log.old log.new (without_patch self.old patch)
@@ -314,8 +315,8 @@ impl World {
     }
 
     /// Returns how many records [`World::drop_states`] logs: one for each system state of the patch and one for the
-    /// patch itself, or 0 if it isn't installed. A caller calls this first, to make sure that there is room for the
-    /// records.
+    /// patch itself, or 0 if it isn't installed. Before it removes the patch, a caller uses this number to make sure
+    /// that there is room for the records.
     pub fn drop_records(&self, patch: PatchId) -> usize
         ensures value { result ≡ length (rows_of_drop self.now patch) }
         ensures limit { result ≤ MAX_STATES + 1 }
@@ -341,9 +342,10 @@ impl World {
         }
     }
 
-    /// Restores the one row that the record names; a record of another part of the state changes nothing. A row without
-    /// room is left out, so that the limits hold whatever the record is. A patch is taken out only after all its
-    /// states, since they are rows of their own. Records that are put back newest first never meet either case.
+    /// Restores the one row that the record names. A record of another part of the state changes nothing. If there is
+    /// no room for a row, it isn't restored, so that the limits hold whatever the record is. A patch is removed only
+    /// when none of its states is left, since each state is a row of its own. Records that are put back newest first
+    /// meet neither case.
     pub fn put_back(&mut self, row: Record)
         ensures { self.new ≡ put_back self.old row }
     {
@@ -370,7 +372,7 @@ impl World {
         let _ = self.patches.push(installed);
     }
 
-    /// Inserts an installed patch at this index from the oldest, in both lists.
+    /// Inserts an installed patch into both lists, at this index counted from the oldest.
     fn put_at(&mut self, place: usize, installed: InstalledPatch)
         requires within { place ≤ length self.old.installed }
         requires room { length self.old.installed < MAX_PATCHES }
@@ -380,7 +382,7 @@ impl World {
         let _ = self.patches.insert(place, installed);
     }
 
-    /// Takes out and returns the installed patch at this index from the oldest, from both lists.
+    /// Removes the installed patch at this index, counted from the oldest, from both lists, and returns it.
     fn take_out(&mut self, place: usize) -> InstalledPatch
         requires { place < length self.old.installed }
         ensures patch { result ≡ slice_index_or self.old.installed place result }
@@ -390,7 +392,7 @@ impl World {
         self.patches.remove(place)
     }
 
-    /// Sets a shadow variable back to its old value, if there is room for one more.
+    /// Sets a shadow variable back to its old value, if there is room for one more variable.
     fn put_variable(&mut self, key: ShadowKey, was: ShadowValue)
         ensures { self.new ≡ put_variable self.old key (Some was) }
     {
@@ -399,8 +401,8 @@ impl World {
         }
     }
 
-    /// Sets a state of an installed patch, and returns its old value. `None`, with nothing changed, if the patch
-    /// isn't installed or doesn't name the state. It logs nothing, because undo uses it too.
+    /// Sets a state of an installed patch, and returns its old value. If the patch isn't installed or doesn't name the
+    /// state, changes nothing and returns `None`. The call logs nothing, because undo uses it too.
     fn replace_value(&mut self, patch: PatchId, id: u64, value: u64) -> Option<u64>
         ensures was { result ≡ state_value self.old patch id }
         ensures world { self.new ≡ with_value self.old patch id value }
@@ -420,15 +422,16 @@ impl World {
         }
     }
 
-    /// Undoes the installing or removing of a patch: takes it out if it has no states left, or inserts it without
-    /// states at its old index.
+    /// Undoes the installing or removing of a patch. If `place` is `None`, removes the patch, but only if it has no
+    /// states left. Otherwise inserts the patch, without states, at its old index `place`.
     fn put_patch(&mut self, patch: PatchId, place: Option<u8>)
         ensures { self.new ≡ record self.old { installed = put_patch patch place self.old.installed } }
     {
         match place {
             None => {
                 if let Some(place) = place_of_patch(&self.patches, patch) {
-                    // Each state is a row of its own, so this record can't undo it.
+                    // Each state is a row of its own, so this record doesn't remove states: a patch that still has some
+                    // stays.
                     if self.patches[place].is_bare() {
                         self.take_out(place);
                     }

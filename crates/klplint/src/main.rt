@@ -1,6 +1,6 @@
-//! The program: it boots a manager over a catalog, serves a script, and writes to standard output whether each patch
-//! would leave a trace once it is withdrawn, and what becomes of patches that are loaded over others. Standard error
-//! has what is wrong with the files, and where.
+//! The program. It boots a manager over a catalog, and serves a script. Then it writes to standard output whether each
+//! patch would leave a trace after it was withdrawn, and what becomes of patches that are loaded over others. What is
+//! wrong with the files, and where, goes to standard error.
 #![tactic(auto)]
 
 use klp_lint_remarks::{CatalogText, Form, lint_over_text};
@@ -12,7 +12,8 @@ use std::process::ExitCode;
 
 const NAME: &str = "klplint";
 
-/// The statuses of a catalog without findings, of one with findings, of a fault, and of words that are refused.
+/// The exit status of a catalog without findings. Behind it follow that of one with findings, that of a fault, and that
+/// of refused arguments.
 const CLEAN: u8 = 0;
 
 const FINDINGS: u8 = 3;
@@ -25,7 +26,7 @@ fn begins_with_dash(word: &str) -> bool {
     word.as_bytes().first() == Some(&b'-')
 }
 
-/// What the program is asked for: the form of its output, and the files, a catalog and perhaps a script.
+/// What the arguments ask for: the form of the output, a catalog's file, and a script's file if there is one.
 #[derive(Clone, Copy)]
 struct Asked<'a> {
     form: Form,
@@ -33,7 +34,7 @@ struct Asked<'a> {
     script: Option<&'a str>,
 }
 
-/// Returns the form that the words ask for, and the words after it.
+/// Returns the form that the arguments ask for, and the arguments behind it.
 fn form_of(given: &[String]) -> (Form, &[String]) {
     match given {
         [first, rest @ ..] if first.as_str() == "--json" => (Form::Json, rest),
@@ -41,7 +42,7 @@ fn form_of(given: &[String]) -> (Form, &[String]) {
     }
 }
 
-/// Returns what the words ask for. Refuses other words on `err`, and returns their exit status.
+/// Returns what the arguments ask for. If they are refused, writes that to `err`, and returns the exit status as `Err`.
 fn read_words<'a, E: Write>(given: &'a [String], err: &mut E) -> Result<Asked<'a>, u8> {
     let (form, files) = form_of(given);
     let (catalog, script) = match files {
@@ -63,7 +64,7 @@ fn read_words<'a, E: Write>(given: &'a [String], err: &mut E) -> Result<Asked<'a
     })
 }
 
-// Returns the bytes of a file. If it can't be read, says so in a line on `err`, and returns the exit status.
+// Returns the bytes of a file. If the file can't be read, writes a line to `err`, and returns the exit status as `Err`.
 fn file_in<E: Write>(rt: &HostRuntime, name: &str, err: &mut E) -> Result<Vec<u8>, u8> {
     match bytes_in(rt, name) {
         Ok(bytes) => Ok(bytes),
@@ -75,7 +76,7 @@ fn file_in<E: Write>(rt: &HostRuntime, name: &str, err: &mut E) -> Result<Vec<u8
     }
 }
 
-// Returns the bytes of the script; none if there is no script.
+// Returns the bytes of the script. Returns no bytes if there is no script.
 fn script_in<E: Write>(rt: &HostRuntime, script: Option<&str>, err: &mut E) -> Result<Vec<u8>, u8> {
     match script {
         Some(name) => file_in(rt, name, err),
@@ -83,7 +84,7 @@ fn script_in<E: Write>(rt: &HostRuntime, script: Option<&str>, err: &mut E) -> R
     }
 }
 
-// Writes what is found, and returns the exit status.
+// Writes the findings to `out`, and returns the exit status.
 fn lint<W: Write, E: Write>(
     alloc: Global,
     catalog: CatalogText<'_>,
@@ -98,7 +99,7 @@ fn lint<W: Write, E: Write>(
     }
 }
 
-// The exit status. Words that aren't text are refused.
+// Runs the program, and returns the exit status. Arguments that aren't text are refused.
 fn run(rt: &HostRuntime) -> Result<u8, u8> {
     let mut err = rt.stderr();
     let given = program_arguments(rt, NAME, &mut err)?;

@@ -1,4 +1,4 @@
-//! What is written to a folder.
+//! Writes the files of a run to a folder.
 use klp_capture_run::Explained;
 use klp_names::Names;
 use klp_program::Fault;
@@ -9,7 +9,8 @@ use std::io;
 use std::io::Write;
 use std::os::unix::fs::OpenOptionsExt;
 
-/// The mode of what is written: a log, and what is made of it, has addresses of a running kernel.
+/// The mode of each file, which only its owner may read: a log, and what is made of it, has addresses of a running
+/// kernel.
 const MODE: u32 = 0o600;
 
 /// The title of the page.
@@ -24,12 +25,12 @@ fn write_file(rt: &HostRuntime, folder: &str, name: &str, bytes: &[u8]) -> io::R
     file.write_all(bytes)
 }
 
-/// The names of the run's tasks with the times of its lines. None if memory runs out.
+/// Reads the names of the run's tasks, and adds the times of the run's lines. Returns `None` if memory runs out.
 fn names_of(alloc: Global, names: &str, trace: &[u8]) -> Option<Names> {
     timed_names(alloc, names.as_bytes(), trace)
 }
 
-/// The page of the run.
+/// Returns the page of the run. `Err` if memory runs out.
 fn page_of(alloc: Global, found: &Explained<'_>, names: &str) -> Result<Vec<u8>, Fault> {
     let trace = found.trace().as_bytes();
     match names_of(alloc, names, trace) {
@@ -38,8 +39,8 @@ fn page_of(alloc: Global, found: &Explained<'_>, names: &str) -> Result<Vec<u8>,
     }
 }
 
-/// Writes the catalog, the trace and the names of the tasks, and a page of the run. Without memory for the page, the
-/// others are still written.
+/// Writes the catalog, the trace, the names of the tasks, and last a page of the run. If there is no memory for the
+/// page, the other files are still written.
 pub(crate) fn write_files(rt: &HostRuntime, folder: &str, found: &Explained<'_>) -> io::Result<()> {
     let names = found.names(rt.alloc())?;
     write_file(rt, folder, "run.catalog", found.catalog.as_bytes())?;

@@ -1,6 +1,6 @@
-//! The program: it reads a log of `klpcap`, and says what moves since when, who holds it up, and whether some run of
-//! the rules shows what was recorded: in words, or for programs. With a folder it writes a catalog, a trace, the names
-//! of the tasks and a page there too.
+//! The program. It reads a log of `klpcap`, and says what is in transition since when, who holds it up, and whether
+//! some run of the rules shows what was recorded. It says this in words, or for programs. If a folder is given, it also
+//! writes a catalog, a trace, the names of the tasks and a page there.
 #![tactic(auto)]
 
 mod files;
@@ -21,7 +21,8 @@ use std::process::ExitCode;
 
 const NAME: &str = "klpsee";
 
-/// The exit status of faults of files and lines, of refused words, and of a log that no run of the rules shows.
+/// The exit status of faulty files and lines. Behind it follow those of refused arguments, and of a log that no run of
+/// the rules shows.
 const FAULTY: u8 = 1;
 
 const REFUSED: u8 = 2;
@@ -42,7 +43,8 @@ fn print<W: Write>(
     }
 }
 
-/// Writes what a log comes to, and returns the exit status. A log from before a patch shows no transition to explain.
+/// Writes what a log shows, and returns the exit status. A log that was made before a patch was loaded has no
+/// transition to explain.
 fn answer<W: Write>(
     alloc: Global,
     words: Words<'_>,
@@ -94,7 +96,7 @@ fn see<W: Write, E: Write>(
     answer(alloc, words, &capture, &found, out)
 }
 
-// The exit status. Words that aren't text are refused.
+// The program's exit status. Arguments that aren't text are refused.
 fn run(rt: &HostRuntime) -> Result<u8, u8> {
     let mut err = rt.stderr();
     let given = program_arguments(rt, NAME, &mut err)?;

@@ -1,17 +1,17 @@
-//! The words that the program is given.
+//! The arguments of the program.
 
-/// What the words ask for.
+/// What the arguments ask for.
 #[derive(Clone, Copy)]
 pub(crate) struct Words<'a> {
     /// The file with the log.
     pub(crate) log: &'a str,
-    /// The folder for what is written.
+    /// The path of the folder for files, if one is given.
     pub(crate) folder: Option<&'a str>,
     /// Whether the answer is for programs.
     pub(crate) is_json: bool,
 }
 
-/// A file or a folder: a word that isn't an option.
+/// Returns a word as the path of a file or folder. Returns `None` if it is empty or an option.
 fn as_file(word: &str) -> Option<&str> {
     match word.as_bytes().first() {
         Some(b'-') | None => None,
@@ -19,7 +19,8 @@ fn as_file(word: &str) -> Option<&str> {
     }
 }
 
-/// Reads a log's name and options, in any order. None for words that are refused: unknown ones, one too many, or none.
+/// Reads a log's path, and options, in any order. Returns `None` if an argument is unknown or one too many, or if there
+/// is no log.
 pub(crate) fn words_of(given: &[String]) -> Option<Words<'_>> {
     let (mut log, mut folder, mut is_json) = (None, None, false);
     let mut words = given.iter();

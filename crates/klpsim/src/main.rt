@@ -1,5 +1,5 @@
-//! The program: it boots the manager over a catalog, and answers console lines from standard input on
-//! standard output, or has two task threads run the steps of a file.
+//! The program. It boots a manager over a catalog, and answers console lines from standard input on standard output. Or
+//! it lets two task threads run the steps of a file.
 #![tactic(auto)]
 
 ghost use Rattle.std.specs.Prelude.{◌≡◌, ◌⊎◌, ℕ, List, Option, None, IfErr};
@@ -20,8 +20,8 @@ use std::thread::Threads;
 
 const NAME: &str = "klpsim";
 
-// Serves standard input over a catalog, the built-in one if no file is named. Returns the exit status, which is also 1
-// if the catalog can't be read.
+// Serves standard input over a catalog, or over the built-in one if no file is named. Returns the exit status. It is 1
+// also if the catalog can't be read.
 fn serve(rt: &HostRuntime, path: Option<String>) -> u8
     ensures { (result ≡ 1) ⊎ ((text : List ℕ) × (path ≡ None → text ≡ CATALOG.now) × IsServed text result) }
 {
@@ -32,9 +32,9 @@ fn serve(rt: &HostRuntime, path: Option<String>) -> u8
     }
 }
 
-// Lets two tasks run the steps of a file over a catalog, and writes what came of it to standard output. Returns the
-// exit status, which is also 1 if a file can't be read. It takes a handle of its own, since the runtime has threads
-// only in `main`.
+// Lets two tasks run the steps of a file over a catalog, and writes the result to standard output. Returns the exit
+// status. It is 1 also if a file can't be read. The function gets its own handle, since only in `main` does the runtime
+// have threads.
 fn race<R: Threads + Wait + Sync + Files + Print + AllocGlobal, E: Write>(
     rt: &R,
     catalog: &str,
@@ -51,7 +51,8 @@ fn race<R: Threads + Wait + Sync + Files + Print + AllocGlobal, E: Write>(
     }
 }
 
-// Returns what the words ask for, or the exit status. Words that aren't text are refused.
+// Returns what the arguments ask for. If they are refused, as are those that aren't text, returns the exit status as
+// `Err`.
 fn wanted(rt: &HostRuntime) -> Result<Wanted, u8>
     ensures { IfErr result (λ status. (status ≡ 1) ⊎ (status ≡ 2)) }
 {

@@ -1,6 +1,6 @@
-//! The program: it boots the manager over a catalog, and judges a trace by it. Standard output has the verdict: the
-//! trace is honest and the kernel does as the rules say, or the first line at which this fails. Standard error has what
-//! is wrong there.
+//! The program. It boots a manager over a catalog, and judges a trace with it. The verdict goes to standard output:
+//! that the trace is honest and the kernel does as the rules say, or the first line at which one of the two fails. What
+//! is wrong in that line goes to standard error.
 #![tactic(auto)]
 
 use klp_diagnostics::{FileText, Inputs, Kind, file_in};
@@ -12,7 +12,7 @@ use std::process::ExitCode;
 
 const NAME: &str = "klpwatch";
 
-// Judges the trace, writes to `err` what is wrong, and returns the exit status.
+// Judges the trace, and writes to `err` what is wrong with it. Returns the exit status.
 fn watch<W: Write, E: Write>(alloc: Global, inputs: &Inputs<'_>, out: &mut W, err: &mut E) -> u8 {
     inputs.hint(err);
     match watch_trace(alloc, inputs.catalog.bytes, inputs.second.bytes, out) {
@@ -24,7 +24,8 @@ fn watch<W: Write, E: Write>(alloc: Global, inputs: &Inputs<'_>, out: &mut W, er
     }
 }
 
-// Returns the exit status. `Err` has that of words that are refused, or of a file that can't be read.
+// Runs the program, and returns the exit status. Returns it as `Err` if the arguments are refused, or if a file can't
+// be read.
 fn run(rt: &HostRuntime) -> Result<u8, u8> {
     let mut err = rt.stderr();
     let given = program_arguments(rt, NAME, &mut err)?;
