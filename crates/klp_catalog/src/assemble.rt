@@ -15,8 +15,8 @@ ghost use Rattle.klp_catalog.specs.declared.assemble.AssembleFault.TheVariants.{
 use crate::function::CatalogFunction;
 use crate::numbers::Numbers;
 use crate::patch::CatalogPatch;
-use crate::target::{CatalogTarget, Kinds};
-use klp_catalog_text::{PlanCallback, PlanFunction, PlanPatch, PlanTarget};
+use crate::target::{CatalogTarget, Kinds, Targets};
+use klp_catalog_text::{PlanCallback, PlanFunction, PlanFunctions, PlanPatch, PlanTarget};
 use klp_modules::Modules;
 use klp_types::{ObjId, Site};
 use smallvec::SmallVec;
@@ -96,7 +96,7 @@ fn resolve(modules: &Modules, object: ObjId, function: PlanFunction) -> CatalogF
 fn push_functions(
     modules: &Modules,
     object: ObjId,
-    given: Vec<PlanFunction>,
+    given: PlanFunctions,
     functions: &mut Vec<CatalogFunction>,
 ) -> Result<(), AllocError>
     ensures { OnOk result (functions.new.items ≡ functions.old.items ++ map
@@ -217,7 +217,7 @@ fn assemble_patch(
         targets: given,
         states,
     } = patch;
-    let mut targets = Vec::with_capacity(alloc, given.len())?;
+    let mut targets = Targets::with_capacity(alloc, given.len())?;
     let mut functions = Vec::new(alloc);
     for target in given {
         targets.push(assemble_target(alloc, modules, target, numbers, &mut functions)?)?;

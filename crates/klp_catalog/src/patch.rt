@@ -9,9 +9,9 @@ ghost use Rattle.klp_catalog.specs.Stored.{StoredTarget, StoredPatch, states_at}
 ghost use Rattle.klp_catalog.specs.States.{installed_before};
 
 use crate::function::CatalogFunction;
-use crate::target::{CatalogTarget, is_kind};
+use crate::target::{CatalogTarget, Targets, is_kind};
 use arrayvec::ArrayVec;
-use klp_catalog_text::SystemState;
+use klp_catalog_text::{PlanStates, SystemState};
 use klp_types::{MAX_STATES, ObjId, PatchId, Which};
 use std::marker::Model;
 
@@ -21,12 +21,12 @@ pub struct CatalogPatch {
     pub(crate) name: String,
     pub(crate) replace: bool,
     /// The objects that the patch changes, in the order of the text.
-    pub(crate) targets: Vec<CatalogTarget>,
+    pub(crate) targets: Targets,
     /// The new functions for all these objects, in order. A function's index is its number in versions and entries.
     pub(crate) functions: Vec<CatalogFunction>,
     /// Whether every function has a site. It is computed once, since it is needed each time the patch is enabled.
     pub(crate) names_sites: bool,
-    pub(crate) states: Vec<SystemState>,
+    pub(crate) states: PlanStates,
 }
 
 impl Model for CatalogPatch {
@@ -93,7 +93,7 @@ impl CatalogPatch {
         ensures { result.items ≡ map (λ (s : StateValue). s.id) self.now.states }
     {
         let mut ids = ArrayVec::new();
-        for state in &self.states {
+        for state in self.states.as_slice() {
             ids.push(state.id);
         }
         ids

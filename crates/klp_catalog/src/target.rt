@@ -1,9 +1,11 @@
 ghost use Rattle.std.specs.Prelude.{◌≡◌, length};
 ghost use Rattle.klp_types.specs.Callbacks as callbacks;
 
-use klp_catalog_text::PlanFunction;
+use klp_catalog_text::PlanFunctions;
 use klp_types::{CALLBACK_KINDS, ObjId, Which};
 use smallvec::SmallVec;
+use std::alloc::Global;
+use std::default::MadeWith;
 use std::marker::Model;
 use std::snapshot::Snapshot;
 
@@ -11,12 +13,18 @@ use std::snapshot::Snapshot;
 /// no memory.
 pub(crate) type Kinds = SmallVec<Which, CALLBACK_KINDS>;
 
+/// How many objects most patches change at most.
+const USUAL_TARGETS: usize = 2;
+
+/// The objects that a patch changes. Memory is taken only if they are many.
+pub(crate) type Targets = SmallVec<CatalogTarget, USUAL_TARGETS>;
+
 /// An object that a patch changes. Its callbacks are in the catalog; the target has their numbers and kinds.
 #[derive(Drop)]
 pub struct CatalogTarget {
     pub(crate) object: ObjId,
     /// The functions as in the plan, for contracts only. At run time the patch's resolved functions are used.
-    pub(crate) functions: Snapshot<Vec<PlanFunction>>,
+    pub(crate) functions: Snapshot<PlanFunctions>,
     /// How many functions the patch has for the object. The functions of a patch are one list, in the order of its
     /// objects.
     pub(crate) count: usize,
@@ -42,6 +50,20 @@ impl Model for CatalogTarget {
     } };
 
     ghost invariant = { λ t. (t.first + length t.kinds.items < 2 ^ 64) × (t.count ≡ length t.functions.value.items) };
+}
+
+/// Makes a target without functions and callbacks. It fills the unused elements of a patch's list; none of these is ever
+/// read.
+impl MadeWith<Global> for CatalogTarget {
+    fn made_with(alloc: Global) -> CatalogTarget {
+        CatalogTarget {
+            object: ObjId::default(),
+            functions: Snapshot::of(&PlanFunctions::new(alloc)),
+            count: 0,
+            first: 0,
+            kinds: Kinds::new(alloc),
+        }
+    }
 }
 
 impl CatalogTarget {

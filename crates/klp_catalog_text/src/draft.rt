@@ -24,6 +24,7 @@ use klp_types::{
     MAX_BODY, MAX_FUNCTIONS, MAX_OBJECTS, MAX_PATCHES, MAX_SITES, MAX_STATES, MAX_TARGETS, ObjId,
     ObjectText, SymbolText, Which,
 };
+use smallvec::SmallVec;
 use std::alloc::{AllocError, Global};
 use std::marker::Model;
 
@@ -271,7 +272,7 @@ impl Draft {
             name,
             replace,
             targets: Vec::new(alloc),
-            states: Vec::new(alloc),
+            states: SmallVec::new(alloc),
         })?;
         self.functions = 0;
         Ok(())

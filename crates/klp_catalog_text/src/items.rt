@@ -1,5 +1,7 @@
 //! The parts of lines that a plan stores unchanged: names, functions and system states.
 
+use std::alloc::Global;
+use std::default::MadeWith;
 use std::marker::Model;
 
 /// The name of an object, a patch, a symbol or a new function, as the text spells it. It is ASCII, so its bytes are
@@ -53,9 +55,21 @@ impl Model for PlanFunction {
     } };
 }
 
+/// Makes a function without names, at address 0. It fills the unused element of a target's list; it is never read.
+impl MadeWith<Global> for PlanFunction {
+    fn made_with(alloc: Global) -> PlanFunction {
+        PlanFunction {
+            symbol: String::new(alloc),
+            sympos: 0,
+            new_name: String::new(alloc),
+            address: 0,
+        }
+    }
+}
+
 /// A system state that a patch names (system-state): its id, and the version of the state that the patch uses. Versions
 /// decide which patches are compatible.
-#[derive(Clone, Copy)]
+#[derive(Clone, Copy, Default)]
 pub struct SystemState {
     pub id: u64,
     pub version: u32,

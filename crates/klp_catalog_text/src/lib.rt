@@ -30,5 +30,5 @@ pub use fault::{TextFault, TextFaultKind};
 pub use items::{Name, NameWord, PlanFunction, SystemState};
 pub use line::CatalogLine;
 pub use lines::{Lines, words_of};
-pub use plan::{Plan, PlanCallback, PlanPatch, PlanTarget};
+pub use plan::{Plan, PlanCallback, PlanFunctions, PlanPatch, PlanStates, PlanTarget};
 pub use text::read;

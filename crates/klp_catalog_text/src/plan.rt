@@ -6,6 +6,7 @@ ghost use Rattle.klp_catalog_text.specs.Scripts.{scripts_of};
 
 use crate::items::{PlanFunction, SystemState};
 use klp_types::{CALLBACK_KINDS, ObjId, ObjectText, Script, Which};
+use smallvec::SmallVec;
 use std::alloc::{AllocError, Global};
 use std::marker::Model;
 use std::mem;
@@ -26,12 +27,18 @@ impl Model for PlanCallback {
     ghost view = { λ c. record { which = c.which; script = c.script } };
 }
 
+/// The new functions of a target. Most targets have one, for which no memory is taken.
+pub type PlanFunctions = SmallVec<PlanFunction, 1>;
+
+/// The system states of a patch. Most patches name one at most, for which no memory is taken.
+pub type PlanStates = SmallVec<SystemState, 1>;
+
 /// An object that a patch changes, with the new functions in it and the callbacks for it. The object is a number,
 /// so that no later look-up of its name can fail (docs/DECISIONS.md, "Objects of targets by number").
 #[derive(Drop)]
 pub struct PlanTarget {
     pub object: ObjId,
-    pub functions: Vec<PlanFunction>,
+    pub functions: PlanFunctions,
     /// The callbacks in the order of the text. Each kind occurs at most once, as in the kernel's `klp_object`.
     pub callbacks: Vec<PlanCallback>,
 }
@@ -77,7 +84,7 @@ pub struct PlanPatch {
     pub replace: bool,
     pub targets: Vec<PlanTarget>,
     /// The system states that the patch names, in the order of the text. Each id occurs once.
-    pub states: Vec<SystemState>,
+    pub states: PlanStates,
 }
 
 impl Model for PlanPatch {
@@ -102,7 +109,7 @@ impl PlanPatch {
     {
         self.targets.push(PlanTarget {
             object,
-            functions: Vec::new(alloc),
+            functions: SmallVec::new(alloc),
             callbacks: Vec::new(alloc),
         })?;
         Ok(())

@@ -218,8 +218,9 @@ fn numbered(
         AddsObject (texts_of names.old.keys) (texts_of names.new.keys) (names_of_object given) numbered)) }
 {
     let name = number_of(alloc, names, image.object_name(object).unwrap())?;
-    let mut symbols = Vec::new(alloc);
-    for k in 0..image.symbols(object).unwrap() {
+    let count = image.symbols(object).unwrap();
+    let mut symbols = Vec::with_capacity(alloc, usize::from(count))?;
+    for k in 0..count {
         let (symbol, _) = image.symbol(object, k).unwrap();
         symbols.push(number_of(alloc, names, symbol)?)?;
     }

@@ -73,6 +73,18 @@ fn sites_by_name(
     Ok(sites)
 }
 
+/// Returns how many symbols the objects have together.
+fn symbol_count(objects: &[NumberedObject]) -> usize
+    requires { symbol_count objects.now ≤ MAX_SITES }
+    ensures { result ≡ symbol_count objects.now }
+{
+    let mut count = 0;
+    for object in objects {
+        count += object.symbols.len();
+    }
+    count
+}
+
 /// Makes a table with the symbol of each site. It is needed because an administrator names a site by its symbol.
 fn symbols_by_site(
     alloc: Global,
@@ -82,7 +94,7 @@ fn symbols_by_site(
     requires few_symbols { symbol_count objects.now ≤ MAX_SITES }
     ensures { IfOk result (λ table. table.items ≡ placed_symbols 0 objects.now) }
 {
-    let mut table = Vec::new(alloc);
+    let mut table = Vec::with_capacity(alloc, symbol_count(objects))?;
     for (place, object) in objects.iter().enumerate() {
         add_symbols(&mut table, ObjId(place as u8), &object.symbols)?;
     }

@@ -219,13 +219,25 @@ fn first_sites(alloc: Global, objects: &[ObjectText]) -> Result<Vec<u16>, AllocE
     requires { length (symbols_of objects.now) ≤ MAX_SITES }
     ensures { IfOk result (λ sites. sites.items ≡ first_sites_from 0 objects.now) }
 {
-    let mut sites = Vec::new(alloc);
+    let mut sites = Vec::with_capacity(alloc, objects.len())?;
     let mut site = 0;
     for object in objects {
         sites.push(site)?;
         site += object.symbols.len() as u16;
     }
     Ok(sites)
+}
+
+/// Returns how many symbols the objects have together.
+fn symbol_count(objects: &[ObjectText]) -> usize
+    requires { length (symbols_of objects.now) ≤ MAX_SITES }
+    ensures { result ≡ length (symbols_of objects.now) }
+{
+    let mut count = 0;
+    for object in objects {
+        count += object.symbols.len();
+    }
+    count
 }
 
 /// Makes a list of all symbols, by site. Each has a NOP at its entry site, whatever bytes the given body has there.
@@ -235,12 +247,13 @@ fn stored_symbols(
     objects: &[ObjectText],
     handler: u64,
 ) -> Result<Vec<StoredSymbol>, AllocError>
+    requires few { length (symbols_of objects.now) ≤ MAX_SITES }
     requires long { All IsLong (symbols_of objects.now) }
     requires near { All (IsNear handler) (symbols_of objects.now) }
     requires range { All IsInRange (symbols_of objects.now) }
     ensures { IfOk result (λ sites. AllZip (IsResting handler) sites.items (symbols_of objects.now)) }
 {
-    let mut sites = Vec::new(alloc);
+    let mut sites = Vec::with_capacity(alloc, symbol_count(objects))?;
     for object in objects {
         for symbol in &object.symbols {
             sites.push(StoredSymbol::new(alloc, symbol, handler)?)?;

@@ -19,7 +19,7 @@ loop-target-preserved c =
     record {
       targets = placed_next stored_target target_size c.loop-target.numbers.next c.assemble_target.new.numbers.next done c.push.new.self.items
           (stored_targets c.args.numbers.now.next c.args.patch.targets) c.in-Some.target made left rest c.loop-target.invariant.targets split
-          c.in_ok-push.ensures.items c.in_ok-assemble_target.ensures.target next;
+          c.in_ok-push.ensures.ok c.in_ok-assemble_target.ensures.target next;
       functions = ap (λ fs. fs ++ functions_of_patch names rest) c.in_ok-assemble_target.ensures.functions
           ∙ append_assoc c.loop-target.functions.items (functions_of_target names c.in-Some.target) (functions_of_patch names rest)
           ∙ sym (ap (λ ts. c.loop-target.functions.items ++ functions_of_patch names ts) split) ∙ c.loop-target.invariant.functions;

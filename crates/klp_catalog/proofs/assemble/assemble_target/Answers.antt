@@ -1,6 +1,8 @@
-use Rattle.std.proofs.Common.{length, ap, arith}
+use Rattle.std.proofs.Common.{length, ap, sym, ◌∙◌, arith}
 use Rattle.std.proofs.lemmas.List.{length-map}
 use Rattle.klp_types.specs.Setting.{Callback}
+use Rattle.smallvec.specs.SmallVec.{SmallVec}
+use Rattle.klp_catalog_text.specs.Plan.{PlanFunction}
 use Rattle.klp_catalog.proofs.assemble.assemble_target.Goals as goal
 
 pub invariant_of-result : goal.invariant_of-result
@@ -13,5 +15,5 @@ invariant_of-result c = (
     c.len.ensures,
     c.in_ok-first.ensures.fits,
   ),
-  search,
+  c.len-count.ensures.value ∙ ap (λ (v : SmallVec PlanFunction). length v.items) (sym c.of-planned.ensures),
 )

@@ -17,7 +17,7 @@ returns-in_err-place c =
     position_from_yields_List (λ (w : Which). is_kind w c.args.which) _ _ _ c.in_err-place.ensures.ran (YieldsList-from_slice kinds cc) (λ x b q k. search (rules, tests)) in
     let patch = seen_here c.args.patches.now c.from.result c.args.patch c.in_ok-patch.patch.now (c.from.ensures ∙ c.patch.view_is) c.in_ok-patch.ensures.lookup.3.0 c.in_ok-patch.ensures.lookup.1 in
     let target =
-    ap (λ (p : StoredPatch). slice_get p.targets c.args.place) (sym c.patch-2.view_is) ∙ ap (λ ts. slice_get ts c.args.place) (sym c.deref.ensures.value)
+    ap (λ (p : StoredPatch). slice_get p.targets c.args.place) (sym c.patch-2.view_is) ∙ ap (λ ts. slice_get ts c.args.place) (sym c.deref.ensures)
     ∙ seen_here c.deref.result.now c.args.place c.args.place c.in_ok-target.target.now refl c.in_ok-target.ensures.lookup.3.0 c.in_ok-target.ensures.lookup.1
     in
     c.from_residual-in_err-place.ensures
@@ -31,7 +31,7 @@ returns c =
     position_from_yields_List (λ (w : Which). is_kind w c.args.which) _ _ _ c.in_ok-place.ensures.ran (YieldsList-from_slice kinds cc) (λ x b q k. search (rules, tests)) in
     let patch = seen_here c.args.patches.now c.from.result c.args.patch c.in_ok-patch.patch.now (c.from.ensures ∙ c.patch.view_is) c.in_ok-patch.ensures.lookup.3.0 c.in_ok-patch.ensures.lookup.1 in
     let target =
-    ap (λ (p : StoredPatch). slice_get p.targets c.args.place) (sym c.patch-2.view_is) ∙ ap (λ ts. slice_get ts c.args.place) (sym c.deref.ensures.value)
+    ap (λ (p : StoredPatch). slice_get p.targets c.args.place) (sym c.patch-2.view_is) ∙ ap (λ ts. slice_get ts c.args.place) (sym c.deref.ensures)
     ∙ seen_here c.deref.result.now c.args.place c.args.place c.in_ok-target.target.now refl c.in_ok-target.ensures.lookup.3.0 c.in_ok-target.ensures.lookup.1
     in
     sym (number_there c.args.patches.now c.args.patch c.args.place c.args.which c.in_ok-patch.patch.now c.in_ok-target.target.now patch target

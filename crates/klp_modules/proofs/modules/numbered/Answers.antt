@@ -16,9 +16,9 @@ loop-k-preserved c = λ given found.
 
 pub returns : goal.returns
 returns c = if_some (slice_get c.args.image.now.image.objects c.args.object) _ (λ given found.
-    let some : Some c.unwrap-k-end.result ≡ Some (length given.symbols) =
-    sym c.unwrap-k-end.ensures ∙ (c.symbols.ensures ∙ ap (option_map (λ (o : Object). length o.symbols)) found) in
-    let count : c.unwrap-k-end.result ≡ length given.symbols = cc some in
+    let some : Some c.unwrap-count.result ≡ Some (length given.symbols) =
+    sym c.unwrap-count.ensures ∙ (c.symbols.ensures ∙ ap (option_map (λ (o : Object). length o.symbols)) found) in
+    let count : c.unwrap-count.result ≡ length given.symbols = cc some in
     let past : length (map (λ (s : Symbol). s.name) given.symbols) ≤ c.loop-k.k =
     omega (arith, count, length-map given.symbols (λ (s : Symbol). s.name)) in
     let all = take_all c.loop-k.k (map (λ (s : Symbol). s.name) given.symbols) past in

@@ -22,7 +22,7 @@ loop-other-preserved g c =
     let lives : c.match-get-2.lives ≡ lives_with catalog c.args.patch other =
     elim c.match-get-2.branch [
       | in-Some-get w ↦ w.lives-is ∙ w.is_compatible_with_all-lives.ensures
-          ∙ ap (list_all (λ (s : SystemState). is_compatible_with c.in-Some.own.now.replace s (version_among s.id c.in-Some.own.now.states))) (w.deref.ensures.value ∙ ap (λ (p : StoredPatch). p.states) w.other.view_is)
+          ∙ ap (list_all (λ (s : SystemState). is_compatible_with c.in-Some.own.now.replace s (version_among s.id c.in-Some.own.now.states))) (w.deref.ensures ∙ ap (λ (p : StoredPatch). p.states) w.other.view_is)
           ∙ lives_by catalog c.args.patch other c.in-Some.own.now w.in-Some-get.other.now c.in-Some.ensures.found w.in-Some-get.ensures.found
       | in-None w ↦ w.lives-is ∙ sym (lives_with_none catalog c.args.patch other w.in-None.ensures.found)
     ]

@@ -7,7 +7,7 @@ use Rattle.klp_catalog.proofs.catalog.Catalog.target.Goals as goal
 pub returns : goal.returns
 returns g c =
     let here =
-    ap (λ (p : StoredPatch). slice_get p.targets c.args.number) (sym c.found.view_is) ∙ ap (λ ts. slice_get ts c.args.number) (sym c.deref.ensures.value)
+    ap (λ (p : StoredPatch). slice_get p.targets c.args.number) (sym c.found.view_is) ∙ ap (λ ts. slice_get ts c.args.number) (sym c.deref.ensures)
     ∙ seen_here c.deref.result.now c.from.result c.args.number c.in_ok-target.target.now c.from.ensures c.in_ok-target.ensures.lookup.3.0 c.in_ok-target.ensures.lookup.1
     in
     ap (λ (t : StoredTarget). Some t.object) c.target.view_is
