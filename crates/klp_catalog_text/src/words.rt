@@ -55,8 +55,9 @@ pub(crate) fn body(alloc: Global, word: &[u8]) -> Result<Vec<u8>, TextFaultKind>
     }
 }
 
-/// Reads the symbol of a `func` line. If a target is open, the symbol must be in the target's object. Every fault of
-/// the spelling is `BadSymbol`, since the spelling is one word (docs/DECISIONS.md, "The spelling of a symbol").
+/// Reads the symbol of a `func` line. If a target is open, the symbol must be in the target's object. The
+/// spelling is a single word of the line, so each of its faults is reported as `BadSymbol` (docs/DECISIONS.md, "The
+/// spelling of a symbol").
 pub(crate) fn symbol<'a>(
     target: Option<&str>,
     word: &'a [u8],

@@ -39,7 +39,7 @@ pub struct Unloadable<'a> {
     unpicked: Unpicked<'a>,
 }
 
-/// What the lines of a catalog have for the object and symbol of a spelling.
+/// What a search of a catalog's lines finds of the object and the symbol that a spelling names.
 #[derive(Clone, Copy)]
 struct Found<'a> {
     has_object: bool,

@@ -37,8 +37,8 @@ pub(crate) struct Calls {
     ran: Vec<Ran>,
 }
 
-/// Whether callbacks of this kind run while their patch is applied. The others run while it is removed. If one event
-/// applies a patch and removes another, those of the applied patch run first.
+/// Whether callbacks of this kind run when an event enables their patch. Callbacks of the other kinds run when an event
+/// disables it. If one event enables a patch and disables another, the callbacks of the former run first.
 fn comes(which: Which) -> bool {
     matches!(which, Which::Pre | Which::Post)
 }

@@ -43,8 +43,8 @@ fn each_state_is_handed_over(rt: HostRuntime) -> Result<(), Fail> {
 /// Lines that enable a patch and disable it again.
 const CYCLE: &[u8] = b"load p\npoll\necho 0 > /sys/kernel/livepatch/p/enabled\npoll\n";
 
-/// How often the cycle is done. Each time it adds 262 of 16,384 records. For each of the patch's 64 functions, its
-/// entry and its site have two each. The patch's place in the list has two, and the transition has four.
+/// How often the cycle is done. Each time it adds 262 of 16,384 records. For each of the patch's 64 functions,
+/// its entry adds two and its site adds two. The patch's place in the list adds two, and the transition adds four.
 const CYCLES: usize = 44;
 
 /// Lines in which a task enters the kernel and leaves it. Each line adds one record.

@@ -344,8 +344,8 @@ impl World {
 
     /// Restores the one row that the record names. A record of another part of the state changes nothing. If there is
     /// no room for a row, it isn't restored, so that the limits hold whatever the record is. A patch is removed only
-    /// when none of its states is left, since each state is a row of its own. Records that are put back newest first
-    /// meet neither case.
+    /// when none of its states is left, since each state is a row of its own. If records are put back newest first,
+    /// there is always room, and a patch that is removed has no states left.
     pub fn put_back(&mut self, row: Record)
         ensures { self.new ≡ put_back self.old row }
     {
