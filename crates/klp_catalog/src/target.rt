@@ -52,8 +52,8 @@ impl Model for CatalogTarget {
     ghost invariant = { λ t. (t.first + length t.kinds.items < 2 ^ 64) × (t.count ≡ length t.functions.value.items) };
 }
 
-/// Makes a target without functions and callbacks. It fills the unused elements of a patch's list; none of these is ever
-/// read.
+/// Makes a target without functions and callbacks. It fills the unused elements of a patch's list; none of these is
+/// ever read.
 impl MadeWith<Global> for CatalogTarget {
     fn made_with(alloc: Global) -> CatalogTarget {
         CatalogTarget {

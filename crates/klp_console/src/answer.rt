@@ -221,8 +221,7 @@ fn gather<W: Sink>(
 }
 
 /// Answers a line and counts it. A line that can be undone is done at once, and its answer is gathered behind the
-/// answers that aren't written yet. Before a line that can't be undone is done, all gathered
-/// answers are written.
+/// answers that aren't written yet. Before a line that can't be undone is done, all gathered answers are written.
 pub(crate) fn serve_line<W: Sink>(
     manager: &mut Manager,
     line: &[u8],

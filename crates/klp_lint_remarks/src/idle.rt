@@ -28,8 +28,8 @@ impl fmt::Display for IdleChange {
     }
 }
 
-/// Returns the system state of an edit that does nothing, whatever is installed, and why it does nothing. Returns `None`
-/// if the edit may do something.
+/// Returns the system state of an edit that does nothing, whatever is installed, and why it does nothing. Returns
+/// `None` if the edit may do something.
 fn idle_state(patch: &PlanPatch, patches: &[PlanPatch], edit: &Edit) -> Option<IdleChange> {
     match *edit {
         Edit::SetData(id, _) | Edit::TakePrev(id) if !names(patch, id) => Some(IdleChange {

@@ -37,8 +37,8 @@ pub(crate) struct Calls {
     ran: Vec<Ran>,
 }
 
-/// Whether callbacks of this kind run when an event enables their patch. Callbacks of the other kinds run when an event
-/// disables it. If one event enables a patch and disables another, the callbacks of the former run first.
+/// Whether callbacks of this kind run when an object is patched. The other two kinds run when it is unpatched. If one
+/// event does both, the callbacks of the objects that it patches run first.
 fn comes(which: Which) -> bool {
     matches!(which, Which::Pre | Which::Post)
 }

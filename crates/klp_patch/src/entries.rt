@@ -1,5 +1,5 @@
-//! The entries that a patch has on many sites: one for each of its functions and, if it is cumulative, its nops. They are
-//! put on function stacks, or taken out. `site_entry` changes the stack of one site.
+//! The entries that a patch has on many sites: one for each of its functions and, if it is cumulative, its nops. They
+//! are put on function stacks, or taken out. `site_entry` changes the stack of one site.
 ghost use Rattle.std.specs.Prelude.{◌≡◌, ℕ, ◌+◌, ◌<◌, ◌≤◌, ◌&&◌, ◌++◌, true, false, length, map, is_some};
 ghost use Rattle.std.specs.List.{All};
 ghost use Rattle.klp_types.specs.Setting.{function_for};

@@ -172,8 +172,8 @@ fn sleeping(stays: &[Option<Stay>]) -> usize
     count
 }
 
-/// Adds the tasks that hold the transition up, or sleep in code that isn't called now. Of the
-/// sentences that last to the end, the tasks of the first [`MAX_HOLDERS`] are named. Then comes the number of other tasks.
+/// Adds the tasks that hold the transition up, or sleep in code that isn't called now. Of the sentences that last to
+/// the end, the tasks of the first [`MAX_HOLDERS`] are named. Then comes the number of other tasks.
 fn add_all_sleepers(
     sheet: &mut Sheet,
     names: &Names,

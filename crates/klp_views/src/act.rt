@@ -25,8 +25,8 @@ fn fact_of(moving: &Option<Transition>, event: &Event, reply: &Reply) -> Option<
     }
 }
 
-/// Returns the effect of a line with this outcome, if views don't show that effect. `moving` is the transition before the
-/// line. The journal had `from` events before the line, and has `to` events after it.
+/// Returns the effect of a line with this outcome, if views don't show that effect. `moving` is the transition before
+/// the line. The journal had `from` events before the line, and has `to` events after it.
 pub fn act_of(moving: &Option<Transition>, outcome: &Outcome, from: u32, to: u32) -> Option<Fact>
     ensures { result ≡ act_of moving.now outcome.now from to }
 {
