@@ -179,8 +179,9 @@ fn module_moved(event: &Event) -> Option<ObjId>
     }
 }
 
-/// Appends the present row of a site to the list, which must have room. Does nothing without a site.
-#[inline(always)]
+/// Appends the present row of a site to the list, which must have room. Does nothing without a site. A function of its
+/// own keeps the machine's registers for one row.
+#[inline(never)]
 fn add_row<M: Machine>(machine: &M, site: Option<Site>, rows: &mut Vec<NewRow>)
     requires room { vec_len rows.old < vec_capacity rows.old }
     ensures rows { let managed = (M.journaled machine.now).managed in
