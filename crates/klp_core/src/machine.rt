@@ -110,10 +110,12 @@ impl Machine for Manager {
         self.sites()
     }
 
+    #[inline(always)]
     fn row(&self, site: Site) -> Option<SiteRow> {
         self.row(site)
     }
 
+    #[inline(always)]
     fn patch_state(&self, task: TaskId) -> Option<i8> {
         self.patch_state(task)
     }
@@ -130,6 +132,7 @@ impl Machine for Manager {
         self.functions(patch)
     }
 
+    #[inline(always)]
     fn site_of(&self, patch: PatchId, number: usize) -> Option<Site> {
         self.site_of(patch, number)
     }

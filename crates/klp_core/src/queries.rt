@@ -91,6 +91,7 @@ impl Manager {
 
     /// Returns the patch state of a task, -1 without a transition (`/proc/<pid>/patch_state`). Returns `None` if there
     /// is no such task.
+    #[inline(always)]
     pub fn patch_state(&self, task: TaskId) -> Option<i8>
         ensures { result ≡ option_map (λ (t : AnyTask). t.state) (task_at self.now.managed.state.tasks task) }
     {

@@ -65,6 +65,7 @@ impl Manager {
 
     /// Returns the two newest entries of a site with their addresses. A handler needs just these, so a call doesn't
     /// walk the stack. Returns `None` if the site isn't one of a loaded object.
+    #[inline(always)]
     pub fn row(&self, site: Site) -> Option<SiteRow>
         ensures { result ≡ row_of (setting_of self.now.managed) self.now.managed.state site }
     {
@@ -96,6 +97,7 @@ impl Manager {
 
     /// Returns the site that a patch's function replaces. `number` counts the patch's functions over all of its
     /// objects. Returns `None` if the object has no such symbol, or the patch no such function.
+    #[inline(always)]
     pub fn site_of(&self, patch: PatchId, number: usize) -> Option<Site>
         ensures { result ≡ option_and_then (λ (f : Function). f.site) (slice_get
             (functions_of (setting_of self.now.managed) patch) number) }
@@ -136,6 +138,7 @@ impl Manager {
     }
 
     /// Whether a site belongs to a loaded object. False for a site that doesn't exist.
+    #[inline(always)]
     fn is_site_loaded(&self, site: Site) -> bool
         ensures { result ≡ is_site_loaded (setting_of self.now.managed) self.now.managed.state site }
     {
@@ -146,6 +149,7 @@ impl Manager {
     }
 
     /// Returns the two newest entries of a site, and whether the patch of the newest is in transition.
+    #[inline(always)]
     fn word(&self, site: Site) -> SiteWord
         ensures { result ≡ word_of (moving_patch self.now.managed.state.moving) (entries_of
             (setting_of self.now.managed) self.now.managed.state site) }
@@ -156,6 +160,7 @@ impl Manager {
 
     /// Returns the address where a version begins, or `None` if there is no such version. An original begins behind its
     /// entry site, so that running it doesn't call the handler again.
+    #[inline(always)]
     fn begins_at(&self, version: &Version) -> Option<u64>
         ensures { result ≡ address_of (setting_of self.now.managed) version.now }
     {
@@ -175,6 +180,7 @@ impl Manager {
 
     /// Returns the address where a version begins, or 0 if there is no such version. The row of a loaded site has only
     /// versions that exist.
+    #[inline(always)]
     fn address(&self, version: Version) -> u64
         ensures { result ≡ unwrap_or (address_of (setting_of self.now.managed) version) 0 }
     {

@@ -21,6 +21,20 @@ use klp_model::laws::states_stay_allowed;
 use klp_types::{MAX_SITES, MAX_TASKS, ObjId, PatchId, Site, SiteRow, TaskId};
 use std::alloc::{AllocError, Global};
 
+/// Replaces a row. Mostly both are rows of loaded objects: then one is copied over the other as a whole.
+#[inline(always)]
+fn put_row(own: &mut Option<SiteRow>, row: &Option<SiteRow>)
+    ensures { own.new ≡ row.now }
+{
+    match own {
+        Some(whole) => match row {
+            Some(row) => *whole = *row,
+            None => *own = None,
+        },
+        None => *own = *row,
+    }
+}
+
 /// Sets these rows in the table, one after the other.
 fn put_rows(table: &mut [Option<SiteRow>; MAX_SITES], rows: &[NewRow])
     ensures { table.new ≡ with_rows table.old rows.now }
@@ -29,7 +43,7 @@ fn put_rows(table: &mut [Option<SiteRow>; MAX_SITES], rows: &[NewRow])
         let (site, row) = &rows[place];
         let site = usize::from(site.0);
         if site < MAX_SITES {
-            table[site] = *row;
+            put_row(&mut table[site], row);
         }
     }
 }
@@ -166,7 +180,9 @@ fn module_moved(event: &Event) -> Option<ObjId>
     }
 }
 
-/// Appends the present row of a site to the list, which must have room. Does nothing if `site` is `None`.
+/// Appends the present row of a site to the list, which must have room. Does nothing if `site` is `None`. It isn't inlined,
+/// so that the processor's registers serve one row.
+#[inline(never)]
 fn add_row<M: Machine>(machine: &M, site: Option<Site>, rows: &mut Vec<NewRow>)
     requires room { vec_len rows.old < vec_capacity rows.old }
     ensures rows { let managed = (M.journaled machine.now).managed in
@@ -175,7 +191,10 @@ fn add_row<M: Machine>(machine: &M, site: Option<Site>, rows: &mut Vec<NewRow>)
     ensures room { vec_capacity rows.new ≡ vec_capacity rows.old }
 {
     if let Some(site) = site {
-        rows.push_reserved((site, machine.row(site)));
+        match machine.row(site) {
+            Some(row) => rows.push_reserved((site, Some(row))),
+            None => rows.push_reserved((site, None)),
+        }
     }
 }
 
