@@ -11,9 +11,9 @@ use klp_types::PatchId;
 use klp_world::{MAX_EDITS, World};
 use std::marker::Model;
 
-/// A boxed callback. Its model is its script and its count of runs, which the callback reported when it was handed in.
-/// They are stored outside of the box, since contracts know nothing of a value inside of a box (docs/DECISIONS.md,
-/// "Models and boxes").
+/// A boxed callback. Its model is its script and its count of runs, as the callback reported them when the box was
+/// made. Script and count are stored outside of the box, since contracts know nothing of a value inside of a box
+/// (docs/DECISIONS.md, "Models and boxes").
 #[derive(Drop)]
 pub struct Boxed {
     counted: CountedBox,
@@ -28,7 +28,7 @@ impl Model for Boxed {
 }
 
 impl Boxed {
-    /// Makes a boxed callback. Reads the callback's script and count now, since a contract can't look into the box
+    /// Makes a boxed callback. The callback's script and count are read now, since a contract can't look into the box
     /// afterwards.
     pub fn new(callback: Box<dyn Callback>) -> Self
         ensures { result ≡ record { script = script_of callback; runs = runs_of callback } }
@@ -40,8 +40,8 @@ impl Boxed {
 
     /// Runs the callback for the patch, as [`Callback::run`] does, and returns the script's status.
     ///
-    /// Each run asks the callback for its script again, which costs one comparison of at most [`klp_world::MAX_EDITS`]
-    /// edits.
+    /// At each run, the callback's script is read again. Comparing it with the stored script costs at most
+    /// [`klp_world::MAX_EDITS`] comparisons of edits.
     pub fn run(&mut self, patch: PatchId, world: &mut World, log: &mut Records) -> i32
         requires room { HasRoom world.old log.old (alloc_count self.old.script.edits)
             (rows_of_script patch world.old self.old.script) }
@@ -61,8 +61,8 @@ impl Boxed {
         self.counted.allocs()
     }
 
-    /// Returns how many times the callback ran. The count stops at the greatest `u64`: no run is refused because of the
-    /// count.
+    /// Returns how many times the callback ran. The count stops at the greatest `u64`, so no run is refused because of
+    /// the count.
     pub fn runs(&self) -> u64
         ensures { result ≡ self.now.runs }
     {

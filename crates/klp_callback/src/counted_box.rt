@@ -12,8 +12,8 @@ use klp_world::{MAX_EDITS, Script, World};
 
 /// A callback in its box, with copies of the script and the count that the callback reported.
 ///
-/// A contract can't look into a box, so [`crate::Boxed`] shows these copies. Nothing outside this file can change them.
-/// Only [`CountedBox::run`] increases the count, and its contract says that the callback in the box ran too.
+/// A contract can't look into a box, so [`crate::Boxed`] shows these copies. Only code in this file can change the
+/// copies. Only [`CountedBox::run`] increases the count, and its contract says that the callback in the box ran too.
 #[derive(Drop)]
 pub(crate) struct CountedBox {
     script: Script,
@@ -22,8 +22,8 @@ pub(crate) struct CountedBox {
 }
 
 impl CountedBox {
-    /// Stores a callback, with copies of its script and its count. They are made here, where the callback's contract is
-    /// still known.
+    /// Stores a callback, with copies of its script and its count. The copies are made at this point because the
+    /// callback's contract is still known.
     pub(crate) fn new(callback: Box<dyn Callback>) -> Self
         ensures script { result.script ≡ script_of callback }
         ensures runs { result.runs ≡ runs_of callback }
@@ -35,8 +35,8 @@ impl CountedBox {
         }
     }
 
-    /// Runs the callback in the box, and returns the script's status. The callback is asked for its script again. By
-    /// the trait's contract this script is equal to the copy. If it weren't, the copy would run instead.
+    /// Runs the callback in the box, and returns the script's status. The callback's script is read again. By the
+    /// trait's contract it is equal to the stored copy. If it weren't equal, the stored copy would run instead.
     pub(crate) fn run(&mut self, patch: PatchId, world: &mut World, log: &mut Records) -> i32
         requires room { HasRoom world.old log.old (alloc_count self.old.script.edits)
             (rows_of_script patch world.old self.old.script) }
@@ -50,8 +50,8 @@ impl CountedBox {
             (rows_of_script patch world.old self.old.script) }
     {
         self.runs = self.runs.saturating_add(1);
-        // The contract of `new` isn't known here, so the scripts are compared (docs/DECISIONS.md, "The script of a
-        // boxed callback").
+        // The contract of `new` isn't known at this point, so the scripts are compared (docs/DECISIONS.md, "The script
+        // of a boxed callback").
         if is_same(self.callback.script(), &self.script) {
             self.callback.run(patch, world, log)
         } else {
@@ -59,7 +59,8 @@ impl CountedBox {
         }
     }
 
-    /// Returns how many edits of the script add a shadow variable. The script is read from the copy, not from the box.
+    /// Returns how many edits of the script add a shadow variable. The number is counted in the stored copy of the
+    /// script.
     pub(crate) fn allocs(&self) -> u16
         ensures value { result ≡ alloc_count self.now.script.edits }
         ensures limit { length self.now.script.edits ≤ MAX_EDITS }
@@ -67,7 +68,7 @@ impl CountedBox {
         allocs_of(&self.script)
     }
 
-    /// Returns how many times the callback ran, by the copy of the count. It stops at the greatest `u64`.
+    /// Returns how many times the callback ran, by the stored copy of the count. The count stops at the greatest `u64`.
     pub(crate) fn runs(&self) -> u64
         ensures { result ≡ self.now.runs }
     {

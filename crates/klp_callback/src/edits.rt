@@ -8,8 +8,8 @@ use klp_journal::Records;
 use klp_types::{Edit, PatchId};
 use klp_world::{MAX_EDITS, Script, World};
 
-/// Makes one edit for the patch. An edit can't fail: adding a variable that exists, or setting a state that the
-/// patch doesn't name, just changes nothing.
+/// Makes one edit for the patch. An edit can't fail. If it adds a variable that exists, or sets a state that the patch
+/// doesn't name, it changes nothing.
 fn make_edit(edit: &Edit, patch: PatchId, world: &mut World, log: &mut Records)
     requires room { HasRoom world.old log.old (alloc_count (edit.now ∷ [])) (rows_of_edit patch world.old edit.now) }
     ensures changes { Changes world.old world.new log.old log.new (edited patch world.old edit.now)
@@ -30,8 +30,8 @@ fn make_edit(edit: &Edit, patch: PatchId, world: &mut World, log: &mut Records)
     }
 }
 
-/// Sets the patch's state to its value in the newest older patch that names it. If no older patch names it, the state
-/// keeps its value.
+/// Sets the patch's state to the value that the state has in the newest older patch which names it. If no older patch
+/// names the state, it keeps its value.
 fn take_previous(patch: PatchId, id: u64, world: &mut World, log: &mut Records)
     requires { length (rows_of_edit patch world.old (Edit.TakePrev id)) ≤ spare_of log.old }
     ensures changes { Changes world.old world.new log.old log.new (edited patch world.old (Edit.TakePrev id))
@@ -44,7 +44,7 @@ fn take_previous(patch: PatchId, id: u64, world: &mut World, log: &mut Records)
     }
 }
 
-/// Makes edits one after another, each on the world that the ones before it left.
+/// Makes edits one after another. Each edit is made on the world that the earlier edits left.
 fn make_edits(edits: &[Edit], patch: PatchId, world: &mut World, log: &mut Records)
     requires room { HasRoom world.old log.old (alloc_count edits.now) (rows_of_edits patch world.old edits.now) }
     ensures world { world.new ≡ edited_by patch world.old edits.now }
@@ -73,8 +73,8 @@ pub fn run_script(script: &Script, patch: PatchId, world: &mut World, log: &mut 
     script.status
 }
 
-/// Returns how many edits of the script add a shadow variable. Edits that remove one aren't subtracted, since the
-/// room has to be there before any edit is made.
+/// Returns how many edits of the script add a shadow variable. Edits that remove a variable aren't subtracted, since
+/// the room must be there before any edit is made.
 pub fn allocs_of(script: &Script) -> u16
     ensures value { result ≡ alloc_count script.now.edits }
     ensures limit { length script.now.edits ≤ MAX_EDITS }

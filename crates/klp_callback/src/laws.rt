@@ -1,12 +1,13 @@
-//! What a callback's author can rely on for any scripts. A function here does nothing: its contract is the law.
+//! What an author of callbacks can rely on, whatever the scripts are. A function of this module does nothing: its
+//! contract is the law.
 ghost use Rattle.std.specs.Prelude.{◌≡◌, ℕ, Bool, ◌||◌, true, false};
 ghost use Rattle.klp_types.specs.declared.shadow.ShadowKey.{ShadowKey};
 ghost use Rattle.klp_types.specs.World.{World, variable};
 ghost use Rattle.klp_types.specs.Script.{Script, effect, touches, Undoes};
 
-/// A script changes no shadow variable that it doesn't touch. If one script undoes another, it still does so after a
-/// third script that touches none of their variables. So one callback keeps undoing another as long as no other
-/// callback touches their variables.
+/// A script changes no shadow variable that it doesn't touch. Suppose one script undoes another, and a third script
+/// touches none of their variables. Then the first script also undoes the second in the world that the third leaves. So
+/// two callbacks keep undoing each other as long as no other callback touches their variables.
 pub fn scripts_apart_still_undo_each_other()
     ensures alone { (patch : ℕ) (world : World) (script : Script) (key : ShadowKey) → touches script key ≡ false
         → variable (effect patch world script) key ≡ variable world key }

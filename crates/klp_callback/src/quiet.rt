@@ -7,7 +7,7 @@ use klp_types::PatchId;
 use klp_world::{Script, World};
 use std::marker::Model;
 
-/// A callback that edits nothing and succeeds. Use it if a callback is required but nothing has to happen.
+/// A callback that makes no edit and succeeds. It is for places where a callback is required but nothing has to happen.
 #[derive(Drop)]
 pub struct Quiet {
     /// The empty script, to which `script` returns a reference.

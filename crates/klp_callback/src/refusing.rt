@@ -7,8 +7,8 @@ use klp_types::PatchId;
 use klp_world::{Script, World};
 use std::marker::Model;
 
-/// A callback that edits nothing and returns a fixed status. As a pre-patch callback with a status other than 0 it
-/// refuses its patch.
+/// A callback that makes no edit and returns a fixed status. If the status isn't 0 and the callback is a pre-patch
+/// callback, it refuses its patch.
 #[derive(Drop)]
 pub struct Refusing {
     /// The script, which has the status and no edits. `script` returns a reference to it.

@@ -23,8 +23,7 @@ impl Model for Scripted {
 }
 
 impl Scripted {
-    /// Creates a callback that has never run, with this script. The callback owns the script, so the script can't
-    /// change.
+    /// Creates a callback that has never run, with this script. The callback owns the script, so nobody can change it.
     pub fn new(script: Script) -> Self
         ensures { result ≡ record { script = script; runs = 0 } }
     {

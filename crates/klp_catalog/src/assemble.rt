@@ -1,4 +1,4 @@
-//! Makes the patches of a catalog from those of a plan: functions get their sites, and callbacks their numbers.
+//! Makes the patches of a catalog from those of a plan. Functions get their sites, and callbacks get their numbers.
 
 ghost use Rattle.std.specs.Prelude.{◌≡◌, ◌+◌, ◌≤◌, ◌++◌, false, length, take, map, is_some, OnOk, IfOk, IfErr};
 ghost use Rattle.std.specs.List.{list_any, list_all};
@@ -27,14 +27,14 @@ use thiserror::Error;
 /// Why no catalog can be made of a plan. The numbers are this project's own, and don't change.
 #[derive(Clone, Copy, Debug, PartialEq, Eq, Error)]
 pub enum AssembleFault {
-    /// The number of callbacks isn't the number of scripts in the plan. This is checked first, since the callbacks are
-    /// made by the caller, so the text isn't at fault.
+    /// The number of callbacks isn't the number of scripts in the plan. This is checked first. The caller makes the
+    /// callbacks, so the text isn't at fault.
     #[error("WrongCallbacks")]
     WrongCallbacks = 1,
-    /// A patch has two functions for one site, of which only one could run.
+    /// A patch has two functions for one site. Only one of the two could run.
     #[error("SameSite")]
     SameSite = 2,
-    /// Memory ran out. This may be reported in place of the other faults.
+    /// Memory ran out. This fault may be reported in place of any other fault.
     #[error("NoMemory")]
     NoMemory = 3,
 }
@@ -55,8 +55,8 @@ impl<T: Drop> From<AllocFailed<T>> for AssembleFault {
     }
 }
 
-/// Returns how many symbols each object has, by the object's number. The result has only objects that an `ObjId` can
-/// number. The catalog stores the counts, so that boot can compare them with the image's.
+/// Returns how many symbols each object has, by the object's number. The result has only objects whose numbers fit in
+/// an `ObjId`. The catalog stores these counts, so that boot can compare them with the image's counts.
 pub(crate) fn symbol_counts(alloc: Global, modules: &Modules) -> Result<Vec<u16>, AllocError>
     ensures { IfOk result (λ counts. counts.items ≡ take 256 (map symbol_count modules.now.names)) }
 {
@@ -91,8 +91,8 @@ fn resolve(modules: &Modules, object: ObjId, function: PlanFunction) -> CatalogF
     }
 }
 
-/// Resolves the functions of an object, and appends them to `functions`: a patch's functions are numbered over all
-/// its objects.
+/// Resolves the functions of an object, and appends them to `functions`. A patch's functions are numbered over all its
+/// objects, so there is one list for all of them.
 fn push_functions(
     modules: &Modules,
     object: ObjId,
@@ -109,8 +109,8 @@ fn push_functions(
     Ok(())
 }
 
-/// Returns the kinds of the callbacks, in order. These kinds and the number of the first callback determine the number
-/// of each callback.
+/// Returns the kinds of the callbacks, in order. The number of each callback follows from its place in this list and
+/// the number of the first callback.
 fn kinds_of(alloc: Global, callbacks: &[PlanCallback]) -> Result<Kinds, AllocError>
     ensures { IfOk result (λ kinds. kinds.items ≡ map (λ (c : CallbackValue). c.which) callbacks.now) }
 {
@@ -121,7 +121,7 @@ fn kinds_of(alloc: Global, callbacks: &[PlanCallback]) -> Result<Kinds, AllocErr
     Ok(kinds)
 }
 
-/// Whether both functions have the same site. False if one of them has no site.
+/// Whether both functions have the same site. False if one of the functions has no site.
 fn is_same_site(one: Option<Site>, other: Option<Site>) -> bool
     ensures { result ≡ catalog.is_same_site one other }
 {
@@ -140,7 +140,7 @@ fn is_among(site: Option<Site>, functions: &[CatalogFunction]) -> bool
         .any(|function| is_same_site(site, function.site))
 }
 
-/// Whether two of the functions are for one site. It compares each pair, since there are at most 64 functions
+/// Whether two of the functions are for one site. There are at most 64 functions, so each pair is compared
 /// (docs/DECISIONS.md, "Functions by pairs").
 fn has_same_site(functions: &[CatalogFunction]) -> bool
     ensures { result ≡ catalog.has_same_site functions.now }
@@ -162,8 +162,8 @@ fn all_have_sites(functions: &[CatalogFunction]) -> bool
     functions.iter().all(|function| function.site.is_some())
 }
 
-/// Makes an object of a patch, and takes the next numbers for its callbacks. The object's functions are appended to
-/// `functions`, the one list of all functions of the patch.
+/// Makes an object of a patch, and assigns the next numbers to the object's callbacks. The object's functions are
+/// appended to `functions`, the one list of all functions of the patch.
 fn assemble_target(
     alloc: Global,
     modules: &Modules,
@@ -198,7 +198,7 @@ fn assemble_target(
     })
 }
 
-/// Makes a patch: resolves its functions, and gives numbers to its callbacks.
+/// Makes a patch: resolves its functions, and assigns numbers to its callbacks.
 fn assemble_patch(
     alloc: Global,
     modules: &Modules,
@@ -233,11 +233,11 @@ fn assemble_patch(
     })
 }
 
-/// Makes the patches in order: resolves the functions of each patch, and gives numbers to its callbacks. `callbacks` is
-/// how many callbacks the caller has.
+/// Makes the patches in order: resolves the functions of each patch, and assigns numbers to its callbacks. `callbacks`
+/// is how many callbacks the caller has.
 ///
-/// Two functions for one site are reported only when all numbers are given out, since a wrong number of callbacks is
-/// the first fault to report.
+/// A wrong number of callbacks must be reported before two functions for one site. So two functions for one site are
+/// reported only when all numbers are assigned.
 pub(crate) fn assemble_patches(
     alloc: Global,
     modules: &Modules,
@@ -257,13 +257,13 @@ pub(crate) fn assemble_patches(
     let mut patches = Vec::with_capacity(alloc, given.len())?;
     for patch in given {
         let assembled = assemble_patch(alloc, modules, patch, &mut numbers)?;
-        // A function whose symbol isn't resolved has no site, so it has none in common with another function
+        // A function whose symbol isn't resolved has no site. So it can't have the same site as another function
         // (docs/DECISIONS.md, "Functions without a site").
         same_site |= has_same_site(&assembled.functions);
         patches.push(assembled)?;
     }
-    // Only now is it known whether there are too many callbacks. This fault is reported before that of two functions
-    // for one site (docs/DECISIONS.md, "`WrongCallbacks` before `SameSite`").
+    // Only at this point is it known whether there are too many callbacks. Too many callbacks are reported before two
+    // functions for one site (docs/DECISIONS.md, "`WrongCallbacks` before `SameSite`").
     if numbers.next < callbacks {
         return Err(AssembleFault::WrongCallbacks);
     }

@@ -41,20 +41,20 @@ use std::alloc::Global;
 use std::marker::Model;
 use std::snapshot::Snapshot;
 
-/// The patches of a plan, over the objects of a kernel. Each function's name and position are resolved to a site
-/// once, so no event looks a name up.
+/// The patches of a plan, for the objects of a kernel. The name and position of each function are resolved to a site
+/// only once, so no event looks a name up.
 ///
-/// Patches are numbered from 0, in the order of the text. The names of the objects and of their symbols aren't
-/// stored: only contracts know them. Only `read` and `assemble` take memory.
+/// Patches are numbered from 0, in the order of the text. The names of the objects and of their symbols aren't stored,
+/// and only contracts know them. Only `read` and `assemble` take memory.
 #[derive(Drop)]
 pub struct Catalog {
-    /// The modules for which the catalog was assembled, as they were then. A snapshot takes no memory: only
-    /// contracts use the names (docs/DECISIONS.md, "Names of objects and symbols").
+    /// The modules for which the catalog was assembled, as they were at that time. This is a snapshot, which takes no
+    /// memory: only contracts use the names (docs/DECISIONS.md, "Names of objects and symbols").
     over: Snapshot<Modules>,
-    /// By object, how many symbols it has. Boot compares these counts with those of the image.
+    /// By object, how many symbols the object has. Boot compares these counts with those of the image.
     symbols: Vec<u16>,
     patches: Vec<CatalogPatch>,
-    /// The callbacks of all patches, in the order of the text. This is the caller's list, as it was handed in.
+    /// The callbacks of all patches, in the order of the text. This is the list that the caller passed to `assemble`.
     callbacks: Vec<Boxed>,
 }
 
@@ -79,11 +79,12 @@ impl Catalog {
     /// Reads a whole text into a plan, in time linear in its length.
     ///
     /// `Err` has the first faulty line. If no line is faulty but the text has no handler or no object, the fault is
-    /// `Missing` at line 0. `NoMemory` may be reported in place of any of these, at the line where memory ran out.
+    /// `Missing` at line 0. `NoMemory` may be reported in place of any other fault, at the line where memory ran out.
     pub fn read(alloc: Global, text: &[u8]) -> Result<Plan, TextFault>
         ensures plan { IfOk result (λ plan. plan_of text.now ≡ Ok plan) }
-        // `assemble` requires that the targets of a plan are objects of the image. This clause shows it, although the
-        // objects are taken out of the plan in between (docs/DECISIONS.md, "The targets of a plan").
+        // `assemble` requires that the targets of a plan are objects of the image. Before `assemble` is called, the
+        // objects are moved out of the plan. This clause still shows that the targets are among them
+        // (docs/DECISIONS.md, "The targets of a plan").
         ensures targets { IfOk result (λ plan. AreTargetsWithin (length plan.objects) plan.patches) }
         ensures fault { IfErr result (λ fault. IsFaultOf text.now fault.line fault.kind) }
     {
@@ -91,15 +92,15 @@ impl Catalog {
     }
 
     /// Makes a catalog of a plan. `modules` are those of the image that is made of the plan's objects. The call doesn't
-    /// read the plan's handler or objects. On a fault it drops the plan.
+    /// read the plan's handler or objects. If there is a fault, the plan is dropped.
     ///
     /// Each function is resolved once, and compared with the other functions of its patch. If a function's symbol isn't
-    /// found, the function has no site. This is no fault, since its module may never be loaded.
+    /// found, the function has no site. A missing symbol is no fault, since the function's module may never be loaded.
     ///
     /// There must be one callback for each script of the plan, in the order of the text. If a callback's script differs
-    /// from that of the text, the callback's counts, so that `patches_of` has what will run (docs/DECISIONS.md,
-    /// "Scripts by the callbacks"). The callbacks are boxed already, because no box is made here (docs/DECISIONS.md,
-    /// "Callbacks in their boxes").
+    /// from that of the text, `patches_of` has the callback's script, since that is the one that will run
+    /// (docs/DECISIONS.md, "Scripts by the callbacks"). The caller boxes the callbacks, because the catalog makes no
+    /// box (docs/DECISIONS.md, "Callbacks in their boxes").
     pub fn assemble(
         alloc: Global,
         modules: &Modules,
@@ -134,14 +135,15 @@ impl Catalog {
     pub fn patches(&self) -> u8
         ensures count { result ≡ length self.now.patches }
         ensures limit { result ≤ MAX_PATCHES }
-        // Every patch keeps to these limits, so callers know beforehand how much room the records of a patch need.
+        // Every patch is within these limits, so callers know beforehand how much room the records of a patch need.
         ensures limits { AreWithin self.now.patches }
     {
         self.patches.len() as u8
     }
 
     /// Returns the patch with this number (the kernel's `struct klp_patch *`). Returns `None` if there is no such
-    /// patch. A caller that needs several facts of a patch calls this once, and reads the facts from the result.
+    /// patch. A caller that needs several facts of a patch calls this function once, and reads the facts from the
+    /// result.
     pub fn get(&self, patch: PatchId) -> Option<&CatalogPatch>
         ensures found { MatchOption result (IsAbsent self.now patch) (λ found. IsPatch self.now patch found.now) }
         ensures keeps { KeepsTo self.now patch }
@@ -150,16 +152,16 @@ impl Catalog {
         self.patches.get(usize::from(number))
     }
 
-    /// Whether a patch can be installed beside the `installed` ones (the kernel's `klp_is_patch_compatible`). For each
-    /// system state of each installed patch, the patch must name the state with the same or a higher version. A patch
-    /// that isn't cumulative may also leave the state out (system-state).
+    /// Whether a patch can be installed beside the `installed` patches (the kernel's `klp_is_patch_compatible`). For
+    /// each system state of each installed patch, the patch must name the state with the same or a higher version. A
+    /// patch that isn't cumulative may also leave the state out (system-state).
     pub fn is_compatible(&self, patch: PatchId, installed: &[PatchId]) -> bool
         requires patch { patch < length self.now.patches }
         requires installed { All (λ other. other < length self.now.patches) installed.now }
         ensures { result ≡ states.is_compatible self.now patch installed.now }
     {
         let Some(own) = self.get(patch) else {
-            // Not reached, by the precondition.
+            // The precondition excludes this case.
             return false;
         };
         for &other in installed {
@@ -174,9 +176,9 @@ impl Catalog {
         true
     }
 
-    /// Returns the newest patch that was installed before this one and names the state. `installed` has the oldest
-    /// first. If the patch isn't in it, all of its patches count as installed before, since this patch would be the
-    /// newest. (The rule is this project's own.)
+    /// Returns the newest patch that was installed before `patch` and names the state. `installed` has the oldest patch
+    /// first. If `patch` isn't in `installed`, all patches in `installed` count, since `patch` would be installed after
+    /// them. (The rule is this project's own.)
     pub fn previous_state(&self, patch: PatchId, id: u64, installed: &[PatchId]) -> Option<PatchId>
         requires patch { patch < length self.now.patches }
         requires installed { All (λ other. other < length self.now.patches) installed.now }
@@ -185,7 +187,7 @@ impl Catalog {
         patch::previous_state(&self.patches, patch, id, installed)
     }
 
-    /// Returns how many symbols an object has, by the names for which the catalog was assembled. Returns `None` if
+    /// Returns how many symbols an object has, by the names with which the catalog was assembled. Returns `None` if
     /// there is no such object.
     pub fn symbols(&self, object: ObjId) -> Option<u16>
         ensures { result ≡ option_map (λ (found : ObjectNames). length found.symbols)
@@ -196,7 +198,7 @@ impl Catalog {
     }
 
     /// Returns the number of the patch with this name. Returns `None` if there is no such patch. The name is compared
-    /// with that of each patch, of which there are at most [`MAX_PATCHES`](klp_types::MAX_PATCHES).
+    /// with the name of each patch. There are at most [`MAX_PATCHES`](klp_types::MAX_PATCHES) patches.
     pub fn patch(&self, name: &str) -> Option<PatchId>
         ensures { result ≡ position (bytes_eq name.now) (patch_names_of self.now.patches) }
     {
@@ -212,8 +214,8 @@ impl Catalog {
         Some(found.name.as_str())
     }
 
-    /// Returns whether a patch is cumulative, so that it replaces all older ones (cumulative-patches). Returns `None`
-    /// if there is no such patch.
+    /// Returns whether a patch is cumulative. A cumulative patch replaces all older patches (cumulative-patches).
+    /// Returns `None` if there is no such patch.
     pub fn replaces(&self, patch: PatchId) -> Option<bool>
         ensures { result ≡ option_map (λ (found : PatchValue). found.replace) (slice_get self.now.patches patch) }
     {
@@ -243,8 +245,8 @@ impl Catalog {
         }
     }
 
-    /// Returns an object that a patch changes: the one at this index among the patch's objects, from 0. Callbacks are
-    /// run by the same index. Returns `None` if there is no such patch or index.
+    /// Returns one of the objects that a patch changes. `number` is its index among these objects, from 0. `run` uses
+    /// the same index. Returns `None` if there is no such patch or index.
     pub fn target(&self, patch: PatchId, number: u8) -> Option<ObjId>
         ensures { result ≡ option_map (λ (found : PatchObject). found.object) (slice_get
             (objects_at self.now patch) number) }
@@ -258,7 +260,7 @@ impl Catalog {
     /// change the object. No patch changes an object twice.
     pub fn place(&self, patch: PatchId, object: ObjId) -> Option<u8>
         ensures place { result ≡ place_of object (objects_at self.now patch) }
-        // So an object has only one index, and walking over the indexes visits each object once.
+        // Since no object has two indexes, walking over the indexes visits each object once.
         ensures once { count_by (λ (found : PatchObject). found.object == object) (objects_at self.now patch) ≤ 1 }
     {
         let found = self.get(patch)?;
@@ -279,7 +281,7 @@ impl Catalog {
 
     /// Runs a patch's callback of this kind for one of its objects, and returns the callback's status. `place` is the
     /// object's index in the patch, from 0. Returns `None` if the patch has no such callback. The call takes no memory
-    /// (callbacks). A walk over a patch's objects has the index anyway, so no object is looked up (docs/DECISIONS.md,
+    /// (callbacks). A walk over a patch's objects knows the index, so no object is looked up (docs/DECISIONS.md,
     /// "Callbacks by place").
     pub fn run(
         &mut self,
@@ -302,8 +304,9 @@ impl Catalog {
         Some(self.callbacks[number].run(patch, world, log))
     }
 
-    /// Whether the patch has a callback for one of its objects, loaded or not. Most patches have none, so who asks
-    /// this first saves a look-up for each object and kind. The cost is a look at each object of the patch.
+    /// Whether the patch has a callback for one of its objects, loaded or not. Most patches have no callback. So a
+    /// caller that checks this first saves a look-up for each object and kind. The check reads each object of the
+    /// patch.
     pub fn has_callbacks(&self, patch: PatchId) -> bool
         ensures { result ≡ has_callbacks self.now patch }
     {
@@ -325,7 +328,7 @@ impl Catalog {
     pub fn allocs(&self, patch: PatchId, place: u8, which: Which) -> u16
         ensures value { result ≡ allocs_if (script_at self.now patch place which) }
         ensures limit { result ≤ MAX_EDITS }
-        // So a run logs few rows.
+        // Since a script has few edits, a run logs few rows.
         ensures edits { IfSome (script_at self.now patch place which) (λ script. length script.edits ≤ MAX_EDITS) }
     {
         match patch::number_of(&self.patches, patch, usize::from(place), which) {
@@ -334,8 +337,8 @@ impl Catalog {
         }
     }
 
-    /// Returns how often the callback of this kind ran for this object; the count stops at the greatest `u64`. Returns
-    /// `None` if the patch has no such callback, which is different from one that never ran.
+    /// Returns how often the callback of this kind ran for this object. The count stops at the greatest `u64`. Returns
+    /// `None` if the patch has no such callback. For a callback that never ran, returns 0.
     pub fn callback_runs(&self, patch: PatchId, object: ObjId, which: Which) -> Option<u64>
         ensures runs { result ≡ callback_runs self.now patch object which }
         ensures there { is_some result
@@ -347,11 +350,11 @@ impl Catalog {
         Some(self.callbacks[number].runs())
     }
 
-    /// Returns the new functions of a patch, over all its objects in order. A function's index in this list is its
+    /// Returns the new functions of a patch, for all its objects in order. A function's index in this list is its
     /// number in versions and entries. The result is empty if there is no such patch.
     pub fn functions(&self, patch: PatchId) -> &[CatalogFunction]
         ensures functions { result.now ≡ catalog_functions self.now patch }
-        // The manager relies on this when it puts the functions' entries on sites.
+        // The manager relies on this clause when it puts the functions' entries on sites.
         ensures setting { map setting_function result.now
             ≡ all_functions (patch_objects (slice_get (patches_of self.now) patch)) }
         ensures in_object { All (LiesInObject self.now.names) result.now }
@@ -364,8 +367,8 @@ impl Catalog {
         }
     }
 
-    /// Returns a new function of a patch: its site, if it has one, its name and its address. `number` is its index over
-    /// all objects of the patch, from 0. Returns `None` if there is no such function.
+    /// Returns a new function of a patch: its site, if it has one, its name and its address. `number` is the function's
+    /// index over all objects of the patch, from 0. Returns `None` if there is no such function.
     pub fn function(&self, patch: PatchId, number: u16) -> Option<(Option<Site>, &str, u64)>
         ensures { option_map {U = Option ℕ × List ℕ × ℕ} (λ f. (f.0, f.1.now, f.2)) result
             ≡ option_map new_function_of (slice_get (catalog_functions self.now patch) number) }
@@ -374,9 +377,10 @@ impl Catalog {
         Some((function.site(), function.new_name(), function.address()))
     }
 
-    /// Returns the symbol that a new function replaces: its object, its name, and its position among the symbols of
-    /// that name, from 1. Position 0 means that the name must be unique in the object (livepatch, Metadata). `number`
-    /// is the function's index over all objects of the patch, from 0. Returns `None` if there is no such function.
+    /// Returns the symbol that a new function replaces: its object, its name, and its position, from 1, among the
+    /// object's symbols of that name. Position 0 means that only one symbol of the object may have the name (livepatch,
+    /// Metadata). `number` is the function's index over all objects of the patch, from 0. Returns `None` if there is no
+    /// such function.
     pub fn function_name(&self, patch: PatchId, number: u16) -> Option<(ObjId, &str, u32)>
         ensures { option_map {U = ℕ × List ℕ × ℕ} (λ f. (f.0, f.1.now, f.2)) result
             ≡ option_map (λ (f : FunctionValue). (f.object, f.symbol, f.sympos)) (slice_get
@@ -387,7 +391,7 @@ impl Catalog {
     }
 }
 
-/// Returns the count at this index. Returns `None` if there is none.
+/// Returns the count at this index. Returns `None` if there is no such index.
 fn count_at(counts: &[u16], number: u8) -> Option<u16>
     ensures { result ≡ slice_get counts.now number }
 {

@@ -3,7 +3,7 @@ ghost use Rattle.std.specs.Prelude.{◌≡◌};
 use klp_types::{ObjId, Site};
 use std::marker::Model;
 
-/// A new function of a catalog's patch: what its line says, and the site of the symbol that it replaces.
+/// A new function of a catalog's patch: the content of its line, and the site of the symbol that the function replaces.
 #[derive(Drop)]
 pub struct CatalogFunction {
     pub(crate) object: ObjId,
@@ -38,23 +38,23 @@ impl CatalogFunction {
         self.object
     }
 
-    /// Returns the name of the symbol that the function replaces. It is stored so that the console can print it.
+    /// Returns the name of the symbol that the function replaces. The name is stored so that the console can print it.
     pub fn symbol(&self) -> &str
         ensures { result.now ≡ self.now.symbol }
     {
         self.symbol.as_str()
     }
 
-    /// Returns the position of that symbol among the object's symbols of the same name, from 1. 0 means that the name
-    /// must be unique in the object (livepatch, Metadata).
+    /// Returns the position of the replaced symbol among the object's symbols of the same name, from 1. 0 means that
+    /// only one symbol of the object may have the name (livepatch, Metadata).
     pub fn sympos(&self) -> u32
         ensures { result ≡ self.now.sympos }
     {
         self.sympos
     }
 
-    /// Returns the site of that symbol. Returns `None` if the object has no such symbol, or if it has several and the
-    /// position is 0. Then the patch can't be enabled while the object is loaded.
+    /// Returns the site of the replaced symbol. Returns `None` if the object has no such symbol, or if it has several
+    /// and the position is 0. If the function has no site, the patch can't be enabled while the object is loaded.
     pub fn site(&self) -> Option<Site>
         ensures { result ≡ self.now.site }
     {

@@ -1,5 +1,5 @@
-//! What is proved of the sites of functions, and of the counts of callbacks. A function here does nothing: its
-//! contract is the law.
+//! What is proved of the sites of functions, and of the counts of callbacks. A function of this module does nothing:
+//! its contract is the law.
 ghost use Rattle.std.specs.Prelude.{◌≡◌, ℕ, List, Some, option_map};
 ghost use Rattle.klp_types.specs.Image.{Object, object_of};
 ghost use Rattle.klp_types.specs.declared.callback.Which.{Which};
@@ -10,16 +10,16 @@ ghost use Rattle.klp_catalog.specs.Catalog.{Catalog, site_of};
 ghost use Rattle.klp_catalog.specs.Runs.{objects_at, place_of, after_runs, runs_of, callback_runs, RunsAddUp};
 ghost use Rattle.klp_catalog.specs.Counts.{times, grown};
 
-/// The site that a function's name and position pick is in the object that the function is for. The consistency of
-/// tasks needs this: no function outlives its site.
+/// The site that a function's name and position pick is in the function's object. The consistency of tasks needs this
+/// law, since by it no function outlives its site.
 pub fn sites_lie_in_their_objects()
     ensures { (objects : List Object) (object : ℕ) (function : PlanFunction) (site : ℕ)
         → site_of (names_of objects) object function ≡ Some site → object_of objects site ≡ Some object }
 {}
 
-/// When these callbacks have run, each callback's count has grown by the number of times that the callback is in the
-/// list; it stops at the greatest `u64`. Other counts, patches, scripts and names don't change. The clause `looks` says
-/// the same of `callback_runs`, which takes the object's number instead of its index in the patch.
+/// When a list of callbacks has run, each callback's count has grown by the number of times that the callback is in the
+/// list. A count stops at the greatest `u64`. Other counts, patches, scripts and names don't change. The clause `looks`
+/// says the same of `callback_runs`, which is given the object's number instead of its index in the patch.
 pub fn counts_grow_by_runs()
     ensures counts { (catalog : Catalog) (calls : List Call) (patch place : ℕ) (which : Which)
         → runs_of (after_runs catalog calls) patch place which ≡ option_map (grown (times patch place which calls))
@@ -32,8 +32,8 @@ pub fn counts_grow_by_runs()
     ensures patches { (catalog : Catalog) (calls : List Call) → (after_runs catalog calls).patches ≡ catalog.patches }
 {}
 
-/// Two lists of runs, one after the other, increase the counts as the joined list does, and the empty list changes
-/// nothing. So the runs of a walk over callbacks can be described as one list.
+/// Two lists of runs, one after the other, increase the counts as the joined list does. The empty list changes nothing.
+/// So the runs of a walk over callbacks can be described as one list.
 pub fn runs_add_up()
     ensures { RunsAddUp }
 {}

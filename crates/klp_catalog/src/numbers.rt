@@ -3,19 +3,19 @@ ghost use Rattle.klp_catalog.specs.Assembled.{IsShort};
 
 use crate::assemble::AssembleFault;
 
-/// The callback numbers that aren't assigned yet. The callbacks themselves aren't moved, since contracts forget what
-/// they know of a box that is moved.
+/// The callback numbers that aren't assigned yet. The callbacks themselves aren't moved, since contracts know nothing
+/// of a box after it was moved.
 #[derive(Drop)]
 pub(crate) struct Numbers {
     pub(crate) next: usize,
-    /// One more than the last number. If there are too few callbacks, the numbers run out; if there are too many, some
-    /// are left.
+    /// One more than the last number. If the caller passed too few callbacks, the numbers run out. If the caller passed
+    /// too many, some numbers are left.
     pub(crate) end: usize,
 }
 
 impl Numbers {
-    /// Takes the next `wanted` numbers, and returns the first. The callbacks of an object have consecutive numbers, so
-    /// the first is enough. Returns `Err` if there are too few left.
+    /// Assigns the next `wanted` numbers, and returns the first of them. The callbacks of an object have consecutive
+    /// numbers, so the first number is enough. Returns `Err` if fewer than `wanted` numbers are left.
     pub(crate) fn take(&mut self, wanted: usize) -> Result<usize, AssembleFault>
         requires { self.old.next ≤ self.old.end }
         ensures first { IfOk result (λ first. first ≡ self.old.next) }

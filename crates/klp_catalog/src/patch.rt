@@ -22,9 +22,10 @@ pub struct CatalogPatch {
     pub(crate) replace: bool,
     /// The objects that the patch changes, in the order of the text.
     pub(crate) targets: Targets,
-    /// The new functions for all these objects, in order. A function's index is its number in versions and entries.
+    /// The new functions of all these objects, in order. A function's index is its number in versions and entries.
     pub(crate) functions: Vec<CatalogFunction>,
-    /// Whether every function has a site. It is computed once, since it is needed each time the patch is enabled.
+    /// Whether every function has a site. The field is computed once, since it is needed each time the patch is
+    /// enabled.
     pub(crate) names_sites: bool,
     pub(crate) states: PlanStates,
 }
@@ -49,30 +50,29 @@ impl Model for CatalogPatch {
 }
 
 impl CatalogPatch {
-    /// Whether the patch replaces all older ones (cumulative-patches).
+    /// Whether the patch replaces all older patches (cumulative-patches).
     pub fn is_cumulative(&self) -> bool
         ensures { result ≡ self.now.replace }
     {
         self.replace
     }
 
-    /// Returns the new functions, over all objects in order. A function's index is its number in versions and
-    /// entries.
+    /// Returns the new functions, for all objects in order. A function's index is its number in versions and entries.
     pub fn functions(&self) -> &[CatalogFunction]
         ensures { result.now ≡ self.now.functions }
     {
         &self.functions
     }
 
-    /// Whether every function has a site. If so, no function prevents the enabling of the patch.
+    /// Whether every function has a site. If so, no function is a reason to refuse enabling the patch.
     pub fn names_sites(&self) -> bool
         ensures { result ≡ list_all (λ (f : FunctionValue). is_some f.site) self.now.functions }
     {
         self.names_sites
     }
 
-    /// Returns the objects that the patch changes, in the order of the text. The patch's functions are in the same
-    /// order: those of an object come after the functions of all objects before it.
+    /// Returns the objects that the patch changes, in the order of the text. The patch's functions are in the order of
+    /// these objects.
     pub fn targets(&self) -> &[CatalogTarget]
         ensures { result.now ≡ self.now.targets }
     {
@@ -86,8 +86,8 @@ impl CatalogPatch {
         self.targets.iter().any(|target| !target.kinds.is_empty())
     }
 
-    /// Copies the ids of the system states that the patch names, in the order of the text (system-state). The
-    /// result is an array, since enabling a patch takes no memory.
+    /// Copies the ids of the system states that the patch names, in the order of the text (system-state). The result is
+    /// an array, since enabling a patch takes no memory.
     pub(crate) fn state_ids(&self) -> ArrayVec<u64, MAX_STATES>
         requires { length self.now.states ≤ MAX_STATES }
         ensures { result.items ≡ map (λ (s : StateValue). s.id) self.now.states }
@@ -99,9 +99,9 @@ impl CatalogPatch {
         ids
     }
 
-    /// Whether the patch can be installed beside a patch with these system states. It must name each of these states
-    /// with the same or a higher version. Only a patch that isn't cumulative may leave a state out, since a cumulative
-    /// patch takes over all states.
+    /// Whether the patch can be installed beside a patch with these system states. The patch must name each of these
+    /// states with the same or a higher version. Only a patch that isn't cumulative may leave a state out. A cumulative
+    /// patch takes over all states, so it must name them all.
     pub(crate) fn is_compatible_with_all(&self, states: &[SystemState]) -> bool
         ensures { result ≡ list_all (λ (s : StateValue). compatible.is_compatible_with self.now.replace s
             (compatible.version_among s.id self.now.states)) states.now }
@@ -110,8 +110,8 @@ impl CatalogPatch {
     }
 }
 
-/// Returns the number of the patch with this name. Returns `None` if there is none. There are few patches, so the name
-/// is compared with each (docs/DECISIONS.md, "Names by comparison").
+/// Returns the number of the patch with this name. Returns `None` if there is no such patch. There are few patches, so
+/// the name is compared with the name of each (docs/DECISIONS.md, "Names by comparison").
 pub(crate) fn with_name(patches: &[CatalogPatch], name: &str) -> Option<usize>
     ensures { result ≡ position (bytes_eq name.now) (map (λ (p : StoredPatch). p.name) patches.now) }
 {
@@ -152,7 +152,8 @@ fn states_of(patches: &[CatalogPatch], patch: PatchId) -> &[SystemState]
     }
 }
 
-/// Returns the version with which the states name this id. Returns `None` if they don't. Each id is named at most once.
+/// Returns the version with which the states name this id. Returns `None` if no state has the id. Each id is named at
+/// most once.
 fn version_among(id: u64, states: &[SystemState]) -> Option<u32>
     ensures { result ≡ compatible.version_among id states.now }
 {
@@ -160,8 +161,8 @@ fn version_among(id: u64, states: &[SystemState]) -> Option<u32>
     Some(state.version)
 }
 
-/// Whether a patch with the states `own` can be installed beside a patch with the state `state`. The first patch must
-/// name this state with the same or a higher version. Only a patch that isn't cumulative may leave the state out.
+/// Whether a patch with the states `own` can be installed beside a patch with the state `state`. `own` must name
+/// `state` with the same or a higher version. Only a patch that isn't cumulative may leave the state out.
 fn is_compatible_with(replace: bool, own: &[SystemState], state: SystemState) -> bool
     ensures { result ≡ compatible.is_compatible_with replace state (compatible.version_among state.id own.now) }
 {
@@ -171,8 +172,8 @@ fn is_compatible_with(replace: bool, own: &[SystemState], state: SystemState) ->
     }
 }
 
-/// Returns the newest patch that was installed before this one and names the state. `installed` has the oldest first.
-/// The walk stops at the patch itself, since patches after it don't count.
+/// Returns the newest patch that was installed before `patch` and names the state. `installed` has the oldest patch
+/// first. The walk stops at `patch`, since later patches don't count.
 pub(crate) fn previous_state(
     patches: &[CatalogPatch],
     patch: PatchId,

@@ -13,24 +13,25 @@ use std::snapshot::Snapshot;
 /// no memory.
 pub(crate) type Kinds = SmallVec<Which, CALLBACK_KINDS>;
 
-/// How many objects most patches change at most.
+/// How many objects most patches change, at most.
 const USUAL_TARGETS: usize = 2;
 
-/// The objects that a patch changes. Memory is taken only if they are many.
+/// The objects that a patch changes. The list takes memory only if the patch changes more than `USUAL_TARGETS` objects.
 pub(crate) type Targets = SmallVec<CatalogTarget, USUAL_TARGETS>;
 
-/// An object that a patch changes. Its callbacks are in the catalog; the target has their numbers and kinds.
+/// An object that a patch changes. The catalog has the callbacks of the object, and the target has their numbers and
+/// kinds.
 #[derive(Drop)]
 pub struct CatalogTarget {
     pub(crate) object: ObjId,
-    /// The functions as in the plan, for contracts only. At run time the patch's resolved functions are used.
+    /// The functions as in the plan. Only contracts use them. At run time the patch's resolved functions are used.
     pub(crate) functions: Snapshot<PlanFunctions>,
-    /// How many functions the patch has for the object. The functions of a patch are one list, in the order of its
-    /// objects.
+    /// How many functions the patch has for the object. All functions of a patch are in one list, in the order of the
+    /// patch's objects.
     pub(crate) count: usize,
     /// The number of the object's first callback, among all callbacks of the catalog. The callbacks and their counts
-    /// are one list in the order of the text. So this number and the kinds determine where each callback is
-    /// (docs/DECISIONS.md, "Counts of callbacks").
+    /// are one list in the order of the text. So the index of each callback in this list follows from `first` and
+    /// `kinds` (docs/DECISIONS.md, "Counts of callbacks").
     pub(crate) first: usize,
     /// The kinds of the object's callbacks, in the order of their numbers.
     pub(crate) kinds: Kinds,
@@ -52,8 +53,8 @@ impl Model for CatalogTarget {
     ghost invariant = { λ t. (t.first + length t.kinds.items < 2 ^ 64) × (t.count ≡ length t.functions.value.items) };
 }
 
-/// Makes a target without functions and callbacks. It fills the unused elements of a patch's list; none of these is
-/// ever read.
+/// Makes a target without functions and callbacks. The unused elements of a patch's list have this value, and are never
+/// read.
 impl MadeWith<Global> for CatalogTarget {
     fn made_with(alloc: Global) -> CatalogTarget {
         CatalogTarget {

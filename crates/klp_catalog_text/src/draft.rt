@@ -1,5 +1,5 @@
-//! The plan while its text is being read. Each kind of line has a function, which checks that such a line may occur at
-//! this place.
+//! The plan while its text is being read. For each kind of line there is a function. It checks whether such a line may
+//! occur at this place.
 
 ghost use Rattle.std.specs.Prelude.{◌≡◌, ◌<◌, ◌==◌, vec_len, length, IsTrue, Ok, Err, OnOk, OnErr, MatchOption};
 ghost use Rattle.std.specs.Prelude.{option_copied};
@@ -30,16 +30,17 @@ use std::marker::Model;
 
 /// The part of a plan that the lines read so far have made.
 ///
-/// The open target is the last target of the last patch; `func` lines add functions to it. It needs no separate field.
-/// A `patch` line closes it.
+/// The open target is the last target of the last patch. `func` lines add functions to the open target. It needs no
+/// separate field. A `patch` line closes it.
 #[derive(Drop)]
 pub(crate) struct Draft {
     handler: Option<u64>,
     objects: Vec<ObjectText>,
-    /// How many symbols the objects have together, since one limit holds for all of them.
+    /// How many symbols all objects have together. One limit holds for all of these symbols.
     symbols: usize,
     patches: Vec<PlanPatch>,
-    /// How many functions the last patch has, over all of its targets, since one limit holds for all of them.
+    /// How many functions the last patch has, for all of its targets together. One limit holds for all of these
+    /// functions.
     functions: usize,
 }
 
@@ -55,7 +56,7 @@ impl Model for Draft {
     ghost invariant = { λ d. IsKept d.objects.items d.symbols d.patches.items d.functions };
 }
 
-/// Adds a symbol to the last object, the one that the last `object` line added.
+/// Adds a symbol to the last object, which the last `object` line added.
 fn push_symbol(objects: &mut Vec<ObjectText>, symbol: SymbolText) -> Result<(), AllocError>
     requires { 0 < vec_len objects.old }
     ensures ok { OnOk result (objects.new.items ≡ on_last (with_symbol symbol) objects.old.items) }
@@ -107,8 +108,8 @@ fn push_state(patches: &mut Vec<PlanPatch>, state: SystemState) -> Result<(), Al
     patches[last].push_state(state)
 }
 
-/// Returns the index of the object with this name. Returns `None` if there is none. There are few objects, so the name
-/// is compared with each (docs/DECISIONS.md, "Names by comparison").
+/// Returns the index of the object with this name. Returns `None` if there is no such object. There are few objects, so
+/// the name is compared with the name of each (docs/DECISIONS.md, "Names by comparison").
 fn object_number(objects: &[ObjectText], name: &str) -> Option<usize>
     ensures { result ≡ number_of name.now (names_of objects.now) }
 {
@@ -117,7 +118,7 @@ fn object_number(objects: &[ObjectText], name: &str) -> Option<usize>
         .position(|object| name == object.name.as_str())
 }
 
-/// Returns the index of the patch with this name. Returns `None` if there is none.
+/// Returns the index of the patch with this name. Returns `None` if there is no such patch.
 fn patch_number(patches: &[PlanPatch], name: &str) -> Option<usize>
     ensures { result ≡ number_of name.now (patch_names_of patches.now) }
 {
@@ -191,9 +192,8 @@ impl Draft {
         }
     }
 
-    /// Returns the name of the open target's object. Returns `None` if no target is open. A `func` line can be read
-    /// only with this name, since the spelling of a symbol has the object's name too (docs/DECISIONS.md, "The open
-    /// target").
+    /// Returns the name of the open target's object. Returns `None` if no target is open. To read a `func` line this
+    /// name is needed, since the spelling of a symbol has the object's name too (docs/DECISIONS.md, "The open target").
     pub(crate) fn open_object(&self) -> Option<&str>
         ensures { option_copied result ≡ open_object self.now }
     {
@@ -225,8 +225,8 @@ impl Draft {
         if !self.patches.is_empty() {
             return Err(TextFaultKind::OutOfPlace);
         }
-        // The image that is made of a plan mustn't have two objects of the same name. This fault is reported before
-        // that of the limit (docs/DECISIONS.md, "Names given twice").
+        // The image that is made of a plan mustn't have two objects with the same name. A name that is given twice is
+        // reported before too many objects are (docs/DECISIONS.md, "Names given twice").
         if object_number(&self.objects, name.as_str()).is_some() {
             return Err(TextFaultKind::Twice);
         }
@@ -256,7 +256,7 @@ impl Draft {
         Ok(())
     }
 
-    /// Adds a patch, which closes the open target. Returns `Err` if a patch has this name already, or if there are too
+    /// Adds a patch, and so closes the open target. Returns `Err` if a patch has this name already, or if there are too
     /// many patches.
     fn place_patch(&mut self, alloc: Global, name: Name, replace: bool) -> Result<(), TextFaultKind>
         ensures { Becomes result self.new (placed self.old (CatalogLine.Patch name replace)) }
@@ -337,7 +337,7 @@ impl Draft {
 
     /// Adds a system state to the last patch. The state belongs to the patch, so its line may follow any of the patch's
     /// targets. The open target stays open (docs/DECISIONS.md, "`state` lines"). Returns `Err` if there is no patch, if
-    /// the patch names the id already, or if it names too many states.
+    /// the patch names the id already, or if the patch has too many states.
     fn place_state(&mut self, state: SystemState) -> Result<(), TextFaultKind>
         ensures { Becomes result self.new (placed self.old (CatalogLine.State state)) }
     {
@@ -355,12 +355,12 @@ impl Draft {
         Ok(())
     }
 
-    /// Reads one line of the text, and adds what it says. `text` doesn't have the bytes that end the line. An empty
-    /// line adds nothing.
+    /// Reads one line of the text, and adds what the line says. `text` doesn't have the bytes that end the line. An
+    /// empty line adds nothing.
     pub(crate) fn read_line(&mut self, alloc: Global, text: &[u8]) -> Result<(), TextFaultKind>
         ensures { Becomes result self.new (with_line self.old text.now) }
     {
-        // Only a `#` as the very first byte makes a comment, so that a word may begin with `#` (docs/DECISIONS.md,
+        // A line is a comment only if its very first byte is `#`. So a word may begin with `#` (docs/DECISIONS.md,
         // "Comments").
         if let [b'#', ..] = text {
             return Ok(());
@@ -369,14 +369,14 @@ impl Draft {
         let Some(first) = words.next() else {
             return Ok(());
         };
-        // The words are checked before the place of the line. So a misspelled line is reported as misspelled wherever
-        // it is (docs/DECISIONS.md, "Words before the place of a line").
+        // The words are checked before the place of the line. So a misspelled line is reported as misspelled at any
+        // place (docs/DECISIONS.md, "Words before the place of a line").
         let line = CatalogLine::read(alloc, self.open_object(), text, first, &mut words)?;
         self.place(alloc, line)
     }
 
-    /// Adds what a line says. Returns a fault if the line may not occur at this place. Each kind of line checks this
-    /// for itself.
+    /// Adds what a line says. Returns a fault if the line may not occur at this place. The function for each kind of
+    /// line checks the place.
     pub(crate) fn place(
         &mut self,
         alloc: Global,
@@ -392,7 +392,7 @@ impl Draft {
             CatalogLine::Target(NameWord(name)) => self.place_target(alloc, name),
             CatalogLine::Function(function) => self.place_function(function),
             CatalogLine::Callback(which, script) => self.place_callback(which, script),
-            // The state is taken apart, since the check can't move a whole `SystemState` out of a line that borrows.
+            // A whole `SystemState` can't be moved out of a line that borrows, so its two fields are copied.
             CatalogLine::State(SystemState { id, version }) => self.place_state(SystemState {
                 id,
                 version,
@@ -400,8 +400,8 @@ impl Draft {
         }
     }
 
-    /// Returns the handler, if the text had both a handler and an object. Returns `None` if either is missing. Only the
-    /// end of the text shows this, so no line is at fault.
+    /// Returns the handler, if the text had both a handler and an object. Returns `None` if one of them is missing.
+    /// This is known only at the end of the text, so no line is at fault.
     pub(crate) fn whole_handler(&self) -> Option<u64>
         ensures { MatchOption result (finished self.now ≡ Err (record { line = 0; kind = TextFaultKind.Missing }))
             (λ handler. finished self.now

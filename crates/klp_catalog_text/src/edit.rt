@@ -1,4 +1,4 @@
-//! Reads the edits of a callback, and its script. No other line has words with parts.
+//! Reads the edits of a callback, and its script. Only the words of edits have parts.
 
 ghost use Rattle.std.specs.Prelude.{◌≡◌, ℕ, ◌<◌, ◌≤◌, ◌==◌, List, [], ◌∷◌, length, MatchOption};
 ghost use Rattle.klp_catalog_text.specs.Gives.{Gives};
@@ -14,11 +14,11 @@ use smallvec::SmallVec;
 use std::alloc::Global;
 use std::marker::Model;
 
-/// The parts of an edit that are still to be read. Colons separate parts, since spaces separate edits.
+/// The parts of an edit that are still to be read. Parts are separated by colons, since edits are separated by spaces.
 #[derive(Drop)]
 struct Fields<'a> {
     rest: &'a [u8],
-    /// Whether the last part was read. An empty rest doesn't show this, since one empty part may still be left in it.
+    /// Whether the last part was read. An empty rest doesn't show this, since one empty part may still be left.
     is_over: bool,
 }
 
@@ -41,7 +41,7 @@ impl<'a> Fields<'a> {
         }
     }
 
-    /// Returns the next part. Returns `None` if there is no more.
+    /// Returns the next part. Returns `None` if no part is left.
     fn next(&mut self) -> Option<&'a [u8]>
         ensures { MatchOption result (self.old ≡ []) (λ part. self.old ≡ part.now ∷ self.new) }
     {
@@ -58,8 +58,8 @@ impl<'a> Fields<'a> {
     }
 }
 
-/// Reads the rest of an edit, which must be one number. A number out of range is a `BadEdit` and not a `BadNumber`,
-/// since a fault names a whole word and no part of it (docs/DECISIONS.md, "Faults inside an edit").
+/// Reads the rest of an edit, which must be one number. A fault names a whole word and not a part of it, so a number
+/// out of range is a `BadEdit` and not a `BadNumber` (docs/DECISIONS.md, "Faults inside an edit").
 fn one_number(parts: &mut Fields<'_>) -> Result<u64, TextFaultKind>
     ensures { result ≡ one_number parts.old }
 {
@@ -82,7 +82,7 @@ fn two_numbers(parts: &mut Fields<'_>) -> Result<(u64, u64), TextFaultKind>
     Ok((first, second))
 }
 
-/// Reads the parts of `alloc:OBJ:ID:VALUE` after its name.
+/// Reads the parts of `alloc:OBJ:ID:VALUE` after the name `alloc`.
 fn alloc_edit(parts: &mut Fields<'_>) -> Result<Edit, TextFaultKind>
     ensures { result ≡ alloc_of parts.old }
 {
@@ -101,7 +101,7 @@ fn alloc_edit(parts: &mut Fields<'_>) -> Result<Edit, TextFaultKind>
     Ok(Edit::Alloc(ShadowKey { obj, id }, value))
 }
 
-/// Reads the parts of `free:OBJ:ID` after its name.
+/// Reads the parts of `free:OBJ:ID` after the name `free`.
 #[tactic(auto, using(crate::proofs::EditLemmas::free_by))]
 fn free_edit(parts: &mut Fields<'_>) -> Result<Edit, TextFaultKind>
     ensures { result ≡ free_of parts.old }
@@ -110,7 +110,7 @@ fn free_edit(parts: &mut Fields<'_>) -> Result<Edit, TextFaultKind>
     Ok(Edit::Free(ShadowKey { obj, id }))
 }
 
-/// Reads the part of `freeall:ID` after its name.
+/// Reads the part of `freeall:ID` after the name `freeall`.
 #[tactic(auto, using(crate::proofs::EditLemmas::free_all_by))]
 fn free_all_edit(parts: &mut Fields<'_>) -> Result<Edit, TextFaultKind>
     ensures { result ≡ free_all_of parts.old }
@@ -118,7 +118,7 @@ fn free_all_edit(parts: &mut Fields<'_>) -> Result<Edit, TextFaultKind>
     Ok(Edit::FreeAll(one_number(parts)?))
 }
 
-/// Reads the parts of `set:STATE:VALUE` after its name.
+/// Reads the parts of `set:STATE:VALUE` after the name `set`.
 #[tactic(auto, using(crate::proofs::EditLemmas::set_by))]
 fn set_data_edit(parts: &mut Fields<'_>) -> Result<Edit, TextFaultKind>
     ensures { result ≡ set_of parts.old }
@@ -127,7 +127,7 @@ fn set_data_edit(parts: &mut Fields<'_>) -> Result<Edit, TextFaultKind>
     Ok(Edit::SetData(state, value))
 }
 
-/// Reads the part of `takeprev:STATE` after its name.
+/// Reads the part of `takeprev:STATE` after the name `takeprev`.
 #[tactic(auto, using(crate::proofs::EditLemmas::take_prev_by))]
 fn take_prev_edit(parts: &mut Fields<'_>) -> Result<Edit, TextFaultKind>
     ensures { result ≡ take_prev_of parts.old }
@@ -135,8 +135,8 @@ fn take_prev_edit(parts: &mut Fields<'_>) -> Result<Edit, TextFaultKind>
     Ok(Edit::TakePrev(one_number(parts)?))
 }
 
-/// Reads an edit: its name and its numbers. The number of parts is checked before any number is read, but every fault
-/// is `BadEdit` in any case.
+/// Reads an edit: its name and its numbers. The number of parts is checked before any number is read. Every fault is a
+/// `BadEdit`.
 fn edit(word: &[u8]) -> Result<Edit, TextFaultKind>
     ensures { result ≡ edit_of word.now }
 {
@@ -159,15 +159,15 @@ fn edit(word: &[u8]) -> Result<Edit, TextFaultKind>
     }
 }
 
-/// How many edits a line can store without memory of its own. Most scripts that have edits have this many. A greater
-/// number would make every line larger, and so more costly to move.
+/// How many edits a line can store without memory of its own. Most scripts that have edits have this many. If this
+/// number were greater, every line would be larger, and so more costly to move.
 const USUAL_EDITS: usize = 1;
 
-/// The edits of a line, which may be more than a script may have.
+/// The edits of a line. There may be more than a script may have.
 type TextEdits = SmallVec<Edit, USUAL_EDITS>;
 
-/// Reads each word as an edit. The result may have too many edits for a script: this is reported only after the
-/// line's place is checked.
+/// Reads each word as an edit. The result may have too many edits for a script. Too many edits are reported only after
+/// the line's place is checked.
 fn edits(alloc: Global, words: &mut LineWords<'_>) -> Result<TextEdits, TextFaultKind>
     ensures { Gives (λ e. e.items) result (edits_of words.old) }
 {
@@ -178,8 +178,8 @@ fn edits(alloc: Global, words: &mut LineWords<'_>) -> Result<TextEdits, TextFaul
     Ok(edits)
 }
 
-/// A script as its line has it. It may have too many edits for a script, since all words are checked before their
-/// number is (docs/DECISIONS.md, "Scripts with too many edits").
+/// A script as its line has it. All words are checked before their number is. So the script may have too many edits
+/// (docs/DECISIONS.md, "Scripts with too many edits").
 #[derive(Drop)]
 pub struct ScriptText {
     edits: TextEdits,
@@ -195,8 +195,8 @@ impl Model for ScriptText {
 }
 
 impl ScriptText {
-    /// Returns the script. Returns `None` if it has too many edits. This takes no memory, because a script's edits are
-    /// an array.
+    /// Returns the script. Returns `None` if it has too many edits. The call takes no memory, because a script's edits
+    /// are an array.
     pub fn into_script(self) -> Option<Script>
         ensures { MatchOption result (MAX_EDITS < length self.edits)
             (λ script. (length self.edits ≤ MAX_EDITS) × (script ≡ self)) }
@@ -210,8 +210,8 @@ impl ScriptText {
     }
 }
 
-/// Makes the script of a callback that fails. No words may follow the status: a callback that refuses makes no
-/// edits.
+/// Makes the script of a callback that fails. A callback that refuses makes no edits, so no words may follow the
+/// status.
 fn failure(
     alloc: Global,
     status: i32,
@@ -238,7 +238,7 @@ pub(crate) fn script(alloc: Global, words: &mut LineWords<'_>) -> Result<ScriptT
     let Some(status) = signed(word) else {
         return Err(TextFaultKind::BadNumber);
     };
-    // After any other status, every further word is one too many (docs/DECISIONS.md, "Edits behind a status").
+    // If the status isn't 0, every further word is one too many (docs/DECISIONS.md, "Edits behind a status").
     if status != 0 {
         return failure(alloc, status, words);
     }

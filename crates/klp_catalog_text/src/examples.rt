@@ -1,5 +1,5 @@
-//! Worked examples: what a catalog's text means, and an example of each fault. A function here does nothing: its
-//! contract is the example, and it is proved by computing the definition.
+//! Worked examples: what a catalog's text means, and an example of each fault. A function of this module does nothing.
+//! The function's contract is the example, which is proved by computing the definition.
 ghost use Rattle.std.specs.Prelude.{◌≡◌, pos, negsuc, true, false, [], ◌∷◌, ◌++◌, replicate, codes, None, Some, Ok};
 ghost use Rattle.std.specs.Prelude.{Err};
 ghost use Rattle.klp_types.specs.declared.callback.Which.TheVariants.{Pre, Post, PreUn, PostUn};
@@ -17,15 +17,15 @@ ghost use Rattle.klp_catalog_text.specs.Text.{plan_of};
 ghost use Rattle.klp_catalog_text.specs.Examples.{small_text, small_plan, longer_text, longer_plan, f, f_p, draft_with};
 ghost use Rattle.klp_catalog_text.specs.Examples.{patch_with, target_with, draft_of, script_with, another_patch};
 
-/// What two whole texts mean. Comments, empty lines and extra separators mean nothing, and a line may end with a
+/// The meaning of two whole texts. Comments, empty lines and extra separators mean nothing, and a line may end with a
 /// carriage return.
 pub fn texts_say_this()
     ensures small { plan_of small_text ≡ Ok small_plan }
     ensures longer { plan_of longer_text ≡ Ok longer_plan }
 {}
 
-/// The fault of a text is that of its first faulty line. Every line is counted, from 1. A fault of the whole text is
-/// reported at line 0.
+/// The fault of a text is the fault of its first faulty line. Every line is counted, from 1. A fault of the whole text
+/// is reported at line 0.
 pub fn the_first_faulty_line_is_reported()
     ensures cut { plan_of
         (codes "handler ffffffff81000000\nobject vmlinux\nsymbol f ffffffff81001000 e80000000090c3\npatch p\ntarget vmlinux\nfunc .klp.sym.vmlinux.f,0")
@@ -56,7 +56,7 @@ pub fn lines_say_this()
         ≡ Ok (line.Callback PostUn (record { edits = []; status = negsuc 15 })) }
 {}
 
-/// If a line has several faults, the first is reported, in this order: its bytes, its length, its first word, its
+/// If a line has several faults, the first is reported. The order is: the line's bytes, its length, its first word, its
 /// number of words, and then its words from left to right.
 pub fn faults_of_a_line_come_in_order()
     ensures not_ascii { line_of None (200 ∷ replicate 4096 97) (codes "foo") [] ≡ Err NotAscii }
@@ -78,8 +78,8 @@ pub fn faults_of_a_line_come_in_order()
     ensures version { line_of None [] (codes "state") (codes "1" ∷ codes "4294967296" ∷ []) ≡ Err BadNumber }
 {}
 
-/// A callback has a status. Edits may follow a status of 0, with colons between their parts; nothing may follow
-/// another status.
+/// A callback has a status. Edits may follow a status of 0, with colons between the parts of an edit. Nothing may
+/// follow another status.
 pub fn callbacks_are_spelled_with_status_and_edits()
     ensures alloc { edit_of (codes "alloc:1:9:5") ≡ Ok (Alloc (record { obj = 1; id = 9 }) (5 ∷ 0 ∷ 0 ∷ 0 ∷ 0 ∷ 0 ∷ 0 ∷ 0 ∷ [])) }
     ensures free { edit_of (codes "free:1:9") ≡ Ok (Free (record { obj = 1; id = 9 })) }
@@ -100,8 +100,8 @@ pub fn callbacks_are_spelled_with_status_and_edits()
     ensures bad_edit { script_of (codes "0" ∷ codes "freeall:1" ∷ codes "z" ∷ []) ≡ Err BadEdit }
 {}
 
-/// A line is out of place if there is nothing yet to which it belongs: an object, a patch or a target. The lines of the
-/// image are also out of place after a patch.
+/// A line is out of place if the object, patch or target to which it belongs isn't there yet. The lines of the image
+/// are also out of place after a patch.
 pub fn lines_have_their_place()
     ensures handler { placed (draft_with (patch_with [] ∷ [])) (line.Handler 1) ≡ Err OutOfPlace }
     ensures object { placed (draft_with (patch_with [] ∷ [])) (line.Object (codes "m")) ≡ Err OutOfPlace }
@@ -114,8 +114,8 @@ pub fn lines_have_their_place()
     ensures no_such_object { placed (draft_with (patch_with [] ∷ [])) (line.Target (codes "m")) ≡ Err UnknownObject }
 {}
 
-/// What may occur once is refused the second time. A target or a state is compared only with those of the open patch, a
-/// callback only with those of the open target.
+/// If something may occur only once, its second occurrence is refused. A target or a state is compared only with those
+/// of the open patch. A callback is compared only with those of the open target.
 pub fn once_is_enough()
     ensures handler { placed (draft_with []) (line.Handler 1) ≡ Err Twice }
     ensures object { placed (draft_with []) (line.Object (codes "vmlinux")) ≡ Err Twice }
@@ -133,7 +133,7 @@ pub fn once_is_enough()
         ≡ Ok (record (draft_with []) { objects = record { name = codes "vmlinux"; symbols = f ∷ f ∷ [] } ∷ [] }) }
 {}
 
-/// No limit is exceeded: as many as the limit allows are accepted, and one more is refused.
+/// No limit is exceeded. As many items as the limit allows are accepted, and one more is refused.
 pub fn limits_are_kept()
     ensures objects { placed (draft_of 16 0) (line.Object (codes "c")) ≡ Err TooMany }
     ensures last_object { placed (draft_of 15 0) (line.Object (codes "c"))

@@ -4,8 +4,8 @@ use std::alloc::Global;
 use std::default::MadeWith;
 use std::marker::Model;
 
-/// The name of an object, a patch, a symbol or a new function, as the text spells it. It is ASCII, so its bytes are
-/// its characters.
+/// The name of an object, a patch, a symbol or a new function, as the text spells it. The name is ASCII, so its bytes
+/// are its characters.
 #[derive(Drop)]
 pub struct Name(pub String);
 
@@ -29,13 +29,13 @@ impl<'a> Model for NameWord<'a> {
     ghost view = { λ n. n.0.now };
 }
 
-/// A new function of a patch, as its line has it. Its site isn't known until the names are resolved.
+/// A new function of a patch, as its line has it. The site of the function isn't known until the names are resolved.
 #[derive(Drop)]
 pub struct PlanFunction {
     /// The name of the symbol that the function replaces, in the object of its target.
     pub symbol: String,
-    /// The position of the symbol among the object's symbols of that name, from 1. 0 means that the name must be unique
-    /// in the object.
+    /// The position of the symbol among the object's symbols of that name, from 1. 0 means that only one symbol of the
+    /// object may have the name.
     pub sympos: u32,
     pub new_name: String,
     pub address: u64,
@@ -55,7 +55,8 @@ impl Model for PlanFunction {
     } };
 }
 
-/// Makes a function without names, at address 0. It fills the unused element of a target's list; it is never read.
+/// Makes a function without names, at address 0. The unused element of a target's list has this value, and is never
+/// read.
 impl MadeWith<Global> for PlanFunction {
     fn made_with(alloc: Global) -> PlanFunction {
         PlanFunction {
@@ -67,8 +68,8 @@ impl MadeWith<Global> for PlanFunction {
     }
 }
 
-/// A system state that a patch names (system-state): its id, and the version of the state that the patch uses. Versions
-/// decide which patches are compatible.
+/// A system state that a patch names (system-state): its id, and the version of the state that the patch uses. The
+/// versions decide which patches are compatible.
 #[derive(Clone, Copy, Default)]
 pub struct SystemState {
     pub id: u64,

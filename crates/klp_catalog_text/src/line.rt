@@ -28,8 +28,8 @@ pub(crate) enum Keyword {
     State,
 }
 
-/// What a line says, wherever it is in the text. The parts that a plan stores are copied, the others borrowed from the
-/// line.
+/// What a line says, at any place of the text. The parts that a plan stores are copied. All other parts are borrowed
+/// from the line.
 #[derive(Drop)]
 pub enum CatalogLine<'a> {
     /// The address of the handler.
@@ -44,13 +44,13 @@ pub enum CatalogLine<'a> {
     Target(NameWord<'a>),
     /// A new function of the last target.
     Function(PlanFunction),
-    /// A callback of the last target. Its script may have too many edits.
+    /// A callback of the last target. The callback's script may have too many edits.
     Callback(Which, ScriptText),
     /// A system state that the last patch names.
     State(SystemState),
 }
 
-/// Returns the kind of line that begins with this word. Returns `None` if no line does.
+/// Returns the kind of line that begins with this word. Returns `None` if no line begins with this word.
 fn keyword_of(word: &[u8]) -> Option<Keyword>
     ensures { result ≡ keyword_of word.now }
 {
@@ -139,7 +139,7 @@ fn symbol_line<'a>(
     }))
 }
 
-/// Reads the rest of a `patch` line whose third word is `replace`: nothing may follow.
+/// Reads the rest of a `patch` line whose third word is `replace`. No word may follow `replace`.
 fn replace_line<'a>(
     alloc: Global,
     name: &[u8],
@@ -153,7 +153,7 @@ fn replace_line<'a>(
     Ok(CatalogLine::Patch(words::name(alloc, name)?, true))
 }
 
-/// Reads the words of a `patch` line after its first word: a name, which `replace` may follow.
+/// Reads the words of a `patch` line after its first word: a name. `replace` may follow the name.
 fn patch_line<'a>(
     alloc: Global,
     words: &mut LineWords<'a>,
@@ -222,8 +222,8 @@ fn state_line<'a>(words: &mut LineWords<'a>) -> Result<CatalogLine<'a>, TextFaul
     let (Some(id), Some(version), None) = (words.next(), words.next(), words.next()) else {
         return Err(TextFaultKind::WrongCount);
     };
-    // A version has 32 bits, as the `version` of the kernel's `klp_state`. A version out of range is a `BadNumber`,
-    // like a word that isn't a number.
+    // A version has 32 bits, like the `version` of the kernel's `klp_state`. A version out of range is a `BadNumber`,
+    // and so is a word that isn't a number.
     let (Some(id), Some(version)) = (number64(id), number32(version)) else {
         return Err(TextFaultKind::BadNumber);
     };
@@ -234,9 +234,9 @@ impl<'a> CatalogLine<'a> {
     /// Reads one line. `text` is the whole line, `first` its first word, and `words` the words after it.
     ///
     /// `target` is the name of the open target's object, if a target is open. The time is linear in the length of the
-    /// line. `Err` has the first of the line's faults, in the order of [`TextFaultKind`]. It is never `OutOfPlace`,
-    /// `UnknownObject`, `Twice`, `TooMany` or `Missing`. `NoMemory` may be reported in place of any fault. No contract
-    /// says how many of `words` are left unread.
+    /// line. `Err` has the first of the line's faults, in the order of [`TextFaultKind`]. The fault is never
+    /// `OutOfPlace`, `UnknownObject`, `Twice`, `TooMany` or `Missing`. `NoMemory` may be reported in place of any
+    /// fault. No contract says how many of `words` are left unread.
     pub fn read(
         alloc: Global,
         target: Option<&str>,

@@ -11,8 +11,8 @@ use std::alloc::{AllocError, Global};
 use std::marker::Model;
 use std::mem;
 
-/// A callback of a patch for an object (callbacks). A plan has only its script, of which the catalog's caller makes a
-/// callback.
+/// A callback of a patch for an object (callbacks). A plan has only the callback's script. The catalog's caller makes a
+/// callback of this script.
 #[derive(Drop)]
 pub struct PlanCallback {
     pub which: Which,
@@ -27,14 +27,14 @@ impl Model for PlanCallback {
     ghost view = { λ c. record { which = c.which; script = c.script } };
 }
 
-/// The new functions of a target. Most targets have one, for which no memory is taken.
+/// The new functions of a target. Most targets have one function. The list takes no memory for one function.
 pub type PlanFunctions = SmallVec<PlanFunction, 1>;
 
-/// The system states of a patch. Most patches name one at most, for which no memory is taken.
+/// The system states of a patch. Most patches name at most one state. The list takes no memory for one state.
 pub type PlanStates = SmallVec<SystemState, 1>;
 
-/// An object that a patch changes, with the new functions in it and the callbacks for it. The object is a number,
-/// so that no later look-up of its name can fail (docs/DECISIONS.md, "Objects of targets by number").
+/// An object that a patch changes, with the new functions in the object and the callbacks for it. The object is stored
+/// as a number, so that no later look-up of its name can fail (docs/DECISIONS.md, "Objects of targets by number").
 #[derive(Drop)]
 pub struct PlanTarget {
     pub object: ObjId,
@@ -61,14 +61,15 @@ impl PlanTarget {
         Ok(())
     }
 
-    /// Appends a callback. Callbacks are handed to a catalog in this order, which is that of the text.
+    /// Appends a callback. Callbacks are handed to a catalog in the order of the text, which is the order in which they
+    /// are appended.
     pub(crate) fn push_callback(&mut self, callback: PlanCallback) -> Result<(), AllocError>
         ensures ok { OnOk result (self.new ≡ with_callback callback self.old) }
         ensures err { OnErr result (self.new ≡ self.old) }
     {
         if self.callbacks.is_empty() {
-            // allocates room for one callback of each kind at once: a list that grew later would move its scripts,
-            // which are large
+            // allocates room for one callback of each kind at once, since growing the list later would move its
+            // scripts, which are large
             self.callbacks.reserve(CALLBACK_KINDS)?;
         }
         self.callbacks.push(callback)?;
@@ -80,7 +81,7 @@ impl PlanTarget {
 #[derive(Drop)]
 pub struct PlanPatch {
     pub name: String,
-    /// Whether the patch is cumulative: it replaces all older ones when its transition completes.
+    /// Whether the patch is cumulative. A cumulative patch replaces all older patches when its transition completes.
     pub replace: bool,
     pub targets: Vec<PlanTarget>,
     /// The system states that the patch names, in the order of the text. Each id occurs once.
@@ -135,7 +136,7 @@ impl PlanPatch {
         self.targets[last].push_callback(callback)
     }
 
-    /// Appends a system state. It belongs to the patch, and to no target.
+    /// Appends a system state. The state belongs to the patch, and to no target.
     pub(crate) fn push_state(&mut self, state: SystemState) -> Result<(), AllocError>
         ensures ok { OnOk result (self.new ≡ with_state state self.old) }
         ensures err { OnErr result (self.new ≡ self.old) }
@@ -145,8 +146,8 @@ impl PlanPatch {
     }
 }
 
-/// What a catalog's text says: the handler, the objects with their symbols, and the patches, in the order of the
-/// text. [`read`](crate::read) makes it.
+/// The content of a catalog's text: the handler, the objects with their symbols, and the patches, in the order of the
+/// text. [`read`](crate::read) makes a plan.
 #[derive(Drop)]
 pub struct Plan {
     pub(crate) handler: u64,
@@ -167,16 +168,16 @@ impl Model for Plan {
 }
 
 impl Plan {
-    /// Returns the address that a hooked entry site calls. A call from each symbol must be able to reach it.
+    /// Returns the address that a hooked entry site calls. A call from each symbol must be able to reach this address.
     pub fn handler(&self) -> u64
         ensures { result ≡ self.now.handler }
     {
         self.handler
     }
 
-    /// Returns the script of a callback. `number` counts the callbacks of all patches, in the order of the text, from
-    /// 0, so that a caller can make one callback after another. Returns `None` if there are fewer callbacks. The cost
-    /// is one step for each of the patches' objects before the callback's.
+    /// Returns the script of a callback. `number` counts the callbacks of all patches from 0, in the order of the text.
+    /// So a caller can make one callback after another. Returns `None` if there are fewer callbacks. The cost is one
+    /// step for each object of a patch that precedes the callback's object.
     pub fn script(&self, number: usize) -> Option<&Script>
         ensures { option_map (λ script. script.now) result ≡ slice_get (scripts_of self.now.patches) number }
     {
@@ -192,8 +193,8 @@ impl Plan {
         None
     }
 
-    /// Moves the objects with their symbols out of the plan, for the image, so that no body is copied. The plan has no
-    /// objects afterwards.
+    /// Moves the objects with their symbols out of the plan. So no body is copied when the image is made. The plan has
+    /// no objects afterwards.
     pub fn take_objects(&mut self) -> Vec<ObjectText>
         ensures objects { result.items ≡ self.old.objects }
         ensures rest { self.new ≡ record self.old { objects = [] } }

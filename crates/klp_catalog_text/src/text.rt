@@ -12,10 +12,10 @@ use std::alloc::Global;
 /// Reads the whole text of a catalog, in time linear in its length.
 ///
 /// `Err` has the first faulty line. If no line is faulty but the text has no handler or no object, the fault is
-/// `Missing` at line 0. `NoMemory` may be reported in place of any of these, at the line where memory ran out.
+/// `Missing` at line 0. `NoMemory` may be reported in place of any other fault, at the line where memory ran out.
 pub fn read(alloc: Global, text: &[u8]) -> Result<Plan, TextFault>
     ensures plan { IfOk result (λ plan. plan_of text.now ≡ Ok plan) }
-    // The catalog relies on this: the targets are objects of the image that is made of the plan's objects.
+    // The catalog relies on this clause. The targets are objects of the image that is made of the plan's objects.
     ensures targets { IfOk result (λ plan. AreTargetsWithin (length plan.objects) plan.patches) }
     ensures fault { IfErr result (λ fault. IsFaultOf text.now fault.line fault.kind) }
 {
@@ -24,8 +24,8 @@ pub fn read(alloc: Global, text: &[u8]) -> Result<Plan, TextFault>
     Ok(draft.into_plan(handler))
 }
 
-/// Reads all lines of a text into a draft, which must be empty, and returns the handler of the text. A missing
-/// handler or object is a fault here too, so that the caller has only one fault to handle.
+/// Reads all lines of a text into a draft, which must be empty, and returns the handler of the text. If the handler or
+/// an object is missing, returns a fault too, so that the caller has only one kind of error to handle.
 fn read_lines(alloc: Global, draft: &mut Draft, text: &[u8]) -> Result<u64, TextFault>
     requires { draft.old ≡ empty_draft }
     ensures plan { IfOk result (λ handler. plan_of text.now

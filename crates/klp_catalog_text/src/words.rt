@@ -1,5 +1,5 @@
 //! Reads the words of a catalog's line, each by the rule of its kind. A word is checked before it is copied. So after
-//! the check, only memory can be missing.
+//! the check, the only possible fault is a lack of memory.
 
 ghost use Rattle.std.specs.Prelude.{◌≡◌, Some, None, Ok, Err, option_copied};
 ghost use Rattle.klp_words.specs.Words.{spelling_of};
@@ -12,7 +12,7 @@ use hex::FromHexError;
 use klp_words::{Spelling, is_name, is_symbol_name, spelling_of, text};
 use std::alloc::Global;
 
-/// Reads the name of an object, a patch or a new function. It may not have a `.`, because a `.` ends the object's
+/// Reads the name of an object, a patch or a new function. The name may not have a `.`, because a `.` ends the object's
 /// name in the spelling of a symbol.
 pub(crate) fn name_word(word: &[u8]) -> Result<NameWord<'_>, TextFaultKind>
     ensures { result ≡ name_of word.now }
@@ -31,8 +31,8 @@ pub(crate) fn name(alloc: Global, word: &[u8]) -> Result<Name, TextFaultKind>
     Ok(Name(String::from_str(alloc, name)?))
 }
 
-/// Reads the name of a symbol. It may have a `.` and a `$`, as names from compilers do (`f.constprop.0`). It may
-/// not have a comma, since a comma separates it from its position.
+/// Reads the name of a symbol. The name may have a `.` and a `$`, as names from compilers do (`f.constprop.0`). The
+/// name may not have a comma, since a comma separates a symbol from its position.
 pub(crate) fn symbol_name(alloc: Global, word: &[u8]) -> Result<Name, TextFaultKind>
     ensures { Gives (λ n. n) result (symbol_name_of word.now) }
 {
@@ -42,9 +42,9 @@ pub(crate) fn symbol_name(alloc: Global, word: &[u8]) -> Result<Name, TextFaultK
     Ok(Name(String::from_str(alloc, text(word))?))
 }
 
-/// Reads the bytes of a symbol from hexadecimal digits. An odd number of digits is a `BadHex`. If the body is too long,
-/// this is reported when the line is added to the plan. If it is too short, the image reports this (docs/DECISIONS.md,
-/// "Bodies of odd or great length").
+/// Reads the bytes of a symbol from hexadecimal digits. An odd number of digits is a `BadHex`. A body that is too long
+/// is reported when the line is added to the plan. A body that is too short is reported when the image is made
+/// (docs/DECISIONS.md, "Bodies of odd or great length").
 pub(crate) fn body(alloc: Global, word: &[u8]) -> Result<Vec<u8>, TextFaultKind>
     ensures { Gives (λ b. b.items) result (body_of word.now) }
 {

@@ -15,14 +15,15 @@ use klp_text::Image;
 use klp_types::ObjId;
 use std::alloc::Global;
 
-// Whether image, modules and catalog have the same number of symbols for each object. The loop also covers the number
-// after the image's last object: there modules and catalog must have no object either. Nothing else is compared, since
-// the caller knows that the names are the same (docs/DECISIONS.md, "Image, modules and catalog as they came"). The
-// three are borrowed, so that neither return drops anything (docs/DECISIONS.md, "One way out for an owner").
+// Whether image, modules and catalog have the same number of symbols for each object. The loop also checks the number
+// after the image's last object: modules and catalog mustn't have an object with that number. Nothing else is compared,
+// since the caller must know that the names are the same (docs/DECISIONS.md, "Image, modules and catalog as they
+// came"). Image, modules and catalog are borrowed, so that neither return drops anything (docs/DECISIONS.md, "One way
+// out for an owner").
 fn is_match(image: &Image, modules: &Modules, catalog: &Catalog) -> bool
     ensures matches { IsTrue result → IsMatch image.now.image modules.now catalog.now }
     ensures differs { result ≡ false → IsMatch image.now.image modules.now catalog.now → ⊥ }
-    // every image is within limits, so object numbers fit in 8 bits
+    // every image is within the limits, so object numbers fit in 8 bits
     ensures limits { IsWithinLimits image.now.image.objects }
 {
     let objects = image.objects();
@@ -37,8 +38,9 @@ fn is_match(image: &Image, modules: &Modules, catalog: &Catalog) -> bool
 }
 
 /// Makes the state and the journal of a manager that has just opened. Returns `Mismatch` if image, modules and catalog
-/// don't match, and `NoMemory` if memory runs out. Moves image and modules into the state. The journal is made before
-/// the state, so that the state is never dropped here: it is so deep that dropping it would cost more than all else.
+/// don't match, and `NoMemory` if memory runs out. Moves image and modules into the state. The state is so deep that
+/// dropping it would cost more than everything else. So the journal is made before the state, and then no return of
+/// this function drops the state.
 pub(crate) fn parts_over(
     alloc: Global,
     image: Image,

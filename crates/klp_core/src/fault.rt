@@ -4,14 +4,14 @@ ghost use Rattle.klp_core.specs.declared.fault.BootFault.TheVariants.{NoMemory};
 use std::alloc::AllocError;
 use thiserror::Error;
 
-/// Why a manager can't be booted. The numbers are this project's own, and won't change.
+/// Why a manager can't be booted. The numbers are this project's own, and never change.
 #[derive(Clone, Copy, Debug, PartialEq, Eq, Error)]
 pub enum BootFault {
-    /// Image, modules and catalog don't have the same number of symbols for each object, so they weren't made from one
+    /// Image, modules and catalog don't have the same number of symbols for each object. So they weren't made from one
     /// plan.
     #[error("Mismatch")]
     Mismatch = 1,
-    /// Memory ran out. This can't happen any more once a manager is booted.
+    /// Memory ran out. Once a manager is booted, this can't happen any more.
     #[error("NoMemory")]
     NoMemory = 2,
 }
@@ -24,7 +24,8 @@ impl From<AllocError> for BootFault {
     }
 }
 
-/// The journal has fewer groups than the mark says. It is no refusal of an event, since `rewind` is no event.
+/// The error that the journal has fewer groups than the mark says. `rewind` is no event, so this isn't a refusal of an
+/// event.
 #[derive(Clone, Copy, Debug, Error)]
 #[error("BadMark")]
 pub struct BadMark;

@@ -1,5 +1,5 @@
-//! The tasks that lag behind a transition, and which of them block it (what the kernel's `klp_try_switch_task` finds
-//! out for each task).
+//! The tasks that lag behind a transition, and which of these tasks block it (what the kernel's `klp_try_switch_task`
+//! finds out for each task).
 ghost use Rattle.std.specs.Prelude.{◌≡◌, map};
 ghost use Rattle.klp_model.specs.Blocked.{blocked};
 ghost use Rattle.klp_model.specs.Task.{task_at};
@@ -18,15 +18,15 @@ use klp_types::{MAX_PATCHES, MAX_SITES, MAX_TASKS, Mode, Task, TaskId, Transitio
 /// Why a task isn't at the target of the current transition.
 #[derive(Clone, Copy, PartialEq, Eq)]
 pub enum Lag {
-    /// The task sleeps inside of this blocked version, and so blocks the transition: no poll switches the task. If it
-    /// is inside of several blocked versions, this is the innermost.
+    /// The task sleeps inside of this blocked version. So the task blocks the transition, and no poll switches the
+    /// task. If the task is inside of several blocked versions, this is the innermost.
     Holds(Version),
-    /// Nothing blocks the task, which is in this mode. If it is asleep, the next poll switches it. Otherwise it
-    /// switches when it next leaves the kernel.
+    /// Nothing blocks the task. The field is its mode. If the task is asleep, the next poll switches it. Otherwise the
+    /// task switches when it next leaves the kernel.
     Waits(Mode),
 }
 
-/// Returns the versions that a transition blocks. They are computed by the function that a poll calls.
+/// Returns the versions that a transition blocks. The function that a poll calls computes them.
 fn blocked(state: &ManagerState, catalog: &Catalog, moving: Transition) -> VersionSet
     requires { Invariant state.now catalog.now }
     ensures { IsSetOf result (blocked (setting_in state.now catalog.now) (state_in state.now catalog.now) moving) }
@@ -40,7 +40,7 @@ fn blocked(state: &ManagerState, catalog: &Catalog, moving: Transition) -> Versi
     blocked
 }
 
-/// Returns the versions that are blocked now. There are none without a transition.
+/// Returns the versions that are blocked now. The set is empty if there is no transition.
 fn blocked_now(state: &ManagerState, catalog: &Catalog) -> VersionSet
     requires { Invariant state.now catalog.now }
     ensures { IsSetOf result (blocked_now (setting_in state.now catalog.now) (state_in state.now catalog.now)) }
@@ -51,7 +51,8 @@ fn blocked_now(state: &ManagerState, catalog: &Catalog) -> VersionSet
     }
 }
 
-/// Returns the innermost of these frames that is in the set, or `None`. Frames are outermost first.
+/// Returns the innermost of these frames that is in the set. Returns `None` if no frame is in the set. Frames are
+/// outermost first.
 fn innermost_blocked_in(frames: &[Version], blocked: &VersionSet) -> Option<Version>
     ensures { result ≡ innermost_blocked_in (has blocked.now) frames.now }
 {
@@ -74,7 +75,7 @@ fn lag_of(task: &Task, blocked: &VersionSet) -> Lag
     }
 }
 
-/// Returns why a task lags, or `None` if it is at the target, if it doesn't exist, or if there is no transition.
+/// Returns why a task lags. Returns `None` if the task is at the target or doesn't exist, or if there is no transition.
 fn lag_at(
     tasks: &Tasks,
     task: TaskId,
@@ -93,7 +94,7 @@ fn lag_at(
     Some(lag_of(task, blocked))
 }
 
-/// Returns for each task number why the task lags, or `None`.
+/// Returns for each task number why the task lags, or `None` if no task with this number lags.
 fn lags(
     tasks: &Tasks,
     moving: &Option<Transition>,
@@ -101,7 +102,7 @@ fn lags(
 ) -> [Option<Lag>; MAX_TASKS]
     ensures { result ≡ map (lag_at (has blocked.now) moving.now) tasks.now }
 {
-    // called for its contract: there is a row for each number
+    // called for its contract, which says that there is a row for each number
     let _rows = tasks.get(TaskId(0));
     let mut lags = [None; MAX_TASKS];
     for number in 0..MAX_TASKS {
@@ -111,8 +112,8 @@ fn lags(
 }
 
 impl Manager {
-    /// Whether the current transition blocks a version, so that no task sleeping inside of it is switched. False
-    /// without a transition. Each call computes the set of blocked versions, as a poll does.
+    /// Whether the current transition blocks a version. While a task sleeps inside of a blocked version, the task isn't
+    /// switched. False if there is no transition. Each call computes the set of blocked versions, as a poll does.
     pub fn blocks(&self, version: Version) -> bool
         ensures { result ≡ is_blocked (setting_of self.now.managed) self.now.managed.state version }
     {
@@ -120,11 +121,12 @@ impl Manager {
     }
 
     /// Returns for each task number why the task isn't at the target of the current transition. For a task that blocks
-    /// the transition, this is the version that it sleeps inside of; for a task that waits, its mode. The element is
-    /// `None` for a task that is at the target, and for a number without a task. Without a transition all are `None`. A
-    /// poll decides in the same way (`laws::a_poll_tells_how_many_are_left`).
+    /// the transition, the reason is the version that the task sleeps inside of. For a task that waits, the reason is
+    /// the task's mode. The element is `None` for a task that is at the target, and for a number without a task. If
+    /// there is no transition, all elements are `None`. A poll decides by the same rule
+    /// (`laws::a_poll_tells_how_many_are_left`).
     ///
-    /// The cost is that of a poll that switches nobody. No memory is allocated.
+    /// The cost is that of a poll that switches no task. No memory is allocated.
     pub fn holders(&self) -> [Option<Lag>; MAX_TASKS]
         ensures { result ≡ holders (setting_of self.now.managed) self.now.managed.state }
     {

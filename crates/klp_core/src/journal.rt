@@ -1,5 +1,5 @@
-//! Appending accepted events to the journal, and taking them back. Both change journal and state together, so they
-//! share this file.
+//! Appending accepted events to the journal, and taking events back. Both change journal and state together, so they
+//! are in one file.
 ghost use Rattle.std.specs.Prelude.{◌≡◌, ◌-◌, ◌<◌, ◌≤◌, ◌++◌, ◌∷◌, [], true, false, length, take, Err, IfOk, IfErr};
 ghost use Rattle.klp_types.specs.declared.limits.TheConstants.{MAX_RECORDS};
 ghost use Rattle.klp_text.specs.TextImage.{site_count};
@@ -17,7 +17,7 @@ use klp_model::{Event, Refusal, Reply};
 use std::marker::Model;
 use std::snapshot::Snapshot;
 
-/// Appends an accepted event with its reply and its records. The records aren't moved in the log; from then on they
+/// Appends an accepted event with its reply and its records. The records aren't moved in the log. From then on, they
 /// count as records of earlier events (docs/DECISIONS.md, "Which records an event leaves").
 #[inline(always)]
 fn append(state: &mut ManagerState, journal: &mut Journal, event: &Event, reply: &Reply)
@@ -39,7 +39,7 @@ fn append(state: &mut ManagerState, journal: &mut Journal, event: &Event, reply:
     journal.append(event, reply, &mut state.log);
 }
 
-/// A reply that the caller doesn't need. Only contracts know it, so it takes no memory.
+/// A reply that the caller doesn't need. Only contracts know the reply, so it takes no memory.
 #[derive(Drop)]
 pub struct DroppedReply {
     reply: Snapshot<Reply>,
@@ -53,9 +53,9 @@ impl Model for DroppedReply {
     ghost view = { λ u. u.reply.value };
 }
 
-/// Refuses the event if the journal has no room for another. If something else refuses the event too, returns that
-/// refusal, otherwise `JournalFull`. Room is checked first. So an event usually costs one comparison here, and other
-/// refusals are looked for only if the journal is full (docs/DECISIONS.md, "Room in the journal").
+/// Refuses the event if the journal has no room for another event. If there is another reason to refuse the event,
+/// returns that reason, otherwise `JournalFull`. The room is checked first, and the other reasons are computed only if
+/// the journal is full. So this call usually costs one comparison (docs/DECISIONS.md, "Room in the journal").
 #[inline(always)]
 fn ask_for_room(
     state: &ManagerState,
@@ -74,8 +74,8 @@ fn ask_for_room(
     Ok(())
 }
 
-/// Does an event, and appends it to the journal if it is accepted. If the journal has no room and nothing else refuses
-/// the event, it is refused with `JournalFull`.
+/// Does an event, and appends the event to the journal if it is accepted. If the journal has no room and nothing else
+/// refuses the event, the event is refused with `JournalFull`.
 pub(crate) fn take_and_append(
     state: &mut ManagerState,
     catalog: &mut Catalog,
@@ -95,7 +95,7 @@ pub(crate) fn take_and_append(
     append_long(state, catalog, journal, event)
 }
 
-/// Like [`take_and_append`], for a caller that needs no reply.
+/// Like [`take_and_append`], for a caller that doesn't need the reply.
 pub(crate) fn take_without_reply(
     state: &mut ManagerState,
     catalog: &mut Catalog,
@@ -120,7 +120,8 @@ pub(crate) fn take_without_reply(
     })
 }
 
-/// Does an event that has a brief reply, and appends it to the journal if it is accepted. The journal must have room.
+/// Does an event that has a brief reply, and appends the event to the journal if it is accepted. The journal must have
+/// room.
 fn append_brief(
     state: &mut ManagerState,
     catalog: &mut Catalog,
@@ -139,9 +140,9 @@ fn append_brief(
     Ok(brief)
 }
 
-/// Does an event whose reply has frames or a value, and appends it to the journal if it is accepted. The journal must
-/// have room. This is a separate function, since a function that may have such a reply clears memory for it on entry,
-/// which brief events don't need.
+/// Does an event whose reply has frames or a value, and appends the event to the journal if it is accepted. The journal
+/// must have room. A function with such a reply clears memory for it on entry. Brief events don't need this memory, so
+/// they have a separate function.
 fn append_long(
     state: &mut ManagerState,
     catalog: &mut Catalog,
@@ -160,7 +161,8 @@ fn append_long(
     Ok(reply)
 }
 
-/// Undoes the newest event: takes its group out of the journal, and then puts its records back, newest first.
+/// Undoes the newest event. Takes the event's group out of the journal, and then puts the group's records back, newest
+/// first.
 fn take_newest_back(state: &mut ManagerState, catalog: &Catalog, journal: &mut Journal)
     requires kept { AreInStep state.old catalog.now journal.old }
     requires some { 0 < length (groups_in state.old journal.old) }
@@ -175,7 +177,8 @@ fn take_newest_back(state: &mut ManagerState, catalog: &Catalog, journal: &mut J
     state.undo();
 }
 
-/// Undoes all events but the first `mark`, newest first. So each event is undone in the state to which it led.
+/// Undoes all events but the first `mark`, newest first. So when an event is undone, the state is the one to which the
+/// event led.
 pub(crate) fn rewind_to(
     state: &mut ManagerState,
     catalog: &Catalog,

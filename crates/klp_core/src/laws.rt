@@ -1,4 +1,4 @@
-//! Laws about managers and their calls. A function here does nothing: its contract is the law.
+//! Laws about managers and their calls. A function of this module does nothing: its contract is the law.
 ghost use Rattle.std.specs.Prelude.{◌≡◌, ◌↔◌, true, false, is_ok, Some, Err, List, [], ◌∷◌, ◌++◌, count_by};
 ghost use Rattle.klp_types.specs.Setting.{Setting};
 ghost use Rattle.klp_types.specs.declared.version.Transition.{Transition};
@@ -22,8 +22,8 @@ ghost use Rattle.klp_core.specs.Withdrawal.{GoesOn, LeavesNoTrace};
 use klp_model::round_trip::{gone_at_the_end, only_shadow_events_outside};
 
 /// If a function of a patch has a site, the site is in the function's object. The catalog must have the image's names,
-/// as `Manager::catalog` promises of every manager. The laws of what tasks run (`klp_model`) need this, and it follows
-/// from nothing else (docs/DECISIONS.md, "The object of a function").
+/// as `Manager::catalog` promises of every manager. The laws of what tasks run (`klp_model`) need this law, since
+/// nothing else says in which object a function's site is (docs/DECISIONS.md, "The object of a function").
 pub fn functions_are_in_their_objects()
     ensures { (managed : Managed) → managed.catalog.names ≡ names_of managed.image.objects
         → IsInPlace (setting_of managed) }
@@ -31,9 +31,10 @@ pub fn functions_are_in_their_objects()
     klp_catalog::laws::sites_lie_in_their_objects();
 }
 
-/// A later manager results from an earlier one by any calls, and both have the same base and the same setting. Then a
-/// patch that isn't installed in the later manager has left no trace since the earlier one, if the events appended in
-/// between are a fair company of the patch. Events that were taken back, and counts of runs, make no difference.
+/// Suppose a later manager results from an earlier one by any calls, and both have the same base and the same setting.
+/// Suppose also that the events appended in between are a fair company of a patch. If the patch isn't installed in the
+/// later manager, it has left no trace since the earlier one. Events that were taken back, and counts of runs, make no
+/// difference.
 pub fn what_is_withdrawn_leaves_no_trace()
     ensures { (earlier later : Journaled) → IsWellFormed earlier → IsWellFormed later → GoesOn earlier later
         → setting_of later.managed ≡ setting_of earlier.managed → LeavesNoTrace earlier later }
@@ -42,15 +43,15 @@ pub fn what_is_withdrawn_leaves_no_trace()
     only_shadow_events_outside();
 }
 
-/// An event for which `may_run_some` is false runs no callback. So it changes no count of runs, and taking it back
-/// restores everything.
+/// If `may_run_some` is false for an event, the event runs no callback. So the event changes no count of runs, and
+/// taking it back restores everything.
 pub fn what_may_not_run_does_not()
     ensures { (setting : Setting) (state : State) (event : Event) → may_run_some setting state event ≡ false
         → callbacks_of setting state event ≡ [] }
 {}
 
-/// Doing a list of events and then one more leads to the same manager as doing the longer list. So a call that does
-/// events one by one can have a clause about its whole list.
+/// Doing a list of events and then one more event leads to the same manager as doing the longer list. So a call that
+/// does events one by one can have a clause about its whole list.
 pub fn events_go_on_where_they_end()
     ensures { (managed : Managed) (events : List Event) (event : Event)
         → after_event (after_events managed events) event ≡ after_events managed (events ++ event ∷ []) }
@@ -58,16 +59,16 @@ pub fn events_go_on_where_they_end()
     klp_catalog::laws::runs_add_up();
 }
 
-/// A poll that doesn't complete the transition replies with the number of tasks that still lag. `holders`, called
-/// before the poll, gives the same number: the tasks that block the transition, and those that wait and aren't asleep.
-/// So `holders` and a poll agree on how many tasks are left.
+/// A poll that doesn't complete the transition replies with the number of tasks that still lag. The result of `holders`
+/// before the poll gives the same number. It counts the tasks that block the transition, and the waiting tasks that
+/// aren't asleep. So `holders` and a poll agree on how many tasks still lag after the poll.
 pub fn a_poll_tells_how_many_are_left()
     ensures { (setting : Setting) (state : State) (move : Transition) → state.moving ≡ Some move
         → pending setting state move ≡ count_by is_left (holders setting state) }
 {}
 
 /// An event is refused with `JournalFull` exactly if the journal has no room and nothing else refuses the event. The
-/// rules of the events themselves never give `JournalFull`.
+/// rules of the events themselves never refuse an event with `JournalFull`.
 pub fn the_journal_alone_is_full()
     ensures { (setting : Setting) (state : State) (groups : List Group) (event : Event)
         → (answer_in setting state groups event ≡ Err JournalFull)

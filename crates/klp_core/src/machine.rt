@@ -1,5 +1,6 @@
 //! A trait with the calls of a manager, for structs that own a manager without naming its type. A manager owns boxes,
-//! and a struct that owns a `Manager` by name can't have a trait bound of its own. So such structs own a `Machine`.
+//! so a struct that owns a `Manager` by name can't have a trait bound of its own. Such a struct owns a `Machine`
+//! instead.
 ghost use Rattle.std.specs.Prelude.{◌≡◌, ◌<◌, ◌≤◌, length, option_map, option_and_then, slice_get, IfOk, IfErr};
 ghost use Rattle.klp_types.specs.declared.limits.TheConstants.{MAX_GROUPS, MAX_SITES};
 ghost use Rattle.klp_types.specs.declared.task.Task.{Task as AnyTask};
@@ -19,11 +20,11 @@ use crate::manager::Manager;
 use klp_model::{Event, Refusal, Reply};
 use klp_types::{ObjId, PatchId, Site, SiteRow, TaskId};
 
-/// Does events and takes them back, as [`Manager`] does, and shows what a call of a function needs.
+/// Does events and takes them back, as [`Manager`] does, and shows the facts that a call of a function needs.
 pub trait Machine {
     ghost use Rattle.klp_core.specs.Journaled.{Journaled};
 
-    /// The machine as contracts see it.
+    /// The model of the machine in contracts.
     ghost journaled: { Self → Journaled };
 
     /// Does one event, as [`Manager::apply`] does.
@@ -62,12 +63,12 @@ pub trait Machine {
         ensures { result ≡ option_map (λ (t : AnyTask). t.state)
             (task_at (journaled self.now).managed.state.tasks task) };
 
-    /// Returns the patch in transition, or `None`, as [`Manager::in_transition`] does.
+    /// Returns the patch in transition, as [`Manager::in_transition`] does. Returns `None` if there is no transition.
     fn in_transition(&self) -> Option<PatchId>
         ensures { result ≡ moving_patch (journaled self.now).managed.state.moving };
 
-    /// Whether a patch is cumulative, so that it replaces all older ones. False for a patch that the catalog doesn't
-    /// have.
+    /// Whether a patch is cumulative. A cumulative patch replaces all older patches. False for a patch that the catalog
+    /// doesn't have.
     fn is_cumulative(&self, patch: PatchId) -> bool
         ensures { result ≡ replaces (setting_of (journaled self.now).managed) patch };
 

@@ -25,9 +25,9 @@ use std::alloc::Global;
 use std::marker::Model;
 
 /// The live patching manager. It has the image with its text, the catalog with its patches, the installed patches and
-/// the transition, the tasks, the shadow variables, and a journal, by which accepted events can be taken back.
-/// Contracts see the image, the catalog and the state. They compute the definitions' setting from these three, so that
-/// the setting can't disagree with them (docs/DECISIONS.md, "The model of a manager").
+/// the transition, the tasks, the shadow variables, and a journal. From the journal, accepted events can be taken back.
+/// The model in contracts has the image, the catalog and the state. Contracts compute the definitions' setting from
+/// these three, so that the setting can't disagree with them (docs/DECISIONS.md, "The model of a manager").
 #[derive(Drop)]
 pub struct Manager {
     pub(crate) state: ManagerState,
@@ -52,13 +52,13 @@ impl Model for Manager {
 }
 
 impl Manager {
-    /// Boots a manager from an image, its modules and a catalog, all unchanged since they were made. Then only
+    /// Boots a manager from an image, its modules and a catalog, all unchanged since they were made. At first only
     /// `vmlinux` is loaded, no patch is installed, and there are no tasks, no shadow variables and no event to take
-    /// back. Allocates all memory that events need, so no later call can fail for lack of memory (docs/DECISIONS.md,
-    /// "Memory after boot").
+    /// back. The call allocates all memory that events need, so no later call can fail for lack of memory
+    /// (docs/DECISIONS.md, "Memory after boot").
     ///
-    /// Returns `Mismatch` if the three don't have the same number of objects, or of symbols in each. The caller must
-    /// know that their names are the same. The three are dropped on a fault.
+    /// Returns `Mismatch` if image, modules and catalog don't have the same number of objects, or of symbols in each
+    /// object. The caller must know that their names are the same. If there is a fault, all three are dropped.
     pub fn boot(
         alloc: Global,
         image: Image,
@@ -81,30 +81,32 @@ impl Manager {
         })
     }
 
-    /// Does one event, as one atomic step. Its cost:
-    /// - an event looks at the functions and callbacks of its patch, if it has one, and at the tasks that it concerns;
-    /// - loading or unloading a module costs what the installed patches have for it; in addition, loading looks at all
-    ///   of their functions, and unloading at the frames of all sleepers;
-    /// - an event of a cumulative patch looks at every site with entries, when its transition starts and when it
-    ///   completes, and takes out all older patches;
-    /// - an event of shadow variables costs a change of these.
+    /// Does one event, as one atomic step. The cost depends on the event:
+    /// - an event reads the functions and callbacks of its patch, if it has one, and the tasks that it concerns;
+    /// - loading or unloading a module changes the entries and runs the callbacks that the installed patches have for
+    ///   the module; in addition, loading reads all functions of these patches, and unloading reads the frames of all
+    ///   sleepers;
+    /// - for a cumulative patch, every site with entries is read when the transition starts and when it completes, and
+    ///   completing takes out all older patches;
+    /// - an event of shadow variables costs as much as the change of the variables.
     ///
-    /// An accepted event is appended to the journal, at the cost of the rows that it changed. If the journal has no
-    /// room for another event, each event is refused: with `JournalFull` unless something else refuses it.
+    /// An accepted event is appended to the journal, at a cost that grows with the number of rows that it changed. If
+    /// the journal has no room for another event, each event is refused. The reason is `JournalFull` unless something
+    /// else refuses the event.
     pub fn apply(&mut self, event: Event) -> Result<Reply, Refusal>
         ensures taken { IsTaken self.old self.new event result }
         ensures counts { IfOk result
             (λ reply. AreCounted self.old.managed.catalog self.new.managed.catalog
             (callbacks_of (setting_of self.old.managed) self.old.managed.state event)) }
-        // callbacks change nothing of the catalog but their counts, so what is proved of the setting still holds
+        // of the catalog, callbacks change only their counts, so all facts about the setting still hold
         ensures setting { setting_of self.new.managed ≡ setting_of self.old.managed }
         ensures well_formed { IsWellFormed self.new }
     {
         self.apply_lent(&event)
     }
 
-    /// Like [`Manager::apply`], but borrows the event. This saves a copy: an event is large, since it has room for the
-    /// frames of a sleeper.
+    /// Like [`Manager::apply`], but borrows the event. An event is large, since it has room for the frames of a
+    /// sleeper. So borrowing it saves a large copy.
     #[inline(always)]
     pub fn apply_lent(&mut self, event: &Event) -> Result<Reply, Refusal>
         ensures taken { IsTaken self.old self.new event.now result }
@@ -118,7 +120,7 @@ impl Manager {
         take_and_append(&mut self.state, &mut self.catalog, &mut self.journal, event)
     }
 
-    /// Like [`Manager::apply`], for a caller that needs no reply. The reply isn't returned, and only contracts know it.
+    /// Like [`Manager::apply`], for a caller that doesn't need the reply. Only contracts know the reply.
     #[inline(always)]
     pub fn apply_without_reply(&mut self, event: &Event) -> Result<DroppedReply, Refusal>
         ensures taken { IsTaken self.old self.new event.now result }
@@ -132,12 +134,13 @@ impl Manager {
         take_without_reply(&mut self.state, &mut self.catalog, &mut self.journal, event)
     }
 
-    /// Does events in order. Returns how many were accepted and how many refused. A refused event changes nothing, and
-    /// the next one is done. A loop that calls `apply` would lack the clauses about the whole list.
+    /// Does events in order. Returns how many events were accepted and how many were refused. After a refused event,
+    /// which changes nothing, the next event is done. The contract has clauses about the whole list. A loop that calls
+    /// `apply` wouldn't have these clauses.
     pub fn run(&mut self, events: &[Event]) -> (u64, u64)
         ensures taken { AreTaken self.old self.new events.now result }
         ensures withdrawn { LeavesNoTrace self.old self.new }
-        // so runs can be joined
+        // by this clause, runs can be joined
         ensures setting { setting_of self.new.managed ≡ setting_of self.old.managed }
         ensures well_formed { IsWellFormed self.new }
     {
@@ -155,8 +158,9 @@ impl Manager {
         (accepted, refused)
     }
 
-    /// Returns how many accepted events the journal has: those since the manager was booted or sealed, without the ones
-    /// that were taken back. Pass this number to `rewind` to return to the present state. The cost is constant.
+    /// Returns how many accepted events the journal has. These are the events since the manager was booted or sealed,
+    /// without those that were taken back. Passing this number to `rewind` later leads back to the present state. The
+    /// cost is constant.
     pub fn mark(&self) -> u32
         ensures mark { result ≡ length self.now.groups }
         ensures limit { result ≤ MAX_GROUPS }
@@ -165,8 +169,8 @@ impl Manager {
         self.journal.mark()
     }
 
-    /// Undoes all events but the first `mark`, newest first. Text, hooks, function stacks, system states, shadow
-    /// variables and tasks are then as they were after those `mark` events. No callback runs, since the rows that
+    /// Undoes all events but the first `mark`, newest first. Afterwards text, hooks, function stacks, system states,
+    /// shadow variables and tasks are as they were after the first `mark` events. No callback runs, since the rows that
     /// callbacks changed are put back like all others. The counts of callback runs don't change. The cost grows with
     /// the number of rows that are put back. Returns `BadMark` if the journal has fewer than `mark` events.
     pub fn rewind(&mut self, mark: u32) -> Result<(), BadMark>
@@ -183,8 +187,8 @@ impl Manager {
         Ok(())
     }
 
-    /// Empties the journal. Then no earlier event can be taken back, and the present state is the base. Call this to
-    /// continue when the journal is full. The cost grows at most with the number of dropped records.
+    /// Empties the journal. Afterwards no earlier event can be taken back, and the present state is the base. A caller
+    /// seals a full journal to do more events. The cost grows at most with the number of dropped records.
     pub fn seal(&mut self)
         ensures sealed { self.new ≡ record { managed = self.old.managed; base = self.old.managed.state; groups = [] } }
         ensures well_formed { IsWellFormed self.new }
@@ -192,8 +196,8 @@ impl Manager {
         self.journal.clear(&mut self.state.log);
     }
 
-    /// Returns how many more records the journal has room for. The cost is constant. Each event needs room for the most
-    /// records that an event may log, however few it logs.
+    /// Returns how many more records the journal has room for. The cost is constant. An event is accepted only if there
+    /// is room for the greatest number of records that an event may log, even if it logs fewer.
     pub fn records_free(&self) -> u32
         ensures value { result ≡ records_free self.now.groups }
         ensures limit { records_in self.now.groups ≤ MAX_JOURNAL_RECORDS }

@@ -1,4 +1,5 @@
-//! What a manager shows of its state. Each answer is a definition applied to the state, and no call changes anything.
+//! The facts that a manager shows of its state. Each result is a definition applied to the state, and no call changes
+//! anything.
 ghost use Rattle.std.specs.Prelude.{◌≡◌, ◌≤◌, ◌==◌, ◌&&◌, length, None, Some, is_some, option_map, option_and_then};
 ghost use Rattle.std.specs.Prelude.{if◌then◌else◌};
 ghost use Rattle.std.specs.List.{list_any};
@@ -34,8 +35,8 @@ use klp_types::{
 };
 
 impl Manager {
-    /// Returns the text of an object as a processor would run it, or `None` if the object isn't loaded. The text is
-    /// borrowed, since it may have 64 KiB.
+    /// Returns the text of an object as a processor would run it. Returns `None` if the object isn't loaded. The text
+    /// is borrowed, since it may have 64 KiB.
     pub fn text(&self, object: ObjId) -> Option<TextView<'_>>
         ensures { result ≡ text_of (setting_of self.now.managed) self.now.managed.state object }
     {
@@ -46,24 +47,24 @@ impl Manager {
         }
     }
 
-    /// Returns the function stack of a site, newest entry first. It is empty if there is no such site, and also if the
-    /// site's object isn't loaded, since such an object has no entries.
+    /// Returns the function stack of a site, newest entry first. The result is empty if there is no such site. It is
+    /// also empty if the site's object isn't loaded, since an object that isn't loaded has no entries.
     pub fn stack(&self, site: Site) -> ArrayVec<Entry, MAX_PATCHES>
         ensures { result.items ≡ entries_of (setting_of self.now.managed) self.now.managed.state site }
     {
         self.state.sites.stacks().entries(site)
     }
 
-    /// Returns a copy of the list of installed patches, oldest first, so that a caller can go over it while events are
-    /// taken.
+    /// Returns a copy of the list of installed patches, oldest first. A caller can go over the copy while it does
+    /// events.
     pub fn installed(&self) -> ArrayVec<PatchId, MAX_PATCHES>
         ensures { result.items ≡ installed_patches self.now.managed.state }
     {
         self.state.world.installed_list()
     }
 
-    /// Returns what the `enabled` file of a patch reads: false while the patch is in transition to target 0, otherwise
-    /// true. Returns `None` if the patch isn't installed, since it has no such file then.
+    /// Returns the value that the `enabled` file of a patch reads: false while the patch is in transition to target 0,
+    /// otherwise true. Returns `None` if the patch isn't installed, since such a patch has no `enabled` file.
     pub fn enabled(&self, patch: PatchId) -> Option<bool>
         ensures { result ≡ (if is_installed self.now.managed.state patch then Some
             (enabled_value self.now.managed.state patch) else None) }
@@ -89,8 +90,8 @@ impl Manager {
         }
     }
 
-    /// Returns the patch state of a task, -1 without a transition (`/proc/<pid>/patch_state`). Returns `None` if there
-    /// is no such task.
+    /// Returns the patch state of a task (`/proc/<pid>/patch_state`). The state is -1 if there is no transition.
+    /// Returns `None` if there is no such task.
     #[inline(always)]
     pub fn patch_state(&self, task: TaskId) -> Option<i8>
         ensures { result ≡ option_map (λ (t : AnyTask). t.state) (task_at self.now.managed.state.tasks task) }
@@ -108,8 +109,8 @@ impl Manager {
         Some(row.mode)
     }
 
-    /// Returns the versions that a sleeping task is inside of, outermost first. For any other task the result is empty,
-    /// since what the task runs isn't known. It is empty too for a number without a task.
+    /// Returns the versions that a sleeping task is inside of, outermost first. For a task that isn't asleep the result
+    /// is empty, since the task's frames aren't known. The result is also empty for a number without a task.
     pub fn frames(&self, task: TaskId) -> Frames
         ensures { result ≡ frames_of (task_at self.now.managed.state.tasks task) }
     {
@@ -119,23 +120,23 @@ impl Manager {
         }
     }
 
-    /// Returns the patch in transition with its target, or `None`.
+    /// Returns the patch in transition with its target. Returns `None` if there is no transition.
     pub fn moving(&self) -> Option<Transition>
         ensures { result ≡ self.now.managed.state.moving }
     {
         self.state.moving
     }
 
-    /// Returns the object that a version is in: the object of its site, or of the patch's function. Returns `None` if
-    /// neither the image nor the catalog has the version.
+    /// Returns the object that a version is in. For an original, this is the object of its site. For a new function, it
+    /// is the function's object. Returns `None` if neither the image nor the catalog has the version.
     pub fn object_of(&self, version: Version) -> Option<ObjId>
         ensures { result ≡ object_of_version (setting_of self.now.managed) version }
     {
         self.state.object_of(&self.catalog, version)
     }
 
-    /// Returns the value of a shadow variable, or `None` if it doesn't exist (`klp_shadow_get`). This is no event,
-    /// since nothing changes.
+    /// Returns the value of a shadow variable (`klp_shadow_get`). Returns `None` if the variable doesn't exist. Nothing
+    /// changes, so this call is no event.
     pub fn shadow_get(&self, key: ShadowKey) -> Option<ShadowValue>
         ensures { result ≡ variable self.now.managed.state.world key }
     {
@@ -143,8 +144,8 @@ impl Manager {
     }
 
     /// Returns the lowest address of a parent object that is above `after` and has a shadow variable of this id. If
-    /// `after` is `None`, returns the lowest of all that have one. Returns `None` if there is no such parent object. To
-    /// go over all variables of an id, pass each answer to the next call.
+    /// `after` is `None`, returns the lowest address of a parent object that has one. Returns `None` if there is no
+    /// such parent object. To visit all variables of an id, a caller passes each result to the next call.
     pub fn next_parent(&self, id: u64, after: Option<u64>) -> Option<u64>
         ensures { IsNextParent self.now.managed.state.world.shadow id (lowest_above after) result }
     {
@@ -152,10 +153,10 @@ impl Manager {
     }
 
     /// Returns the value of a system state of an installed patch. Returns `None` if the patch isn't installed or
-    /// doesn't name the state, as a kernel returns no data then (`klp_get_state`).
+    /// doesn't name the state. In these cases a kernel returns no data (`klp_get_state`).
     pub fn state_of(&self, patch: PatchId, id: u64) -> Option<u64>
         ensures value { result ≡ state_value self.now.managed.state.world patch id }
-        // the existing states are exactly those that the catalog gives installed patches
+        // the existing states are exactly those that the catalog gives to installed patches
         ensures there { is_some result
             ≡ (is_installed self.now.managed.state patch
             && list_any (λ own. own == id) (state_ids (setting_of self.now.managed) patch)) }
@@ -164,9 +165,9 @@ impl Manager {
         self.state.world.value(patch, id)
     }
 
-    /// Returns how often a callback of a patch ran, by its object and its kind, or `None` if the patch has no such
-    /// callback. The count stops at the greatest number of 64 bits. `rewind` doesn't change it, since those runs did
-    /// happen.
+    /// Returns how often a callback of a patch ran, by its object and its kind. Returns `None` if the patch has no such
+    /// callback. The count stops at the greatest number of 64 bits. `rewind` doesn't change the count, since the runs
+    /// that it undoes did happen.
     pub fn callback_runs(&self, patch: PatchId, object: ObjId, which: Which) -> Option<u64>
         ensures runs { result ≡ callback_runs self.now.managed.catalog patch object which }
         ensures there { is_some result
@@ -176,10 +177,11 @@ impl Manager {
         self.catalog.callback_runs(patch, object, which)
     }
 
-    /// Whether an event taken now might run a callback: nothing refuses it, and one of the callbacks that it might run
-    /// exists. If this is false, the event runs none (`laws::what_may_not_run_does_not`). The cost grows with the
-    /// objects of the event's patch, or for a module with those of all installed patches. If such a callback exists,
-    /// the event is also checked for refusals.
+    /// Whether an event might run a callback now. This is so if nothing refuses the event, and one of the callbacks
+    /// that it might run exists. If the result is false, the event runs no callback
+    /// (`laws::what_may_not_run_does_not`). The cost grows with the number of objects of the event's patch. For an
+    /// event of a module, it grows with the number of objects of all installed patches. If such a callback exists, the
+    /// event is also checked for refusals.
     pub fn may_run(&self, event: &Event) -> bool
         ensures { result ≡ may_run_some (setting_of self.now.managed) self.now.managed.state event.now }
     {
@@ -187,18 +189,18 @@ impl Manager {
             && refused(&self.state, &self.catalog, event).is_none()
     }
 
-    /// Returns the catalog with which the manager was booted, with the present counts of runs. It is borrowed only for
-    /// reading: a callback that ran outside of an event couldn't be undone.
+    /// Returns the catalog with which the manager was booted, with the present counts of runs. The catalog is borrowed
+    /// only for reading, since a callback that ran outside of an event couldn't be undone.
     pub fn catalog(&self) -> &Catalog
         ensures catalog { result.now ≡ self.now.managed.catalog }
-        // so its sites are those of the image
+        // since the names are equal, the catalog's sites are those of the image
         ensures names { self.now.managed.catalog.names ≡ names_of self.now.managed.image.objects }
     {
         &self.catalog
     }
 
-    /// Returns the names of the image's objects and symbols, and which objects are loaded. The names in console lines
-    /// are resolved with this.
+    /// Returns the names of the image's objects and symbols, and which objects are loaded. With these names, the names
+    /// in lines of the console are resolved.
     pub fn modules(&self) -> &Modules
         ensures { result.now
             ≡ record { names = names_of self.now.managed.image.objects; loaded = self.now.managed.state.loaded } }

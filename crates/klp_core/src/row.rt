@@ -1,4 +1,5 @@
-//! What a call at a hooked site needs to know, and which version a task runs there (the kernel's `klp_ftrace_handler`).
+//! The facts that a call at a hooked site needs, and which version a task runs there (the kernel's
+//! `klp_ftrace_handler`).
 ghost use Rattle.std.specs.Prelude.{◌≡◌, ◌≤◌, option_map, option_and_then, length, slice_get, unwrap_or};
 ghost use Rattle.std.specs.Option.{option_to_list};
 ghost use Rattle.klp_types.specs.declared.limits.TheConstants.{MAX_SITES};
@@ -21,8 +22,8 @@ use klp_types::{
     Version,
 };
 
-/// Returns the patch in transition without its target. A call needs only the patch: the task's patch state decides
-/// whether the call skips the patch's entry.
+/// Returns the patch in transition without its target. A call needs only the patch, since the task's patch state
+/// decides whether the call skips the patch's entry.
 fn patch_of(moving: Option<Transition>) -> Option<PatchId>
     ensures { result ≡ moving_patch moving }
 {
@@ -41,7 +42,7 @@ fn symbols_of(image: &Image, object: ObjId) -> usize
     usize::from(image.symbols(object).unwrap_or(0))
 }
 
-/// Returns the site of an object's first symbol, which comes right after the sites of all objects before it.
+/// Returns the site of an object's first symbol. Its number is the number of sites of all objects before the object.
 fn first_site_of(image: &Image, object: ObjId) -> usize
     ensures site { result ≡ first_site image.now.image.objects object }
     ensures limit { result ≤ MAX_SITES }
@@ -55,7 +56,8 @@ fn first_site_of(image: &Image, object: ObjId) -> usize
 }
 
 impl Manager {
-    /// Returns how many sites the image has, loaded or not: one for each symbol.
+    /// Returns how many sites the image has, whether their objects are loaded or not. There is one site for each
+    /// symbol.
     pub fn sites(&self) -> usize
         ensures count { result ≡ site_count self.now.managed.image }
         ensures limit { result ≤ MAX_SITES }
@@ -63,8 +65,8 @@ impl Manager {
         self.state.sites.sites()
     }
 
-    /// Returns the two newest entries of a site with their addresses. A handler needs just these, so a call doesn't
-    /// walk the stack. Returns `None` if the site isn't one of a loaded object.
+    /// Returns the two newest entries of a site with their addresses. A handler needs only these, so a call doesn't
+    /// walk the stack. Returns `None` if there is no such site, or if its object isn't loaded.
     #[inline(always)]
     pub fn row(&self, site: Site) -> Option<SiteRow>
         ensures { result ≡ row_of (setting_of self.now.managed) self.now.managed.state site }
@@ -81,14 +83,14 @@ impl Manager {
         })
     }
 
-    /// Returns the patch in transition, or `None`.
+    /// Returns the patch in transition. Returns `None` if there is no transition.
     pub fn in_transition(&self) -> Option<PatchId>
         ensures { result ≡ moving_patch self.now.managed.state.moving }
     {
         patch_of(self.state.moving)
     }
 
-    /// Returns how many functions a patch has, over all of its objects. Returns 0 if there is no such patch.
+    /// Returns how many functions a patch has, for all of its objects together. Returns 0 if there is no such patch.
     pub fn functions(&self, patch: PatchId) -> usize
         ensures { result ≡ length (functions_of (setting_of self.now.managed) patch) }
     {
@@ -96,7 +98,7 @@ impl Manager {
     }
 
     /// Returns the site that a patch's function replaces. `number` counts the patch's functions over all of its
-    /// objects. Returns `None` if the object has no such symbol, or the patch no such function.
+    /// objects. Returns `None` if the patch has no such function, or if the function names no symbol of its object.
     #[inline(always)]
     pub fn site_of(&self, patch: PatchId, number: usize) -> Option<Site>
         ensures { result ≡ option_and_then (λ (f : Function). f.site) (slice_get
@@ -105,8 +107,8 @@ impl Manager {
         self.catalog.functions(patch).get(number)?.site()
     }
 
-    /// Returns the site of an object's first symbol; its other symbols follow in their order. The cost grows with the
-    /// number of objects before it.
+    /// Returns the site of an object's first symbol. The sites of the object's other symbols follow in order. The cost
+    /// grows with the number of objects before the object.
     pub fn first_site(&self, object: ObjId) -> usize
         ensures site { result ≡ first_site self.now.managed.image.objects object }
         ensures limit { result ≤ MAX_SITES }
@@ -114,7 +116,8 @@ impl Manager {
         first_site_of(self.state.sites.image(), object)
     }
 
-    /// Returns how many sites an object has, loaded or not: one for each symbol. Returns 0 if there is no such object.
+    /// Returns how many sites an object has, loaded or not. There is one site for each symbol. Returns 0 if there is no
+    /// such object.
     pub fn sites_in(&self, object: ObjId) -> usize
         ensures count { result ≡ sites_in self.now.managed.image.objects object }
         ensures limit { result ≤ MAX_SITES }
@@ -122,8 +125,9 @@ impl Manager {
         symbols_of(self.state.sites.image(), object)
     }
 
-    /// Returns what a task runs when it calls a site's function: the version and the address where it begins. Returns
-    /// `None` if there is no such task, or if the site isn't one of a loaded object, since nothing can be called there.
+    /// Returns the version that a task runs when it calls a site's function, and the address at which the version
+    /// begins. Returns `None` if there is no such task or no such site. If the site's object isn't loaded, nothing can
+    /// be called there, so the result is `None` too.
     pub fn pick(&self, task: TaskId, site: Site) -> Option<Target>
         ensures { result ≡ pick (setting_of self.now.managed) self.now.managed.state task site }
     {
@@ -148,7 +152,7 @@ impl Manager {
         }
     }
 
-    /// Returns the two newest entries of a site, and whether the patch of the newest is in transition.
+    /// Returns the two newest entries of a site, and whether the newest entry's patch is in transition.
     #[inline(always)]
     fn word(&self, site: Site) -> SiteWord
         ensures { result ≡ word_of (moving_patch self.now.managed.state.moving) (entries_of
@@ -158,8 +162,8 @@ impl Manager {
         self.state.sites.stacks().word(site, moving)
     }
 
-    /// Returns the address where a version begins, or `None` if there is no such version. An original begins behind its
-    /// entry site, so that running it doesn't call the handler again.
+    /// Returns the address at which a version begins. Returns `None` if there is no such version. An original begins
+    /// after its entry site, so that running the original doesn't call the handler again.
     #[inline(always)]
     fn begins_at(&self, version: &Version) -> Option<u64>
         ensures { result ≡ address_of (setting_of self.now.managed) version.now }
@@ -178,8 +182,8 @@ impl Manager {
         }
     }
 
-    /// Returns the address where a version begins, or 0 if there is no such version. The row of a loaded site has only
-    /// versions that exist.
+    /// Returns the address at which a version begins, or 0 if there is no such version. The row of a loaded site has
+    /// only versions that exist.
     #[inline(always)]
     fn address(&self, version: Version) -> u64
         ensures { result ≡ unwrap_or (address_of (setting_of self.now.managed) version) 0 }

@@ -15,7 +15,8 @@ use klp_patch_events::{
 };
 use klp_task_shadow_events::{shadow, tasks};
 
-/// Whether the reply to an event has neither the frames of a task nor the value of a variable, as most replies.
+/// Whether the reply to an event has neither the frames of a task nor the value of a variable. Most replies have
+/// neither.
 #[inline(always)]
 pub(crate) fn is_brief(event: &Event) -> bool
     ensures { result ≡ is_brief event.now }
@@ -26,8 +27,8 @@ pub(crate) fn is_brief(event: &Event) -> bool
     }
 }
 
-/// Does an event that has a brief reply, by passing it to the function of its step. The event is borrowed, since it is
-/// large: it has room for the frames of a sleeper.
+/// Does an event that has a brief reply, by passing the event to the function of its step. The event is borrowed, since
+/// it is large: it has room for the frames of a sleeper.
 pub(crate) fn take_brief(
     state: &mut ManagerState,
     catalog: &mut Catalog,
@@ -59,7 +60,7 @@ pub(crate) fn take_brief(
     }
 }
 
-/// Does an event whose reply has frames or a value, by passing it to the function of its step.
+/// Does an event whose reply has frames or a value, by passing the event to the function of its step.
 pub(crate) fn take_long(
     state: &mut ManagerState,
     catalog: &mut Catalog,
@@ -80,8 +81,8 @@ pub(crate) fn take_long(
     }
 }
 
-/// Returns why an event would be refused, or `None`. Doesn't do the event, and ignores the journal. Removals of shadow
-/// variables are never refused.
+/// Returns why an event would be refused. Returns `None` if nothing refuses it. The call doesn't do the event, and
+/// ignores the journal. Removals of shadow variables are never refused.
 pub(crate) fn refused(state: &ManagerState, catalog: &Catalog, event: &Event) -> Option<Refusal>
     requires { Invariant state.now catalog.now }
     ensures { result ≡ refused_in state.now catalog.now event.now }

@@ -5,8 +5,8 @@ use klp_text::Image;
 use klp_types::ObjId;
 use std::marker::Model;
 
-/// The text of one loaded object, borrowed from the manager: its symbols in order, each with the bytes that a processor
-/// would run. While the view lives, no event can be taken, so all bytes are of one moment.
+/// The text of one loaded object, borrowed from the manager. It has the object's symbols in order, each with the bytes
+/// that a processor would run. While the view lives, no event can be done, so all bytes are of the same moment.
 #[derive(Drop)]
 pub struct TextView<'a> {
     image: &'a Image,
@@ -37,8 +37,8 @@ impl<'a> TextView<'a> {
         TextView { image, object }
     }
 
-    /// Returns how many symbols the object has, in the 16 bits in which the image counts them (docs/DECISIONS.md,
-    /// "Symbols of a `TextView`").
+    /// Returns how many symbols the object has. The image counts symbols in 16 bits, and so does this function
+    /// (docs/DECISIONS.md, "Symbols of a `TextView`").
     pub fn len(&self) -> u16
         ensures { result ≡ length self.now }
     {
@@ -48,8 +48,8 @@ impl<'a> TextView<'a> {
         }
     }
 
-    /// Returns a symbol's name, address and bytes, or `None`. `number` counts from 0: symbols aren't looked up by name,
-    /// since several may share a name.
+    /// Returns a symbol's name, address and bytes. Returns `None` if there is no such symbol. `number` counts the
+    /// object's symbols from 0. Symbols aren't looked up by name, since several may have the same name.
     pub fn get(&self, number: u16) -> Option<(&str, u64, &[u8])>
         ensures name { option_map (λ found. found.0.now) result
             ≡ option_map (λ (s : Symbol). s.name) (slice_get self.now number) }

@@ -1,5 +1,5 @@
-//! Worked examples of the words of records. A function here does nothing: its contract is the example, and it is
-//! proved by computing the definition.
+//! Worked examples of the words of records. A function of this module does nothing. The function's contract is the
+//! example, which is proved by computing the definition.
 ghost use Rattle.std.specs.Prelude.{◌≡◌, ℕ, negsuc, true, List, [], ◌∷◌, ◌++◌};
 ghost use Rattle.klp_types.specs.declared.task.Mode.TheVariants.{Kernel};
 ghost use Rattle.klp_types.specs.declared.record.Record.{Record};
@@ -14,7 +14,8 @@ pub fn words_are_counted_by_their_tags()
     ensures moving { words_of (Moving (record { patch = 0; target = true })) ≡ 0 ∷ 1 ∷ 521 ∷ [] }
 {}
 
-/// A list may end with a valid tag and still not end with a record, if the words before the tag are wrong.
+/// The last word of a list may be a valid tag although the list doesn't end with a record: the words before the tag may
+/// be wrong.
 pub fn words_of_no_record_end_with_none()
     ensures { (older : List ℕ) (row : Record) → IsRecord row → 5 ∷ 513 ∷ [] ≡ older ++ words_of row → ⊥ }
 {}

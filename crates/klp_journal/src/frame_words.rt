@@ -1,7 +1,7 @@
-//! The frames of a task as words, for a table of tasks that stores them. Making a frame's word takes a few steps,
-//! and a task that sleeps through a transition is logged three times: when the transition starts, when the task is
-//! switched, and when the transition ends. So the words are made once, when the task falls asleep, and then only
-//! copied and compared.
+//! The frames of a task as words, for a table of tasks that stores them. Making the word of a frame needs a few steps.
+//! A task that sleeps through a transition is logged three times: when the transition starts, when the task is
+//! switched, and when the transition ends. So the words are made once, when the task falls asleep, and then only copied
+//! and compared.
 ghost use Rattle.std.specs.Prelude.{◌≡◌, ◌≤◌, [], length, map};
 ghost use Rattle.std.specs.List.{All};
 ghost use Rattle.klp_journal.specs.Words.{frame_word, IsFrame};
@@ -13,7 +13,7 @@ use std::marker::Model;
 /// The words of a task's frames, outermost first, as in the task's record.
 #[derive(Clone, Drop)]
 pub struct FrameWords {
-    /// The words of the frames, from the first element on. The elements after them mean nothing.
+    /// The words of the frames are the first `count` elements. The other elements mean nothing.
     words: [u64; MAX_FRAMES],
     /// How many words the frames have.
     count: usize,
@@ -44,7 +44,7 @@ impl FrameWords {
         }
     }
 
-    /// Replaces the words by those of these frames. The cost is one step for each frame.
+    /// Replaces the words by those of these frames. The cost grows with the number of frames.
     pub fn set(&mut self, frames: &Frames)
         ensures { self.new ≡ frames.now }
     {
@@ -52,7 +52,7 @@ impl FrameWords {
         write_frames(frames.as_slice(), &mut self.words, 0);
     }
 
-    /// Replaces the words by none, at a constant cost.
+    /// Removes all words, at a constant cost.
     #[inline(always)]
     pub fn clear(&mut self)
         ensures { self.new ≡ [] }
@@ -60,7 +60,7 @@ impl FrameWords {
         self.count = 0;
     }
 
-    /// Returns the words of the frames, without those that mean nothing.
+    /// Returns the words of the frames, without the elements that mean nothing.
     #[inline(always)]
     pub(crate) fn as_words(&self) -> &[u64]
         ensures words { result.now ≡ map frame_word self.now }

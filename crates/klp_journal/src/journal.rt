@@ -10,8 +10,8 @@ use std::marker::Model;
 use std::snapshot::Snapshot;
 
 /// An accepted event, with the number of its records. While it is the newest event, its records are the last of the
-/// list. The event and its reply are snapshots: only contracts read them, no code does at run time, and they take no
-/// memory (docs/DECISIONS.md, "Events in the journal").
+/// list. The event and its reply are snapshots. A snapshot takes no memory, since only contracts read it
+/// (docs/DECISIONS.md, "Events in the journal").
 #[derive(Drop)]
 struct StoredEvent {
     event: Snapshot<Event>,
@@ -20,11 +20,11 @@ struct StoredEvent {
 }
 
 /// The accepted events, oldest first. Their records stay where they were logged, in a list that the caller passes to
-/// each call. An event, its reply, and a record of each row that it changed make a group.
+/// each call. An event, its reply, and a record of each row that the event changed make a group.
 ///
 /// [`Journal::new`] allocates all memory, for [`MAX_GROUPS`] events. The caller's list has room for
-/// [`MAX_JOURNAL_RECORDS`] records of all events together. To undo the newest event, reopen it and put its records
-/// back, newest first.
+/// [`MAX_JOURNAL_RECORDS`] records of all events together. To undo the newest event, the caller reopens it and puts its
+/// records back, newest first.
 #[derive(Drop)]
 pub struct Journal {
     events: Vec<StoredEvent>,
@@ -56,8 +56,8 @@ impl Journal {
         })
     }
 
-    /// Returns how many events there are, at a constant cost. A later `rewind` to this number, the mark, leads back to
-    /// this point.
+    /// Returns how many events there are, at a constant cost. This number is the mark: a later `rewind` to the mark
+    /// leads back to the present state.
     pub fn mark(&self) -> u32
         ensures value { result ≡ length self.now }
         ensures groups { (rows : List Record) → length (groups_of self.now rows) ≡ result }
@@ -66,7 +66,8 @@ impl Journal {
         self.events.len() as u32
     }
 
-    /// Returns how many more records the journal has room for, in all events together. The cost is constant.
+    /// Returns how many more records the journal has room for. The number is for all later events together. The cost is
+    /// constant.
     pub fn records_free(&self, log: &Records) -> u32
         requires { Keeps log.now self.now }
         ensures value { result ≡ records_free (groups_of self.now log.now.older) }
@@ -75,8 +76,8 @@ impl Journal {
         (MAX_JOURNAL_RECORDS - log.older()) as u32
     }
 
-    /// Whether there is room for any one more event: for one more group, and for [`MAX_RECORDS`] records, the most that
-    /// an event logs. How many records an event logs isn't known before it is done. The cost is constant.
+    /// Whether there is room for one more event, whichever it is. The event needs one group, and room for
+    /// [`MAX_RECORDS`] records, since it isn't known beforehand how many records the event logs. The cost is constant.
     pub fn has_room(&self, log: &Records) -> bool
         requires { Keeps log.now self.now }
         ensures { result ≡ has_room (groups_of self.now log.now.older) }
@@ -84,8 +85,8 @@ impl Journal {
         self.events.len() < MAX_GROUPS && MAX_RECORDS <= MAX_JOURNAL_RECORDS - log.older()
     }
 
-    /// Appends an accepted event as the newest. Its records are those in the log, in the order in which they were
-    /// logged. They aren't moved, so the cost is constant.
+    /// Appends an accepted event as the newest. The records in the log become the event's records, in the order in
+    /// which they were logged. The records aren't moved, so the cost is constant.
     pub fn append(&mut self, event: &Event, reply: &Reply, log: &mut Records)
         requires all { counted self.old ≡ length log.old.older }
         requires room { has_room (groups_of self.old log.old.older) ≡ true }
@@ -104,8 +105,8 @@ impl Journal {
         });
     }
 
-    /// Removes the newest event, and makes its records those of the current event, so that the caller can put them
-    /// back. If there is no event, nothing happens. This call alone undoes nothing. The cost is constant.
+    /// Removes the newest event, and makes its records those of the current event, so that the caller can put the
+    /// records back. If there is no event, does nothing. This call alone undoes nothing. The cost is constant.
     pub fn reopen(&mut self, log: &mut Records)
         requires kept { Keeps log.old self.old }
         requires few { (older : List Group) (newest : Group) → groups_of self.old log.old.older ≡ older ++ newest ∷ []
@@ -123,7 +124,7 @@ impl Journal {
         log.reopen(newest.count);
     }
 
-    /// Removes all events and their records. Their memory stays allocated for later ones. The cost is at most one step
+    /// Removes all events and their records. The memory stays allocated for later events. The cost is at most one step
     /// for each event.
     pub fn clear(&mut self, log: &mut Records)
         ensures events { self.new ≡ [] }

@@ -31,8 +31,8 @@ pub const KIND_TRANSITION: u64 = 9;
 /// Whether a patch was pinned.
 pub const KIND_PINNED: u64 = 10;
 
-/// What each word before the tag adds to the tag: a tag is the record's kind plus this number for each such word. All
-/// kinds are below this number.
+/// How much each word before the tag adds to the tag. A tag is the record's kind plus this number for each word before
+/// the tag. All kinds are below this number.
 pub const TAG_OF_A_WORD: u64 = 256;
 
 /// Returns the tag of a record of this kind with `count` words before the tag.

@@ -8,19 +8,19 @@ use crate::write_words::write_record;
 use klp_types::Record;
 
 /// The words of a record never end with the words of another record. So the last record of a list can be read in only
-/// one way. Removing it leaves the words that were there before it was written.
+/// one way. Removing the last record leaves the words that were there before it was written.
 pub fn records_are_read_from_their_ends()
     ensures { (a b : Record) (front : List ℕ) → IsRecord a → IsRecord b → words_of a ≡ front ++ words_of b
         → (front ≡ []) × (a ≡ b) }
 {}
 
-/// A record has at most 36 words with its tag. So room for records can be counted in words.
+/// A record has at most 36 words, including its tag. So room for records can be counted in words.
 pub fn records_have_few_words()
     ensures { (row : Record) → IsRecord row → length (words_of row) ≤ 36 }
 {}
 
-/// A record that is written at the end of a list of words can be read back from the end, and the words before it don't
-/// change. The function writes the record and takes it out again.
+/// A record that is written at the end of a list of words can be read back from the end. The words before the record
+/// don't change. The function writes the record and takes it out again.
 pub fn what_is_written_is_read_back(row: &Record, words: &mut Vec<u64>) -> Option<Record>
     requires { vec_len words.old + 36 ≤ vec_capacity words.old }
     ensures row { result ≡ Some row.now }

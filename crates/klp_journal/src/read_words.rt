@@ -52,8 +52,8 @@ pub fn read_back(words: &[u64]) -> Option<(Record, usize)>
     }
 }
 
-/// Reads the record of this kind with these words before its tag. Returns `None` if there is no such record. Each of
-/// the functions below reads a part of a record, or the records of one kind.
+/// Reads the record of this kind whose words before its tag are `body`. Returns `None` if there is no such record. Each
+/// of the functions below reads a part of a record, or the records of one kind.
 fn read_body(kind: u64, body: &[u64]) -> Option<Record>
     ensures { Finds (IsBody kind body.now) result }
 {
@@ -109,7 +109,7 @@ pub(crate) fn state_of(word: u64) -> PatchState
     }
 }
 
-/// Returns the mode that a word stands for: 0 is user space, 1 is the kernel, and any other word is asleep.
+/// Returns the mode for which a word stands: 0 is user space, 1 is the kernel, and any other word is asleep.
 #[inline(always)]
 pub(crate) fn mode_of(word: u64) -> Mode
     ensures { result ≡ mode_of word }
@@ -164,7 +164,7 @@ fn read_frames(words: &[u64]) -> Option<Frames>
     Some(frames)
 }
 
-/// Reads a task: `word` has its patch state and its mode.
+/// Reads a task. `word` has the task's patch state and its mode.
 fn read_task_row(word: u64, frames: &[u64]) -> Option<Task>
     ensures { Finds (IsTaskOf word frames.now) result }
 {
@@ -178,7 +178,7 @@ fn read_task_row(word: u64, frames: &[u64]) -> Option<Task>
     })
 }
 
-/// Reads a record of a task. If there is only its number, the task didn't exist.
+/// Reads a record of a task. If the record has only the task's number, the task didn't exist.
 fn read_task(body: &[u64]) -> Option<Record>
     ensures { Finds (IsBody KIND_TASK body.now) result }
 {
@@ -199,7 +199,7 @@ fn read_task(body: &[u64]) -> Option<Record>
     }
 }
 
-/// Reads a record of a shadow variable. If the words are only its key, the variable didn't exist.
+/// Reads a record of a shadow variable. If the record has only the variable's key, the variable didn't exist.
 fn read_variable(body: &[u64]) -> Option<Record>
     ensures { Finds (IsBody KIND_VARIABLE body.now) result }
 {
@@ -219,8 +219,8 @@ fn read_variable(body: &[u64]) -> Option<Record>
     }
 }
 
-/// Reads a value of `count` bytes. Returns `None` if there are more or fewer words than the value needs, or if the last
-/// word isn't filled up with zeros.
+/// Reads a value of `count` bytes. Returns `None` if the number of words isn't the one that the value needs, or if the
+/// unused bytes of the last word aren't 0.
 fn read_value(count: u64, words: &[u64]) -> Option<ShadowValue>
     ensures { Finds (IsValueOf count words.now) result }
 {
@@ -264,7 +264,7 @@ fn read_state_value(body: &[u64]) -> Option<Record>
     })
 }
 
-/// Reads a record of a patch's system state. If there is no value, the state didn't exist.
+/// Reads a record of a patch's system state. If the record has no value, the state didn't exist.
 fn read_state_row(body: &[u64]) -> Option<Record>
     ensures { Finds (IsBody KIND_STATE body.now) result }
 {
@@ -294,7 +294,8 @@ fn read_state_row(body: &[u64]) -> Option<Record>
     })
 }
 
-/// Reads a number, which must be below `limit`, and a flag. Returns `None` if the words are anything else.
+/// Reads a number, which must be below `limit`, and a flag. Returns `None` if the words aren't such a number and a
+/// flag.
 fn number_and_flag(body: &[u64], limit: u64) -> Option<(u64, bool)>
     ensures { Finds (λ pair. (pair.0 ∷ flag_word pair.1 ∷ [] ≡ body.now) × (pair.0 < limit)) result }
 {
@@ -315,7 +316,7 @@ fn read_loaded(body: &[u64]) -> Option<Record>
     })
 }
 
-/// Reads a record of an installed patch. If there is no index, the patch wasn't installed.
+/// Reads a record of an installed patch. If the record has no index, the patch wasn't installed.
 fn read_installed(body: &[u64]) -> Option<Record>
     ensures { Finds (IsBody KIND_INSTALLED body.now) result }
 {
@@ -340,7 +341,7 @@ fn read_installed(body: &[u64]) -> Option<Record>
     })
 }
 
-/// Reads a record of an entry of a function stack. If there is no place, the entry didn't exist.
+/// Reads a record of an entry of a function stack. If the record has no place, the entry didn't exist.
 fn read_entry(body: &[u64]) -> Option<Record>
     ensures { Finds (IsBody KIND_ENTRY body.now) result }
 {
@@ -400,7 +401,7 @@ fn read_hook(body: &[u64]) -> Option<Record>
     })
 }
 
-/// Reads a record of the transition. If there are no words, there was no transition.
+/// Reads a record of the transition. If `body` is empty, there was no transition.
 fn read_moving(body: &[u64]) -> Option<Record>
     ensures { Finds (IsBody KIND_TRANSITION body.now) result }
 {

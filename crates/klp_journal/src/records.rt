@@ -1,4 +1,4 @@
-//! The list of records. `write_words` says how a record is written as words.
+//! The list of records. `write_words` writes a record as words.
 ghost use Rattle.std.specs.Prelude.{◌≡◌, ◌+◌, ◌-◌, ◌<◌, ◌≤◌, [], ◌∷◌, ◌++◌, length, map, take, drop, slice_get, Some};
 ghost use Rattle.std.specs.Prelude.{IfOk, IfSome, IfNone};
 ghost use Rattle.klp_types.specs.declared.limits.TheConstants.{MAX_JOURNAL_RECORDS};
@@ -16,17 +16,17 @@ use klp_types::{MAX_JOURNAL_RECORDS, Record, Task, TaskId};
 use std::alloc::{AllocError, Global};
 use std::marker::Model;
 
-/// Records in the order in which they were logged, in one list whose memory is allocated when it is made. First come
-/// those of earlier events, at most [`MAX_JOURNAL_RECORDS`], and after them those of the current event. So nothing is
-/// copied when an event is over: its records stay where they are.
+/// Records in the order in which they were logged, in one list whose memory is allocated when it is made. The records
+/// of earlier events come first, at most [`MAX_JOURNAL_RECORDS`] of them. The records of the current event follow. When
+/// an event ends, its records stay where they are, so nothing is copied.
 ///
-/// Logging takes no memory, since no event may fail half way. To undo a change, its records are put back newest first.
-/// So each row is restored among the rows that were around it when it was logged.
+/// Logging takes no memory, since no event may fail half way. To undo a change, the records of the change are put back
+/// newest first. So when a row is restored, the rows around it are those that were around it when it was logged.
 #[derive(Drop)]
 pub struct Records {
     all: StoredRecords,
-    /// How many of the records belong to earlier events. The others belong to the current event. Their number isn't
-    /// stored, so that logging a record changes only one count.
+    /// How many of the records belong to earlier events. All other records belong to the current event. The number of
+    /// the current event's records isn't stored, so that logging a record changes only one count.
     older: usize,
     /// How many records one event may log.
     room: usize,
@@ -64,7 +64,7 @@ impl Records {
         })
     }
 
-    /// Returns how many more records the current event may log. Every change checks this before it begins.
+    /// Returns how many more records the current event may log. Each change checks this number before it begins.
     pub fn spare(&self) -> usize
         ensures { result ≡ spare_of self.now }
     {
@@ -96,8 +96,9 @@ impl Records {
         self.all.note(row);
     }
 
-    /// Logs a task before it changes. The task is passed by reference and not copied, since a `Task` is large: it has
-    /// room for the greatest number of frames. The words of its frames come from the table of tasks, which stores them.
+    /// Logs a task before the task changes. The task is passed by reference and not copied, since a `Task` is large: it
+    /// has room for the greatest number of frames. The words of the task's frames are those that the table of tasks
+    /// stores.
     #[inline(always)]
     pub fn note_task(&mut self, task: TaskId, was: &Task, frames: &FrameWords)
         requires room { 0 < spare_of self.old }
@@ -108,7 +109,7 @@ impl Records {
     }
 
     /// Removes and returns the newest record of the current event. Returns `None` if the event has no record. Undo
-    /// takes records out in this order, newest first.
+    /// removes records in this order, newest first.
     pub fn take_newest(&mut self) -> Option<Record>
         ensures newest { IfSome result
             (λ newest. self.old ≡ record self.new { logged = self.new.logged ++ newest ∷ [] }) }
@@ -122,8 +123,8 @@ impl Records {
     }
 
     /// Removes the newest record of the current event, and returns it in a form of a few bytes. The records that events
-    /// log most have such a form. Otherwise returns `None` and removes nothing. Then there may still be a record, which
-    /// `take_newest` removes.
+    /// log most have such a form. If the newest record has no such form, or there is no record, returns `None` and
+    /// removes nothing. A record that is left can be removed by `take_newest`.
     #[inline(always)]
     pub fn take_small(&mut self) -> Option<SmallRecord>
         ensures newest { IfSome result
@@ -136,10 +137,10 @@ impl Records {
         self.all.take_small()
     }
 
-    /// Removes the newest record of the current event, if it is of a task whose frames haven't changed since. Returns
-    /// it without its frames, so that undo needn't read the frames of a switched sleeper. `tasks` are the tasks now,
-    /// and `frames` the words of their frames now. If it returns `None`, nothing is removed, and the newest record may
-    /// still be such a one.
+    /// Removes the newest record of the current event if the record is of a task whose frames haven't changed since.
+    /// Returns the record without its frames, so that undo needn't read the frames of a switched sleeper. `tasks` are
+    /// the tasks now, and `frames` are the words of their frames now. If the call returns `None`, nothing is removed,
+    /// even if the newest record is such a record.
     #[inline(always)]
     pub fn take_switched(
         &mut self,
@@ -157,7 +158,7 @@ impl Records {
         self.all.take_switched(tasks, frames)
     }
 
-    /// Drops the records of the current event. The cost is one step for each of them.
+    /// Drops the records of the current event. The cost grows with the number of these records.
     pub fn clear(&mut self)
         ensures { self.new ≡ record self.old { logged = [] } }
     {
@@ -166,8 +167,8 @@ impl Records {
         }
     }
 
-    /// Ends the current event: from now on its records count as the newest records of earlier events. They aren't
-    /// moved, so the cost is constant.
+    /// Ends the current event. From now on, the event's records count as the newest records of earlier events. The
+    /// records aren't moved, so the cost is constant.
     pub fn keep(&mut self)
         requires { length self.old.older + length self.old.logged ≤ MAX_JOURNAL_RECORDS }
         ensures { self.new ≡ record self.old { logged = []; older = self.old.older ++ self.old.logged } }
@@ -175,8 +176,8 @@ impl Records {
         self.older = self.all.count();
     }
 
-    /// Turns the newest `count` records of earlier events into records of the current event, so that they can be taken
-    /// out. The current event must have logged nothing. The cost is constant.
+    /// Turns the newest `count` records of earlier events into records of the current event, so that they can be
+    /// removed one by one. The current event must have logged nothing. The cost is constant.
     pub fn reopen(&mut self, count: usize)
         requires none { self.old.logged ≡ [] }
         requires few { count ≤ self.old.room }

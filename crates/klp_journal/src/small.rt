@@ -1,4 +1,4 @@
-//! The kinds of record that events log most, in a small form that undo reads at a low cost.
+//! The kinds of record that events log most, in a small form. Undo reads this form at a low cost.
 ghost use Rattle.std.specs.Prelude.{◌≡◌, ℕ, List, ◌++◌, length, IfSome};
 ghost use Rattle.klp_journal.specs.declared.kinds.TheConstants.{KIND_TASK, KIND_ENTRY, KIND_HOOK};
 ghost use Rattle.klp_journal.specs.Words.{words_of, IsRecord};
@@ -33,21 +33,21 @@ pub enum SmallRecord {
     },
 }
 
-/// The tag of a task that is inside of nothing: its record has two words before the tag. This tag and those below are
-/// each made of the record's kind and its number of words.
+/// The tag of a task that is inside of nothing. The task's record has two words before the tag. This tag and the three
+/// that follow are each made of the record's kind and its number of words.
 const RESTING: u64 = KIND_TASK + TAG_OF_A_WORD * 2;
 
-/// The tag of an entry that didn't exist.
+/// The tag of the record of an entry that didn't exist.
 const NO_ENTRY: u64 = KIND_ENTRY + TAG_OF_A_WORD * 2;
 
-/// The tag of an entry that existed, with its place.
+/// The tag of the record of an entry that existed. The record has the entry's place.
 const ENTRY: u64 = KIND_ENTRY + TAG_OF_A_WORD * 4;
 
-/// The tag of a site's hook.
+/// The tag of the record of a site's hook.
 const HOOK: u64 = KIND_HOOK + TAG_OF_A_WORD * 2;
 
-/// Returns the record at the end of these words, and how many words it has, including its tag. Returns `None` if the
-/// record is of another kind. The words must end with a record, so only the tag is checked.
+/// Returns the record at the end of these words, and how many words the record has, including its tag. Returns `None`
+/// if the record isn't of a small kind. The words must end with a record, so only the tag is checked.
 #[inline(always)]
 pub(crate) fn small(words: &[u64]) -> Option<(SmallRecord, usize)>
     requires { EndWithRecord words.now }

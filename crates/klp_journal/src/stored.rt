@@ -78,7 +78,7 @@ impl StoredRecords {
         self.count += 1;
     }
 
-    /// Appends the record of a task, whose frames have these words.
+    /// Appends the record of a task. `frames` are the words of the task's frames.
     #[inline(always)]
     pub(crate) fn note_task(&mut self, task: TaskId, was: &Task, frames: &FrameWords)
         requires room { length self.old.rows < self.old.room }
@@ -104,8 +104,8 @@ impl StoredRecords {
         Some(row)
     }
 
-    /// Removes the newest record, and returns it in its small form. If it isn't of a small kind, returns `None` and
-    /// removes nothing.
+    /// Removes the newest record, and returns it in its small form. If the record isn't of a small kind, returns `None`
+    /// and removes nothing.
     #[inline(always)]
     pub(crate) fn take_small(&mut self) -> Option<SmallRecord>
         requires { 0 < length self.old.rows }
@@ -121,8 +121,8 @@ impl StoredRecords {
         Some(newest)
     }
 
-    /// Removes the newest record and returns it without its frames, if it is of a task whose frames haven't changed
-    /// since. Otherwise returns `None` and removes nothing.
+    /// If the newest record is of a task whose frames haven't changed since, removes the record and returns it without
+    /// its frames. Otherwise returns `None` and removes nothing.
     #[inline(always)]
     pub(crate) fn take_switched(
         &mut self,

@@ -1,5 +1,5 @@
-//! The record of a task of which only the patch state or the mode changed, in a small form that undo reads at a low
-//! cost. The task's frames are still the same as in its record, so no frame has to be read.
+//! The record of a task of which only the patch state or the mode changed, in a small form. Undo reads this form at a
+//! low cost. The task's frames are still those of the record, so no frame has to be read.
 ghost use Rattle.std.specs.Prelude.{◌≡◌, ◌≤◌, true, ℕ, List, ◌++◌, length, map, slice_get, Some, IfSome};
 ghost use Rattle.klp_types.specs.declared.record.Record.TheVariants.{TaskRow};
 ghost use Rattle.klp_types.specs.declared.task.Task.{Task as AnyTask};
@@ -14,7 +14,7 @@ use crate::kinds::{KIND_TASK, TAG_OF_A_WORD};
 use crate::read_words::{mode_of, state_of};
 use klp_types::{Mode, PatchState, Task, TaskId};
 
-/// A task, with the patch state and the mode that it had.
+/// A task, with the patch state and the mode that it had before the change.
 #[derive(Clone, Copy)]
 pub struct SwitchedTask {
     pub task: TaskId,
@@ -22,8 +22,8 @@ pub struct SwitchedTask {
     pub mode: Mode,
 }
 
-/// Whether both lists have the same words. They nearly always do. So it compares all words without a test in between,
-/// which lets the processor compare several at once.
+/// Whether both lists have the same words. The lists nearly always have the same words. So the function compares all
+/// words without a test after each word, which lets the processor compare several words at once.
 fn are_same(words: &[u64], others: &[u64]) -> bool
     requires { length words.now ≡ length others.now }
     ensures { result ≡ true → words.now ≡ others.now }
@@ -35,7 +35,7 @@ fn are_same(words: &[u64], others: &[u64]) -> bool
     differing == 0
 }
 
-/// Whether `words` are those of the frames `own`, which the table of tasks stores.
+/// Whether `words` are the words of the frames `own`, which the table of tasks stores.
 #[inline(always)]
 fn are_kept(words: &[u64], own: &FrameWords) -> bool
     ensures { result ≡ true → map frame_of words.now ≡ own.now }
@@ -44,8 +44,8 @@ fn are_kept(words: &[u64], own: &FrameWords) -> bool
     words.len() == own.len() && are_same(words, own)
 }
 
-/// Reads a task's record from the words before its tag, without the frames. Returns `None` if the task doesn't exist
-/// now, or if its frames aren't those of the record.
+/// Reads a task's record, without the frames, from the words before the record's tag. Returns `None` if the task
+/// doesn't exist now, or if its present frames aren't those of the record.
 #[inline(always)]
 fn switched_body(
     body: &[u64],
@@ -73,8 +73,8 @@ fn switched_body(
 }
 
 /// Returns the task of the record at the end of these words, and how many words that record has, including its tag.
-/// Returns `None` if the record is of another kind, if the task doesn't exist now, or if its frames aren't those of the
-/// record. The words must end with a record.
+/// Returns `None` if the record isn't of a task, if the task doesn't exist now, or if its present frames aren't those
+/// of the record. The words must end with a record.
 #[inline(always)]
 pub(crate) fn switched(
     words: &[u64],

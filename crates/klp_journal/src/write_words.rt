@@ -1,4 +1,4 @@
-//! Writes records as words, each at the end of a list. The list has room for all of them from the start. So writing a
+//! Writes records as words, each at the end of a list. From the start, the list has room for all words. So writing a
 //! word is one store, without a check for room.
 ghost use Rattle.std.specs.Prelude.{◌≡◌, ◌+◌, ◌*◌, ◌<◌, ◌≤◌, [], ◌∷◌, ◌++◌, length, map, take, vec_len, vec_capacity};
 ghost use Rattle.std.specs.Int.{w64, from_le_bytes};
@@ -19,8 +19,8 @@ use klp_types::{
     Version,
 };
 
-/// Writes a record at the end of the words, as [`Records`](crate::Records) does. The caller must have made sure that
-/// there is room for the longest record, so no memory is taken.
+/// Writes a record at the end of the words, as [`Records`](crate::Records) does. The caller must make sure that there
+/// is room for the longest record. So the call takes no memory.
 #[inline(always)]
 pub fn write_record(row: &Record, words: &mut Vec<u64>)
     requires { vec_len words.old + 36 ≤ vec_capacity words.old }
@@ -74,7 +74,8 @@ pub fn write_record(row: &Record, words: &mut Vec<u64>)
     }
 }
 
-/// Appends words one by one, since there are few: if their number is known at compile time, each is just a store.
+/// Appends words one by one. There are only a few words. If their number is known at compile time, each word is just
+/// one store.
 #[inline(always)]
 fn append(words: &mut Vec<u64>, new: &[u64])
     requires { vec_len words.old + length new.now ≤ vec_capacity words.old }
@@ -87,8 +88,8 @@ fn append(words: &mut Vec<u64>, new: &[u64])
     }
 }
 
-/// Returns a task's number as a word. Its contract, like those of the next functions, also states the range of the
-/// number, which a contract otherwise knows only where the number itself is read.
+/// Returns a task's number as a word. The contract also states the range of the number, like the contracts of the next
+/// functions. Otherwise a contract knows this range only where the number itself is read.
 fn task_number(task: TaskId) -> u64
     ensures value { result ≡ task }
     ensures range { task < 256 }
@@ -147,7 +148,8 @@ fn mode_word(mode: Mode) -> u64
     }
 }
 
-/// Returns the word of a frame: below 65536 for a site's original, and from 65536 on for a new function of a patch.
+/// Returns the word of a frame. The word is below 65536 for a site's original, and at least 65536 for a new function of
+/// a patch.
 fn frame_word(frame: Version) -> u64
     ensures value { result ≡ frame_word frame }
     ensures range { IsFrame frame }
@@ -158,8 +160,8 @@ fn frame_word(frame: Version) -> u64
     }
 }
 
-/// Writes the words of frames, outermost first, into `words` from index `at` on. Returns the index after the last of
-/// them.
+/// Writes the words of frames, outermost first, into `words` from index `at` on. Returns the index after the last
+/// written word.
 pub(crate) fn write_frames(frames: &[Version], words: &mut [u64], at: usize) -> usize
     requires { at + length frames.now ≤ length words.old }
     ensures written { take result words.new ≡ take at words.old ++ map frame_word frames.now }
@@ -172,8 +174,8 @@ pub(crate) fn write_frames(frames: &[Version], words: &mut [u64], at: usize) -> 
     at + frames.len()
 }
 
-/// Writes the record of a task, and makes the words of the task's frames for this. Most tasks are logged by `copy_task`
-/// instead, which copies words that exist already.
+/// Writes the record of a task. The call first makes the words of the task's frames. Most tasks are logged by
+/// `copy_task` instead, which copies words that exist already.
 fn write_task(task: TaskId, was: &Task, words: &mut Vec<u64>)
     requires { vec_len words.old + 36 ≤ vec_capacity words.old }
     ensures written { words.new.items ≡ words.old.items ++ words_of (TaskRow task was.now) }
@@ -185,7 +187,7 @@ fn write_task(task: TaskId, was: &Task, words: &mut Vec<u64>)
     copy_task(task, was, &frames, words);
 }
 
-/// Writes the record of a task, whose frames have these words.
+/// Writes the record of a task. `frames` are the words of the task's frames.
 #[inline(always)]
 pub(crate) fn copy_task(task: TaskId, was: &Task, frames: &FrameWords, words: &mut Vec<u64>)
     requires spare { vec_len words.old + 36 ≤ vec_capacity words.old }
@@ -204,8 +206,8 @@ pub(crate) fn copy_task(task: TaskId, was: &Task, frames: &FrameWords, words: &m
     }
 }
 
-/// Writes the record of a task that is inside of functions. The words of its frames are copied all at once, since there
-/// may be many. The function isn't inlined, so that a task inside of nothing has no cost from it.
+/// Writes the record of a task that is inside of functions. The words of the task's frames are copied all at once,
+/// since there may be many. The function isn't inlined, so that a task inside of nothing has no cost from it.
 #[inline(never)]
 fn append_sleeper(words: &mut Vec<u64>, number: u64, word: u64, frames: &[u64])
     requires spare { vec_len words.old + 36 ≤ vec_capacity words.old }
@@ -242,7 +244,7 @@ fn write_no_variable(key: ShadowKey, words: &mut Vec<u64>)
     append(words, &[key.obj, key.id, tag(KIND_VARIABLE, 2)]);
 }
 
-/// Writes `count` words of bytes, eight bytes to a word.
+/// Writes bytes as `count` words, eight bytes in each word.
 fn write_bytes(bytes: &[u8], count: usize, words: &mut Vec<u64>)
     requires within { 8 * count ≤ length bytes.now }
     requires spare { vec_len words.old + count ≤ vec_capacity words.old }
@@ -267,7 +269,7 @@ fn first_word(bytes: &[u8]) -> u64
     }
 }
 
-/// Writes the record of a patch's system state, with its value if it existed.
+/// Writes the record of a patch's system state. If the state existed, the record has its value.
 fn write_state_row(patch: PatchId, id: u64, was: Option<u64>, words: &mut Vec<u64>)
     requires { vec_len words.old + 36 ≤ vec_capacity words.old }
     ensures written { words.new.items ≡ words.old.items ++ words_of (StateRow patch id was) }
@@ -280,7 +282,7 @@ fn write_state_row(patch: PatchId, id: u64, was: Option<u64>, words: &mut Vec<u6
     }
 }
 
-/// Writes the record of a patch, with its index if it was installed.
+/// Writes the record of a patch. If the patch was installed, the record has its index.
 fn write_installed(patch: PatchId, place: Option<u8>, words: &mut Vec<u64>)
     requires { vec_len words.old + 36 ≤ vec_capacity words.old }
     ensures written { words.new.items ≡ words.old.items ++ words_of (InstalledPatch patch place) }
@@ -311,7 +313,7 @@ fn func_word(func: Option<u16>) -> u64
     }
 }
 
-/// Writes the record of an entry of a function stack, with its place if it existed.
+/// Writes the record of an entry of a function stack. If the entry existed, the record has its place.
 fn write_entry(site: Site, patch: PatchId, was: Option<Place>, words: &mut Vec<u64>)
     requires { vec_len words.old + 36 ≤ vec_capacity words.old }
     ensures written { words.new.items ≡ words.old.items ++ words_of (StackEntry site patch was) }

@@ -1,4 +1,4 @@
-//! What a manager would answer after some events. All of these are taken back before the call returns.
+//! The answers that a manager would give after some events. All these events are taken back before the call returns.
 ghost use Rattle.std.specs.Prelude.{◌≡◌};
 ghost use Rattle.klp_core.specs.Journaled.{IsWellFormed};
 ghost use Rattle.klp_manager_state.specs.Managed.{setting_of};
@@ -8,11 +8,11 @@ use klp_core::Manager;
 use klp_model::{Event, Refusal, Reply};
 use klp_types::{ShadowKey, ShadowValue};
 
-/// Does the events in order, and then one more event. Then takes all of them back, and returns the reply to the last
-/// one, or why it was refused. A refused event changes nothing.
+/// Does the events in order, and then one more event. Then takes all these events back. Returns the reply to the last
+/// event, or why it was refused. A refused event changes nothing.
 ///
-/// The manager is then as before, but the callbacks that ran stay counted: no call reduces the counts. So call this for
-/// a manager that was booted for it, and not for one whose counts somebody reads.
+/// Afterwards the manager is as before, except for the counts of the callbacks that ran, since no call reduces a count.
+/// So the manager should be one that was booted only for this call, and not one whose counts somebody reads.
 pub fn reply_behind(
     manager: &mut Manager,
     events: &[Event],
@@ -31,7 +31,7 @@ pub fn reply_behind(
 }
 
 /// Does the events in order, and takes all of them back, as [`reply_behind`] does. Returns the value that a shadow
-/// variable has after the events.
+/// variable had after the events.
 pub fn value_behind(manager: &mut Manager, events: &[Event], key: ShadowKey) -> Option<ShadowValue>
     requires { IsWellFormed manager.old }
     ensures seen { IsSeenBehind manager.old manager.new events.now key result }

@@ -1,4 +1,4 @@
-//! How edits change one shadow variable, and which variables they touch.
+//! Computes how edits change one shadow variable, and which variables they touch.
 ghost use Rattle.std.specs.Prelude.{◌≡◌, ◌≤◌, true, [], ◌∷◌, length, option_map, MatchOption};
 ghost use Rattle.klp_types.specs.declared.shadow.ShadowKey.{ShadowKey as AnyKey};
 ghost use Rattle.klp_types.specs.Callbacks as kinds;
@@ -14,7 +14,7 @@ use klp_types::{Edit, MAX_EDITS, Script, ShadowKey, ShadowValue, Which};
 /// How many edits all callbacks of an object can make.
 pub(crate) const ALL_EDITS: usize = 64;
 
-/// The edits that a script makes: none if its status isn't 0.
+/// The edits that a script makes. If the script's status isn't 0, it makes no edit.
 fn edits_made(script: &Script) -> &[Edit]
     ensures made { result.now ≡ scripts.edits_made script.now }
     ensures limit { length result.now ≤ MAX_EDITS }
@@ -32,7 +32,7 @@ pub(crate) fn is_kind(own: Which, which: Which) -> bool
     own == which
 }
 
-/// The script of the callback of this kind, if there is such a callback.
+/// The script of the callback of this kind. `None` if there is no such callback.
 pub(crate) fn script_for(which: Which, callbacks: &[PlanCallback]) -> Option<&Script>
     ensures { option_map (λ script. script.now) result ≡ script_for which callbacks.now }
 {
@@ -82,7 +82,8 @@ fn is_key(own: ShadowKey, key: ShadowKey) -> bool
     own.obj == key.obj && own.id == key.id
 }
 
-/// Returns the value that a variable has after an edit. `was` is its value before, or `None` if it didn't exist.
+/// Returns the value that a variable has after an edit. `was` is the variable's value before the edit, or `None` if the
+/// variable didn't exist.
 fn edited_at(key: ShadowKey, was: Option<ShadowValue>, edit: &Edit) -> Option<ShadowValue>
     ensures { result ≡ scripts.edited_at key was edit.now }
 {
@@ -94,8 +95,8 @@ fn edited_at(key: ShadowKey, was: Option<ShadowValue>, edit: &Edit) -> Option<Sh
     }
 }
 
-/// Returns the value that a variable has after these edits, one after another. `was` is its value before, or `None` if
-/// it didn't exist.
+/// Returns the value that a variable has after these edits, one after another. `was` is the variable's value before the
+/// edits, or `None` if the variable didn't exist.
 pub(crate) fn made_of(
     key: ShadowKey,
     was: Option<ShadowValue>,
@@ -119,8 +120,9 @@ pub(crate) fn edit_touches(key: ShadowKey, edit: &Edit) -> bool
     }
 }
 
-/// Returns a variable that both edits touch, if they touch a common one: a variable that one of them names, or if both
-/// free an id, a variable of it. If they touch no common variable, the result means nothing.
+/// Returns a variable that both edits touch, if there is one. If one of the edits names a variable, the result is this
+/// variable. If both edits free an id, the result is a variable of that id. If the edits touch no common variable, the
+/// result means nothing.
 fn candidate(one: &Edit, other: &Edit) -> ShadowKey
     ensures { (key : AnyKey) → scripts.edit_touches key one.now ≡ true → scripts.edit_touches key other.now ≡ true
         → (scripts.edit_touches result one.now ≡ true) × (scripts.edit_touches result other.now ≡ true) }
@@ -133,7 +135,7 @@ fn candidate(one: &Edit, other: &Edit) -> ShadowKey
     }
 }
 
-/// Returns a variable that both edits touch, or `None`.
+/// Returns a variable that both edits touch. Returns `None` if there is no such variable.
 fn common_key(one: &Edit, other: &Edit) -> Option<ShadowKey>
     ensures { MatchOption result (IsApartFrom one.now other.now)
         (λ key. (scripts.edit_touches key one.now ≡ true) × (scripts.edit_touches key other.now ≡ true)) }
@@ -146,7 +148,8 @@ fn common_key(one: &Edit, other: &Edit) -> Option<ShadowKey>
     }
 }
 
-/// Returns a variable that this edit and one of the others touch, or `None`.
+/// Returns a variable that is touched by this edit and by one of the others. Returns `None` if there is no such
+/// variable.
 fn common_with(one: &Edit, others: &[Edit]) -> Option<ShadowKey>
     ensures { MatchOption result (AreEditsApart (one.now ∷ []) others.now)
         (λ key. (scripts.edit_touches key one.now ≡ true) × (one_edit_touches others.now key ≡ true)) }
@@ -160,7 +163,7 @@ fn common_with(one: &Edit, others: &[Edit]) -> Option<ShadowKey>
     }
 }
 
-/// Returns a variable that edits of both lists touch, or `None`.
+/// Returns a variable that is touched by edits of both lists. Returns `None` if there is no such variable.
 pub(crate) fn common_to(edits: &[Edit], others: &[Edit]) -> Option<ShadowKey>
     ensures { MatchOption result (AreEditsApart edits.now others.now) (λ key. BothTouch edits.now others.now key) }
 {

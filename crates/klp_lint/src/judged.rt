@@ -1,5 +1,5 @@
-//! Whether the premises of the round trip hold for a patch: in the state of a manager, or in every world that has none
-//! of the patch's variables.
+//! Whether the premises of the round trip hold for a patch. They are judged in the state of a manager, or in every
+//! world that has none of the variables that the patch's callbacks touch.
 ghost use Rattle.std.specs.Prelude.{◌≡◌, slice_get, IfOk, IfErr};
 ghost use Rattle.klp_catalog.specs.Catalog.{targets_of_patch};
 ghost use Rattle.klp_manager_state.specs.Managed.{setting_of};
@@ -18,7 +18,7 @@ use klp_core::Manager;
 use klp_modules::Modules;
 use klp_types::PatchId;
 
-/// Returns the targets of a patch. There are none if there is no such patch.
+/// Returns the targets of a patch. The result is empty if there is no such patch.
 fn targets_of(patches: &[PlanPatch], patch: PatchId) -> &[PlanTarget]
     ensures { result.now ≡ targets_of_patch (slice_get patches.now patch) }
 {
@@ -28,7 +28,7 @@ fn targets_of(patches: &[PlanPatch], patch: PatchId) -> &[PlanTarget]
     }
 }
 
-/// Whether the loaded objects among these targets keep the premises. If not, `Err` has a premise that fails.
+/// Whether the premises hold for the loaded objects among these targets. If a premise fails, `Err` has it.
 fn judge<V: Variables>(
     variables: &V,
     modules: &Modules,
@@ -48,10 +48,10 @@ fn judge<V: Variables>(
     }
 }
 
-/// Whether a patch that is enabled now and withdrawn later leaves no trace. This is so if it is at a fair start of the
-/// round trip (docs/ROUND_TRIP.md). If it isn't, `Err` has a premise that fails.
+/// Whether a patch that is enabled now and withdrawn later leaves no trace. This is so if the patch is at a fair start
+/// of the round trip (docs/ROUND_TRIP.md). If the patch isn't at a fair start, `Err` has a premise that fails.
 ///
-/// `patches` are those of the plan over which the manager was booted. They are needed because a manager doesn't show
+/// `patches` are those of the plan with which the manager was booted. They are needed because a manager doesn't show
 /// the scripts of its callbacks.
 pub fn leaves_no_trace(
     manager: &Manager,
@@ -75,9 +75,9 @@ pub fn leaves_no_trace(
     )
 }
 
-/// Whether two premises hold in each world that has none of the variables that a patch's callbacks touch: the callbacks
-/// of each object undo each other, and no variable is touched by the callbacks of two objects. Only the objects that
-/// are loaded now count. If a premise fails, `Err` has it.
+/// Whether two premises hold in each world that has none of the variables that a patch's callbacks touch. One premise
+/// is that the callbacks of each object undo each other. The other is that no variable is touched by the callbacks of
+/// two objects. Only the objects that are loaded now count. If a premise fails, `Err` has it.
 pub fn holds_everywhere(
     manager: &Manager,
     patches: &[PlanPatch],

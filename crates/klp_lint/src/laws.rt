@@ -1,5 +1,5 @@
-//! Laws about the premises of the round trip: what follows if they hold, and if one fails. A function here does
-//! nothing: its contract is the law.
+//! Laws about the premises of the round trip. They say what follows if all premises hold, and what follows if one
+//! fails. A function of this module does nothing: its contract is the law.
 ghost use Rattle.std.specs.Prelude.{◌≡◌, ℕ, false, List, [], None, Result, map};
 ghost use Rattle.klp_types.specs.declared.shadow.ShadowKey.{ShadowKey};
 ghost use Rattle.klp_types.specs.Setting.{Setting};
@@ -21,8 +21,8 @@ ghost use Rattle.klp_lint.specs.declared.premise.Premise.{Premise as AnyPremise}
 ghost use Rattle.klp_lint.specs.Behind.{IsAnsweredBehind};
 ghost use Rattle.klp_lint.specs.Premises.{ArePatchesOf, Fails, FailsOf, HoldEverywhere};
 
-/// The patches of a manager that is booted over a plan are those of the plan, which `leaves_no_trace` needs. The
-/// manager has the names of its image, the plan's patches without the scripts, and the plan's scripts in order
+/// If a manager is booted with a plan, its patches are those of the plan. `leaves_no_trace` needs this. The manager has
+/// the names of its image, the plan's patches without the scripts, and the plan's scripts in order
 /// (klp_program/specs/Booted). Events don't change the setting.
 pub fn a_booted_manager_has_the_patches_of_its_plan()
     ensures { (managed : Managed) (patches : List PlanPatch)
@@ -39,8 +39,8 @@ pub fn what_fails_is_no_fair_start()
     klp_types::laws::untouched_variables_stay();
 }
 
-/// A premise that fails where there are no variables at all doesn't hold in each world that has none of the variables
-/// that the callbacks touch.
+/// If a premise fails in the world without variables, it doesn't hold in each world that has none of the variables that
+/// the callbacks touch.
 pub fn what_fails_without_variables_fails_somewhere()
     ensures { (setting : Setting) (patch : ℕ) (state : State) (premise : AnyPremise)
         → FailsOf (λ _. None) (taking_part setting state patch) premise → HoldEverywhere setting patch state → ⊥ }
@@ -49,15 +49,17 @@ pub fn what_fails_without_variables_fails_somewhere()
     klp_types::laws::edits_go_key_by_key();
 }
 
-/// If there are no events before, the answer of `reply_behind` is that of the definitions in the manager's own state.
+/// If the list of earlier events is empty, the result of `reply_behind` is that of the definitions in the manager's own
+/// state.
 pub fn behind_nothing_is_now()
     ensures { (before after : Journaled) (event : Event) (result : Result Reply Refusal)
         → IsAnsweredBehind before after [] event result
         → result ≡ answer_in (setting_of before.managed) before.managed.state before.groups event }
 {}
 
-/// If the premises hold before fair events, and the patch isn't installed after them, no trace of it is left.
-/// `Manager::run` promises this for a patch at a fair start, and `leaves_no_trace` says whether the patch is at one.
+/// If the premises hold before fair events, and the patch isn't installed after these events, the patch has left no
+/// trace. `Manager::run` promises this for a patch at a fair start. `leaves_no_trace` says whether the patch is at a
+/// fair start.
 pub fn what_is_fair_leaves_no_trace()
     ensures { (before after : Journaled) (patch : ℕ) → LeavesNoTrace before after
         → IsFairStart (setting_of before.managed) patch before.managed.state

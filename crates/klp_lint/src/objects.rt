@@ -1,5 +1,5 @@
-//! The premises for the objects of a patch. Only loaded objects count, and only those before the first whose pre-patch
-//! refuses.
+//! The premises for the objects of a patch. Only loaded objects count, and only those before the first object whose
+//! pre-patch refuses.
 ghost use Rattle.std.specs.Prelude.{◌≡◌, ℕ, ◌+◌, ◌^◌, ◌<◌, ◌≤◌, true, [], ◌∷◌, length, MatchOption, OnOk};
 ghost use Rattle.klp_types.specs.Callbacks.{script_for, is_refusing};
 ghost use Rattle.klp_types.specs.Setting.{PatchObject};
@@ -18,7 +18,8 @@ use klp_catalog_text::{PlanCallback, PlanTarget};
 use klp_modules::Modules;
 use klp_types::{Edit, ShadowKey, Which};
 
-/// An object whose callbacks make changes, with its index in the patch, and the targets after it.
+/// A loaded object, before any object whose pre-patch refuses. The fields are its index in the patch, its target, and
+/// the targets after it.
 #[derive(Clone, Copy)]
 struct Acting<'a> {
     place: usize,
@@ -35,7 +36,8 @@ fn refuses(callbacks: &[PlanCallback]) -> bool
     }
 }
 
-/// The first of these targets whose callbacks make changes.
+/// Returns the first loaded object among these targets. Returns `None` if no target is loaded, or if the first loaded
+/// object's pre-patch refuses.
 fn next_acting<'a>(modules: &Modules, place: usize, targets: &'a [PlanTarget]) -> Option<Acting<'a>>
     requires { place + length targets.now < 2 ^ 64 }
     ensures { MatchOption result (acting modules.now place targets.now ≡ [])
@@ -61,7 +63,8 @@ fn next_acting<'a>(modules: &Modules, place: usize, targets: &'a [PlanTarget]) -
     })
 }
 
-/// Returns the first object whose callbacks leave something changed, and what that is.
+/// Returns the first object whose callbacks leave something changed, with that change. Returns `None` if there is no
+/// such object.
 pub(crate) fn first_left<V: Variables>(
     variables: &V,
     modules: &Modules,
@@ -82,7 +85,8 @@ pub(crate) fn first_left<V: Variables>(
     }
 }
 
-/// The first of these objects whose callbacks touch a variable that these edits touch, and that variable.
+/// Returns the first of these objects whose callbacks touch a variable that these edits touch, with that variable.
+/// Returns `None` if there is no such object.
 fn first_touched(
     edits: &[Edit],
     modules: &Modules,
@@ -102,7 +106,8 @@ fn first_touched(
     }
 }
 
-/// The first two objects whose callbacks touch a common variable, and that variable.
+/// Returns the first two objects whose callbacks touch a common variable, with that variable. Returns `None` if there
+/// are no such objects.
 pub(crate) fn first_common(
     modules: &Modules,
     place: usize,

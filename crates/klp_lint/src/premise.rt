@@ -3,7 +3,7 @@ ghost use Rattle.klp_lint.specs.Premises.{premise_of};
 
 use klp_types::ShadowKey;
 
-/// Two callbacks of an object, the second of which has to undo the first.
+/// Two callbacks of an object. The second callback has to undo the first.
 #[derive(Clone, Copy, Debug, PartialEq, Eq)]
 pub enum Pair {
     /// Post-unpatch undoes pre-patch.
@@ -12,23 +12,23 @@ pub enum Pair {
     Post,
 }
 
-/// What an object's callbacks leave changed: after the second callback of the pair, the variable has another value than
-/// the first callback found.
+/// The variable that an object's callbacks leave changed. After the second callback of the pair, the variable has
+/// another value than before the first callback.
 #[derive(Clone, Copy, PartialEq, Eq)]
 pub(crate) struct Left {
     pub(crate) pair: Pair,
     pub(crate) key: ShadowKey,
 }
 
-/// A premise of the round trip that a patch doesn't keep (docs/ROUND_TRIP.md). An object is given by its index among
-/// those of the patch, from 0.
+/// A premise of the round trip that doesn't hold for a patch (docs/ROUND_TRIP.md). An object is given by its index
+/// among the patch's objects, from 0.
 #[derive(Clone, Copy, PartialEq, Eq)]
 pub enum Premise {
     /// A patch is in transition.
     Moving,
     /// The patch is installed.
     Installed,
-    /// After the callbacks of this pair, the variable has another value than before.
+    /// After the callbacks of this pair, the variable has another value than before them.
     NotUndone {
         place: usize,
         pair: Pair,
@@ -42,7 +42,7 @@ pub enum Premise {
     },
 }
 
-/// Returns the premise that the object at this index doesn't keep, if its callbacks leave `left` changed.
+/// Returns the premise that fails for the object at this index if its callbacks leave `left` changed.
 pub(crate) fn premise_of(place: usize, left: Left) -> Premise
     ensures { result ≡ premise_of place left }
 {

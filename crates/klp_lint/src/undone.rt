@@ -21,8 +21,8 @@ fn is_same(a: &Option<ShadowValue>, b: &Option<ShadowValue>) -> bool
     }
 }
 
-/// Returns the first pair of an object's callbacks that doesn't restore the variable `key`, or `None` if each does.
-/// `was` is the variable's value before the callbacks.
+/// Returns the first pair of an object's callbacks that doesn't restore the variable `key`. Returns `None` if each pair
+/// restores it. `was` is the variable's value before the callbacks.
 pub(crate) fn first_unrestored(
     callbacks: &[PlanCallback],
     key: ShadowKey,
@@ -44,8 +44,8 @@ pub(crate) fn first_unrestored(
     None
 }
 
-/// Returns the first variable of the id that a pair of an object's callbacks doesn't restore, with that pair. Only
-/// existing variables are looked at: freeing the id leaves a variable absent that doesn't exist.
+/// Returns the first variable of the id that a pair of an object's callbacks doesn't restore, with that pair. Freeing
+/// the id doesn't change variables that don't exist. So only existing variables are checked.
 fn left_of_id<V: Variables>(variables: &V, callbacks: &[PlanCallback], id: u64) -> Option<Left>
     ensures { MatchOption result (IsHarmless (V.values variables.now) callbacks.now (AnyEdit.FreeAll id))
         (λ left. IsLeft (V.values variables.now) callbacks.now left) }
@@ -61,8 +61,8 @@ fn left_of_id<V: Variables>(variables: &V, callbacks: &[PlanCallback], id: u64) 
     None
 }
 
-/// Returns a variable that the edit touches and a pair of its object's callbacks doesn't restore, with that pair.
-/// Returns `None` if there is none.
+/// Returns a variable that the edit touches and that a pair of its object's callbacks doesn't restore, with that pair.
+/// Returns `None` if there is no such variable.
 fn left_of<V: Variables>(variables: &V, callbacks: &[PlanCallback], edit: &Edit) -> Option<Left>
     ensures { MatchOption result (IsHarmless (V.values variables.now) callbacks.now edit.now)
         (λ left. IsLeft (V.values variables.now) callbacks.now left) }
@@ -79,7 +79,7 @@ fn left_of<V: Variables>(variables: &V, callbacks: &[PlanCallback], edit: &Edit)
     }
 }
 
-/// Returns what `left_of` returns for the first of these edits for which it isn't `None`.
+/// Returns the first result of `left_of` for these edits that isn't `None`. Returns `None` if there is no such result.
 fn first_left<V: Variables>(
     variables: &V,
     callbacks: &[PlanCallback],
@@ -97,7 +97,7 @@ fn first_left<V: Variables>(
     }
 }
 
-/// Returns what an object's callbacks leave changed, or `None` if they restore every variable.
+/// Returns what an object's callbacks leave changed. Returns `None` if the callbacks restore every variable.
 pub(crate) fn left_by<V: Variables>(variables: &V, callbacks: &[PlanCallback]) -> Option<Left>
     ensures { MatchOption result ((key : AnyKey) → AreRestored callbacks.now key (V.values variables.now key))
         (λ left. IsLeft (V.values variables.now) callbacks.now left) }
@@ -124,8 +124,8 @@ pub fn found_by(
     }
 }
 
-/// Returns the value that a variable has after both callbacks of a pair. The pair restores the variable if `found_by`
-/// returns the same value.
+/// Returns the value that a variable has after both callbacks of a pair. If this value is equal to the result of
+/// `found_by`, the pair restores the variable.
 pub fn left_behind(
     callbacks: &[PlanCallback],
     pair: Pair,

@@ -1,4 +1,4 @@
-//! The board: the place where the book publishes its table, for readers without a lock.
+//! The board, on which the book publishes its table. Readers need no lock.
 ghost use Rattle.std.specs.Prelude.{◌≡◌, [], ◌∷◌, ◌++◌, drop, None, Some, MatchBool};
 ghost use Rattle.left_right.specs.Sides.{view};
 ghost use Rattle.klp_live.specs.Shown.{with_news, Follows, RuleIs, known_of};
@@ -15,10 +15,11 @@ use std::sync::Wait;
 /// The publishing end of the board.
 pub type Changes<S> = Writer<Published, Option<News>, View, S>;
 
-/// The reading end of the board. Each seat has one.
+/// The reading end of the board. Each seat has such an end.
 pub type Place<S> = Reader<Published, View, S>;
 
-/// Appends what is to be published next. It would wait for memory, but the caller has reserved room, so it never waits.
+/// Appends the news that is to be published next. Without room, the call would wait for memory. The caller has reserved
+/// room, so the call never waits.
 pub fn push<S: Start + Protocol<Published, View>, W: Wait>(
     rt: &W,
     changes: &mut Changes<S>,
@@ -57,15 +58,15 @@ pub fn announce<S: Start + Protocol<Published, View>, W: Wait>(
     changes.publish_as::<Sees, W>(rt).0
 }
 
-/// The publishing end of the board. Dropping it must wait for its readers. A value under a lock is dropped without
-/// arguments, so the board stores the handle for waiting.
+/// The publishing end of the board. When it is dropped, it must wait for its readers. A value under a lock is dropped
+/// without arguments, so the board stores the handle for waiting.
 pub struct Board<S: Start + Protocol<Published, View>, R: Wait + Drop> {
     changes: Changes<S>,
     rt: R,
 }
 
 impl<S: Start + Protocol<Published, View>, R: Wait + Drop> Drop for Board<S, R> {
-    /// Waits until no reader is inside, then drops the end that publishes.
+    /// Waits until no reader is reading, then drops the publishing end.
     fn drop(self) {
         let Board { changes, rt } = self;
         changes.take(&rt);
@@ -85,7 +86,7 @@ impl<S: Start + Protocol<Published, View>, R: Wait + Drop> Model for Board<S, R>
 }
 
 impl<S: Start + Protocol<Published, View>, R: Wait + Drop> Board<S, R> {
-    /// Makes a board of the publishing end. `rt` is the handle for waiting when the board is dropped.
+    /// Makes a board from the publishing end. `rt` is the handle for waiting when the board is dropped.
     pub fn over(changes: Changes<S>, rt: R) -> Board<S, R>
         ensures { result ≡ record {
           value = changes.desk.shown.value;
@@ -95,7 +96,7 @@ impl<S: Start + Protocol<Published, View>, R: Wait + Drop> Board<S, R> {
         Board { changes, rt }
     }
 
-    /// Reserves room for one row. Returns whether there was memory for it.
+    /// Reserves room for one row. Returns whether there was memory for the row.
     pub fn reserve(&mut self) -> bool
         requires { self.old.pending ≡ [] }
         ensures { MatchBool result (self.new ≡ record self.old { pending = None ∷ [] }) (self.new ≡ self.old) }

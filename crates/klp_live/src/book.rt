@@ -25,9 +25,9 @@ use std::alloc::Global;
 use std::marker::Model;
 use std::sync::Wait;
 
-/// The manager with its history and the table that it publishes. Only the owner of the book, or whoever has locked it,
-/// can have events accepted. So the book belongs under a lock or in one thread. Dropping the book waits until no seat
-/// reads; for this it stores a handle.
+/// The manager with its history and the table that it publishes. Only the owner of the book, or a thread that has
+/// locked it, can have events accepted. So the book must be under a lock or in one thread. Dropping the book waits
+/// until no seat reads. For this wait the book stores a handle.
 #[derive(Drop)]
 pub struct Book<S: Start + Protocol<Published, View>, M: Machine + Drop, R: Wait + Drop> {
     pub(crate) machine: M,
@@ -58,8 +58,8 @@ impl<S: Start + Protocol<Published, View>, M: Machine + Drop, R: Wait + Drop> Bo
         self.publisher.front().len()
     }
 
-    /// Returns the manager, for reading only. Only `admit` changes it, so that manager and published table always
-    /// agree.
+    /// Returns the manager, for reading only. Only `admit` changes the manager, so that manager and published table
+    /// always agree.
     pub fn machine(&self) -> &M
         ensures machine { M.journaled result.now ≡ self.now.manager }
         ensures kept { IsManagerOf S.setting S.base self.now.manager self.now.list }
@@ -67,10 +67,10 @@ impl<S: Start + Protocol<Published, View>, M: Machine + Drop, R: Wait + Drop> Bo
         &self.machine
     }
 
-    /// Passes an event to the manager for a seat. If it is accepted, appends its row to the history and publishes the
-    /// row. Waits until no reader is left in the older of the two tables. The cost is that of the manager's `apply`,
-    /// and twice that of the event's changes of a table. If there is no memory to publish the event, it is taken back
-    /// by its own undo records and refused with `NoMemory`.
+    /// Passes an event to the manager for a seat. If the event is accepted, appends its row to the history and
+    /// publishes the row. The call waits until no reader is left in the older of the two tables. The cost is that of
+    /// the manager's `apply`, and twice the cost of the event's changes of a table. If there is no memory to publish
+    /// the event, it is taken back by its own undo records and refused with `NoMemory`.
     pub fn admit<W: Wait>(
         &mut self,
         rt: &W,
@@ -111,7 +111,7 @@ impl<S: Start + Protocol<Published, View>, M: Machine + Drop, R: Wait + Drop> Bo
     }
 }
 
-/// Passes an event to the machine. Calls `mark` for its contract.
+/// Passes an event to the machine. `mark` is called for its contract.
 fn accept<M: Machine>(machine: &mut M, event: Event) -> Result<Reply, Refusal>
     ensures taken { IsTaken (M.journaled machine.old) (M.journaled machine.new) event result }
     ensures setting { setting_of (M.journaled machine.new).managed ≡ setting_of (M.journaled machine.old).managed }
@@ -120,7 +120,7 @@ fn accept<M: Machine>(machine: &mut M, event: Event) -> Result<Reply, Refusal>
     machine.apply(event)
 }
 
-/// Publishes the row of an event that was just accepted. Returns `None` if there is no memory for that.
+/// Publishes the row of an event that was just accepted. Returns `None` if there is no memory to publish it.
 fn publish<S: Start + Protocol<Published, View>, M: Machine, R: Wait + Drop, W: Wait>(
     rt: &W,
     alloc: Global,

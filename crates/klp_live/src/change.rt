@@ -1,4 +1,4 @@
-//! Making the table of a manager, and what an event changes in it.
+//! Making the table of a manager, and the changes that an event makes in the table.
 ghost use Rattle.std.specs.Prelude.{◌≡◌, ℕ, ◌<◌, ◌≤◌, ◌++◌, true, false, Some, None, length, slice_index_or, vec_len};
 ghost use Rattle.std.specs.Prelude.{vec_capacity, ◌+◌, IfOk, IfSome, Option, Ok};
 ghost use Rattle.klp_types.specs.declared.limits.TheConstants.{MAX_SITES, MAX_TASKS};
@@ -35,7 +35,7 @@ fn put_row(own: &mut Option<SiteRow>, row: &Option<SiteRow>)
     }
 }
 
-/// Sets these rows in the table, one after the other.
+/// Sets these rows in the table, one row after the other.
 fn put_rows(table: &mut [Option<SiteRow>; MAX_SITES], rows: &[NewRow])
     ensures { table.new ≡ with_rows table.old rows.now }
 {
@@ -70,7 +70,7 @@ impl Change {
     }
 }
 
-/// Sets each of these rows to the machine's row of that site.
+/// Sets each of these rows to the row that the machine has for the row's site.
 fn fill_rows<M: Machine>(rows: &mut [Option<SiteRow>; MAX_SITES], machine: &M)
     ensures count { length rows.new ≡ MAX_SITES }
     ensures rows { let managed = (M.journaled machine.now).managed in
@@ -82,7 +82,7 @@ fn fill_rows<M: Machine>(rows: &mut [Option<SiteRow>; MAX_SITES], machine: &M)
     }
 }
 
-/// Sets each of these states to the machine's patch state of that task.
+/// Sets each of these states to the machine's patch state of the task with that number.
 fn fill_states<M: Machine>(states: &mut [Option<i8>; MAX_TASKS], machine: &M)
     ensures count { length states.new ≡ MAX_TASKS }
     ensures states { (task : ℕ) → task < MAX_TASKS
@@ -102,7 +102,8 @@ impl Table {
         }
     }
 
-    /// Fills the table with the rows and patch states of the machine's present state. Looks at every site.
+    /// Fills the table with the rows and patch states of the machine's present state. The call reads the row of every
+    /// site.
     pub fn fill<M: Machine>(&mut self, machine: &M)
         ensures { let managed = (M.journaled machine.now).managed in
             IsDispatch (setting_of managed) managed.state self.new }
@@ -115,8 +116,8 @@ impl Table {
     }
 }
 
-/// Returns a change that sets the whole table to that of the machine's present state. Looks at every site. An error
-/// means that memory ran out.
+/// Returns a change that sets the whole table to that of the machine's present state. The call reads the row of every
+/// site. An error means that memory ran out.
 pub fn change_of<M: Machine>(alloc: Global, machine: &M) -> Result<Change, AllocError>
     ensures made { let managed = (M.journaled machine.now).managed in
         IfOk result (λ change. Makes (setting_of managed) managed.state change) }
@@ -127,8 +128,8 @@ pub fn change_of<M: Machine>(alloc: Global, machine: &M) -> Result<Change, Alloc
     Ok(Change::All(all))
 }
 
-/// Returns the task whose state an event may change, if the event changes nothing else in a table. Returns `None` for
-/// other events.
+/// Returns the task whose state an event may change, if this state is all that the event may change in a table. Returns
+/// `None` for other events.
 fn task_of(event: &Event) -> Option<TaskId>
     ensures { result ≡ task_in event.now }
 {
@@ -144,7 +145,7 @@ fn task_of(event: &Event) -> Option<TaskId>
     }
 }
 
-/// Whether an event is about shadow variables. A table shows none of them.
+/// Whether an event is about shadow variables. A table shows no shadow variables.
 fn is_of_variables(event: &Event) -> bool
     ensures { result ≡ is_of_variables event.now }
 {
@@ -198,7 +199,7 @@ fn add_row<M: Machine>(machine: &M, site: Option<Site>, rows: &mut Vec<NewRow>)
     }
 }
 
-/// Returns the present rows of the sites that a patch has functions for.
+/// Returns the present rows of the sites for which a patch has functions.
 fn rows_of<M: Machine>(
     alloc: Global,
     machine: &M,
@@ -263,8 +264,8 @@ fn moved<M: Machine>(
     Ok(moved)
 }
 
-/// Returns what an event that was just accepted changed in the table. The event must be about patches or modules, and
-/// not about one task or about variables. `moving` is the patch that was in transition before the event.
+/// Returns the changes that an event that was just accepted made in the table. The event must be about patches or
+/// modules, and not about one task or about variables. `moving` is the patch that was in transition before the event.
 fn change_of_patches<M: Machine>(
     alloc: Global,
     machine: &M,
@@ -291,9 +292,9 @@ fn change_of_patches<M: Machine>(
     }
 }
 
-/// Returns what an event that was just accepted changed in the table. `moving` is the patch that was in transition
-/// before the event. The cost grows with the number of the event's own sites, or for a cumulative patch with that of
-/// all sites. If the event may change all tasks, it also grows with their number.
+/// Returns the changes that an event that was just accepted made in the table. `moving` is the patch that was in
+/// transition before the event. The cost grows with the number of the event's own sites. For a cumulative patch, it
+/// grows with the number of all sites. If the event may change all tasks, the cost also grows with the number of tasks.
 pub fn change_after<M: Machine>(
     alloc: Global,
     machine: &M,

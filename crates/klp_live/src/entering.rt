@@ -1,4 +1,4 @@
-//! The calls of a thread that runs a task.
+//! The calls that a task's thread makes while it runs the task.
 ghost use Rattle.std.specs.Prelude.{◌≡◌, length, ◌⊎◌, Err, IfSome};
 ghost use mathlib.Core.List.{IsPrefix};
 ghost use Rattle.klp_model.specs.Legal.{IsLegal};
@@ -23,7 +23,7 @@ use std::alloc::Global;
 use std::marker::{Model, PhantomData};
 use std::sync::Wait;
 
-/// The outcome of a read, as contracts know it.
+/// The outcome of a read, for contracts only.
 pub struct Reads<S: Start> {
     of: PhantomData<S>,
 }
@@ -34,14 +34,14 @@ impl<S: Start> Outcome<Published, View> for Reads<S> {
     ghost then = { λ v x y w. IsRead S.setting S.base v x y w };
 }
 
-/// An answer, with the history that it is based on.
+/// An answer, with the history on which the answer is based.
 #[derive(Drop)]
 pub struct Answer<S: Start> {
     found: Result<Target, EnterFault>,
     front: Front<S>,
 }
 
-/// Reads the published table once, and returns the reader with the answer. There is no answer if the book has ended.
+/// Reads the published table once, and returns the reader with the answer. If the book has ended, there is no answer.
 #[inline(always)]
 fn look<S: Start + Protocol<Published, View>>(
     reader: Place<S>,
@@ -81,8 +81,8 @@ fn front_of<S: Start>(shown: &Published) -> Front<S>
     }
 }
 
-/// Returns `NoTable` if the answer is older than what the front knows. Otherwise returns the answer, and the front then
-/// knows the answer's history.
+/// Returns `NoTable` if the answer's history is shorter than that of the front. Otherwise returns the answer, and the
+/// front gets the answer's history.
 #[inline(always)]
 fn adopt<S: Start>(front: &mut Front<S>, answer: Answer<S>) -> Result<Target, EnterFault>
     ensures { ((result ≡ Err EnterFault.NoTable) × (front.new ≡ front.old))
@@ -96,9 +96,9 @@ fn adopt<S: Start>(front: &mut Front<S>, answer: Answer<S>) -> Result<Target, En
 }
 
 impl<S: Start + Protocol<Published, View>> Seat<S> {
-    /// Returns what a call of the task at the site runs, by the published table. The seat then knows the history of
-    /// that table. The cost is two lookups and the steps of `left_right`. Takes no lock, allocates nothing, and never
-    /// waits.
+    /// Returns the version that a call of the task at the site runs, by the published table. Afterwards the seat knows
+    /// the history of that table. The cost is two look-ups and the steps of `left_right`. The call takes no lock,
+    /// allocates nothing, and never waits.
     pub fn enter(&mut self, task: TaskId, site: Site) -> Result<Target, EnterFault>
         ensures { IsEntered S.setting S.base task site self.old self.new result }
     {
@@ -112,7 +112,7 @@ impl<S: Start + Protocol<Published, View>> Seat<S> {
     }
 }
 
-/// A running task with its seat. Through the seat the task's thread knows what happened. A pass is for one task, so
+/// A running task with its seat. Through the seat the task's thread knows the history. A pass is for one task, so
 /// `enter` needs no task number.
 #[derive(Drop)]
 pub struct TaskPass<S: Start + Protocol<Published, View>> {
@@ -151,7 +151,7 @@ impl<S: Start + Protocol<Published, View>> TaskPass<S> {
         self.seat.rows()
     }
 
-    /// Returns the seat. It still knows what the pass knew, and can be given to another task.
+    /// Returns the seat. The seat still knows the history that the pass knew, and can be given to another task.
     pub fn detach(self) -> Seat<S>
         ensures { result ≡ self.knows }
     {
@@ -159,9 +159,9 @@ impl<S: Start + Protocol<Published, View>> TaskPass<S> {
         seat
     }
 
-    /// Submits an event. This takes the lock, and so may wait. If the event is accepted, the pass then knows the
-    /// history up to it. If the event is refused, the pass knows the history after which it was refused. If memory ran
-    /// out, the pass knows what it knew before.
+    /// Submits an event. The call takes the lock, so it may wait. If the event is accepted, the pass afterwards knows
+    /// the history up to this event. If the event is refused, the pass afterwards knows the history after which the
+    /// event was refused. If memory ran out, the history that the pass knows doesn't change.
     pub fn submit<M: Machine + Drop, R: Wait + Drop, W: Wait>(
         &mut self,
         rt: &W,
@@ -175,7 +175,8 @@ impl<S: Start + Protocol<Published, View>> TaskPass<S> {
         live.admit(rt, alloc, &mut self.seat, event)
     }
 
-    /// Learns of the event of a receipt: each later `enter` of this pass sees this event, and all events before it.
+    /// Adds the event of a receipt, and all events before it, to the known history. Each later `enter` of this pass
+    /// sees the effects of these events.
     pub fn hear(&mut self, receipt: &Receipt<S>)
         ensures own { IsPrefix self.old.knows.list self.new.knows.list }
         ensures heard { IsPrefix receipt.now.list self.new.knows.list }
@@ -187,8 +188,8 @@ impl<S: Start + Protocol<Published, View>> TaskPass<S> {
         self.seat.hear(receipt)
     }
 
-    /// Returns what a call of the task at the site runs, by one published table that has all that the pass knows. Takes
-    /// no lock, allocates nothing, and doesn't wait.
+    /// Returns the version that a call of the task at the site runs. The version is looked up in one published table,
+    /// whose history has all rows that the pass knows. The call takes no lock, allocates nothing, and doesn't wait.
     pub fn enter(&mut self, site: Site) -> Result<Target, EnterFault>
         ensures entered { IsEntered S.setting S.base self.old.task site self.old.knows self.new.knows result }
         ensures task { self.new.task ≡ self.old.task }

@@ -1,5 +1,5 @@
-//! What happened since a start: one history for all threads, which only grows. Its rows exist in contracts alone. At
-//! run time there is only its length.
+//! The events since a start: one history for all threads, to which rows are only added. The rows exist in contracts
+//! alone. At run time there is only the length of the history.
 ghost use Rattle.std.specs.Prelude.{◌≡◌, ◌+◌, ◌==◌, ◌<◌, ◌≤◌, ◌^◌, ◌++◌, ◌∷◌, [], length, MatchBool, Ok};
 ghost use mathlib.Core.List.{IsPrefix};
 ghost use Rattle.klp_model.specs.Legal.{IsLegal, state_after_history};
@@ -14,8 +14,8 @@ use std::marker::{Brand, Model, PhantomData};
 use std::sync::Wait;
 use std::sync::ledger::Ledger;
 
-/// Names a start in contracts: its history, and the setting and state that it began with. It has as many seats as its
-/// ledger has parts.
+/// The name of a start in contracts: its history, and the setting and state with which it began. A start has as many
+/// seats as its ledger has parts.
 pub trait Start: Ledger {
     ghost use Rattle.logbook.specs.Pages.{Book};
     ghost use Rattle.klp_types.specs.Setting.{Setting};
@@ -49,7 +49,7 @@ pub struct Opened {
 }
 
 impl Opened {
-    /// Makes an empty history. Allocates nothing.
+    /// Makes an empty history. The call allocates nothing.
     pub fn new() -> Opened {
         let (seen, mut first, _second) = Seen::open(Fresh::alone(), 0, 0);
         Opened {
@@ -58,8 +58,7 @@ impl Opened {
         }
     }
 
-    /// Gives the history to the start `S`. Returns the word that counts its rows, and a front that has seen none of
-    /// them.
+    /// Gives the history to the start `S`. Returns the head, which counts the rows, and a front that has seen no row.
     pub fn named<S: Start>(self) -> (Head<S>, Front<S>)
         requires { self.seen.book ≡ S.book }
         ensures { result.1 ≡ [] }
@@ -87,7 +86,7 @@ pub struct Head<S: Start> {
     ghost head_is: { word ≡ head_of S.book },
 }
 
-/// A beginning of the history: the rows, from the first up to some row, that someone has seen.
+/// A prefix of the history: the rows, from the first up to some row, that its owner has seen.
 #[derive(Drop)]
 pub struct Front<S: Start> {
     pub(crate) rows: u64,
@@ -108,7 +107,7 @@ impl<S: Start> Model for Front<S> {
 }
 
 impl<S: Start> Front<S> {
-    /// Returns how many rows it has.
+    /// Returns how many rows the front has.
     pub fn len(&self) -> u64
         ensures length { result ≡ length self.now }
         ensures legal { IsLegal S.setting S.base self.now }
@@ -116,7 +115,7 @@ impl<S: Start> Front<S> {
         self.rows
     }
 
-    /// Returns a copy. Allocates nothing.
+    /// Returns a copy. The call allocates nothing.
     pub fn again(&self) -> Front<S>
         ensures { result ≡ self.now }
     {
@@ -127,8 +126,8 @@ impl<S: Start> Front<S> {
         }
     }
 
-    /// Whether this front has all rows that `other` has. Comparing lengths is enough: of two fronts of one history, the
-    /// shorter is a prefix of the longer.
+    /// Whether this front has all rows that `other` has. It is enough to compare lengths, since of two fronts of one
+    /// history, the shorter is a prefix of the longer.
     pub fn covers(&self, other: &Front<S>) -> bool
         ensures test { MatchBool result (length other.now ≤ length self.now) (length self.now < length other.now) }
         ensures begins { MatchBool result (IsPrefix other.now self.now) (IsPrefix self.now other.now) }
@@ -138,8 +137,8 @@ impl<S: Start> Front<S> {
         other.rows <= self.rows
     }
 
-    /// Adds a row to the history, right after the rows that this front has seen. If the history has more rows than
-    /// these, adds nothing and returns false.
+    /// Adds a row to the history, right after the rows that this front has seen. If the history has more rows than the
+    /// front, adds nothing and returns false.
     pub fn add(&mut self, head: &Head<S>, row: Accepted) -> bool
         requires room { length self.old < 2 ^ 62 }
         requires legal { answer S.setting (state_after_history S.setting S.base self.old) row.0 ≡ Ok row.1 }
@@ -148,7 +147,8 @@ impl<S: Start> Front<S> {
         self.add_answered(head, &row.0, &row.1)
     }
 
-    /// Adds the row of an event with this reply, as [`Front::add`] does. At run time no row is needed, so none is made.
+    /// Adds the row of an event with this reply, as [`Front::add`] does. No row is made, since no row is needed at run
+    /// time.
     pub(crate) fn add_answered(&mut self, head: &Head<S>, event: &Event, reply: &Reply) -> bool
         requires room { length self.old < 2 ^ 62 }
         requires legal { answer S.setting (state_after_history S.setting S.base self.old) event.now ≡ Ok reply.now }
@@ -174,8 +174,8 @@ impl<S: Start> Front<S> {
     }
 }
 
-/// Never returns. Called if two structures disagree: for example, if a history is longer than its only writer knows.
-/// Structures always agree, but their contracts don't say so.
+/// Never returns. The function is called if two structures disagree, for example if a history is longer than its only
+/// writer knows. Structures always agree, but their contracts don't say this.
 fn stop<W: Wait>(rt: &W)
     ensures { ⊥ }
 {
@@ -183,7 +183,7 @@ fn stop<W: Wait>(rt: &W)
     unreachable!()
 }
 
-/// Returns only if the front `all` has all rows that `other` has.
+/// Returns if the front `all` has all rows that `other` has. Otherwise never returns.
 pub fn must_cover<S: Start, W: Wait>(rt: &W, all: &Front<S>, other: &Front<S>)
     ensures { IsPrefix other.now all.now }
 {

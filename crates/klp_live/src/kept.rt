@@ -7,7 +7,7 @@ use klp_model::{Event, Reply};
 use klp_types::TaskId;
 use std::alloc::{AllocError, Global};
 
-/// An event of a task that has no frames. The variants stand for those of [`Event`].
+/// An event of a task that has no frames. Each variant corresponds to a variant of [`Event`].
 #[derive(Clone, Copy)]
 pub enum TaskEvent {
     New(TaskId),
@@ -17,8 +17,8 @@ pub enum TaskEvent {
     ExitToUser(TaskId),
 }
 
-/// A row, with a small form for the most frequent task events. A whole event and a whole reply each have room for the
-/// frames of a task, but receipts are passed from step to step.
+/// A row, with a small form for the most frequent task events. Receipts are passed from function to function. A whole
+/// event and a whole reply are large, since each has room for the frames of a task.
 #[derive(Drop)]
 pub enum Kept {
     /// An event with the reply `Done`.

@@ -28,7 +28,7 @@ impl StoredEvent {
     }
 }
 
-/// The rule that `logbook` enforces for the history: its word is the number of rows.
+/// The rule that `logbook` enforces for the history. The word of the history is its number of rows.
 pub struct Law;
 
 impl Rule<Accepted, u64> for Law {
@@ -49,7 +49,8 @@ impl Rule<Accepted, u64> for Law {
     ghost moves = { λ ask before after answer. Unit {0} };
 }
 
-/// A step neither gives anything to its caller nor takes anything from it.
+/// The part of a step that is exchanged with the caller. It is empty, since a step gives nothing to its caller and
+/// takes nothing from it.
 pub struct Nothing;
 
 impl Gain<Accepted, u64> for Nothing {
@@ -67,7 +68,7 @@ impl Play<Accepted, u64> for Add {
     ghost then = { Adds };
 }
 
-/// The step takes the row that it adds as its argument.
+/// The argument of the step is the row that it adds.
 impl Plain<StoredEvent, Accepted, u64> for Add {
     ghost use Rattle.std.specs.Prelude.{None};
 

@@ -1,13 +1,13 @@
-//! The book: a manager that task threads share, and what it publishes to them.
+//! The book: a manager that task threads share, and the table that it publishes to them.
 //!
-//! [`Book::pair`] opens a book over a manager, with a seat for each thread. [`Book::admit`] passes an event to the
-//! manager for a seat (`specs/Admitting`). [`Seat::enter`] finds out, without a lock, what a call of a task runs
-//! (`specs/Passing`). Two things hold of every book: its manager's journal is the list of accepted events, and the
+//! [`Book::pair`] opens a book with a manager, and makes a seat for each thread. [`Book::admit`] passes an event to the
+//! manager for a seat (`specs/Admitting`). [`Seat::enter`] finds out, without a lock, which version a call of a task
+//! runs (`specs/Passing`). Two facts hold of every book. Its manager's journal is the list of accepted events. The
 //! published table is the dispatch table (`specs/Dispatch`) after that list (`specs/Shown`).
 //!
-//! `history` has the list, and `kept` a row as a receipt has it. `publisher`, `published`, `rules` and `board` publish
-//! a table, `change` computes what an event changes in it, `entering` reads it, and `target` has what a call finds in
-//! it. docs/THREADS.md explains all of it.
+//! `history` has the list, and `kept` has a row in the form that a receipt stores. `publisher`, `published`, `rules`
+//! and `board` publish a table. `change` computes the changes that an event makes in the table, `entering` reads the
+//! table, and `target` has what a call finds in it. docs/THREADS.md explains the whole crate.
 #![tactic(auto)]
 
 mod board;

@@ -1,4 +1,5 @@
-//! A start: the book under its one lock, and its seats. With these, running tasks submit events and enter functions.
+//! A start: the book under its one lock, and its seats. Through a start, running tasks submit events and enter
+//! functions.
 ghost use Rattle.std.specs.Prelude.{◌≡◌, ◌≢◌, ◌<◌, ◌≤◌, [], length, MatchResult, IfOk, IfErr, vec_len};
 ghost use Rattle.std.specs.List.{All, sum_by};
 ghost use mathlib.Core.List.{IsPrefix};
@@ -25,8 +26,8 @@ use std::marker::PhantomData;
 use std::sync::ledger::{Blank, Share};
 use std::sync::{Mutex, MutexGuard, Wait};
 
-/// How many seats a start has: as many as its ledger has parts. This is a separate struct, because a struct that owns
-/// the ledger can't mention the number.
+/// How many seats a start has. This is the number of parts of its ledger. The number is in a separate struct, because a
+/// struct that owns the ledger can't mention it.
 #[derive(Drop)]
 struct Places<S: Start> {
     count: usize,
@@ -35,33 +36,35 @@ struct Places<S: Start> {
     ghost some: { 0 < count },
 }
 
-/// The book under the one lock. Submitting an event takes the lock, and entering a function doesn't.
+/// The book under its one lock. Submitting an event takes the lock. Entering a function doesn't take it.
 #[derive(Drop)]
 pub struct Live<S: Start + Protocol<Published, View>, M: Machine + Drop, R: Wait + Drop> {
     book: Mutex<Book<S, M, R>>,
     places: Places<S>,
 }
 
-/// The error for a number that no task can have.
+/// The error that a number is too large for a task.
 #[derive(Clone, Copy, Debug)]
 pub struct BadTask;
 
-/// The error that a start can't be closed, since seats are missing. It has the start and the seats that were passed in.
+/// The error that a start can't be closed because seats are missing. It has the start and the seats that the caller
+/// passed.
 #[derive(Drop)]
 pub struct CloseFault<S: Start + Protocol<Published, View>, M: Machine + Drop, R: Wait + Drop> {
     pub live: Live<S, M, R>,
     pub seats: Vec<Seat<S>>,
 }
 
-/// How many times a thread that found the lock taken spins before it looks again. `LOOKS` is how many times it then
-/// looks before it may sleep.
+/// How many times a thread that found the lock taken spins before it looks at the lock again. `LOOKS` is how many times
+/// the thread then looks before it may sleep.
 const FIRST_WAITS: u32 = 4;
 
 const LOOKS: u32 = 6;
 
-/// Takes the lock. If another thread has it, this thread spins for the time of a few events before it looks again, and
-/// then twice as long before each further look. Meanwhile the other thread may admit several events in a row, with book
-/// and journal in its processor's cache. This takes less time than if the two threads took turns.
+/// Takes the lock. If another thread has the lock, this thread spins for the time of a few events before it looks
+/// again. Before each further look it spins twice as long. Meanwhile the other thread may admit several events in a
+/// row, with book and journal in its processor's cache. Several events in a row cost less time than if the two threads
+/// took turns.
 fn locked<'b, S: Start + Protocol<Published, View>, M: Machine + Drop, R: Wait + Drop, W: Wait>(
     book: &'b Mutex<Book<S, M, R>>,
     rt: &W,
@@ -95,8 +98,7 @@ fn submit<S: Start + Protocol<Published, View>, M: Machine + Drop, R: Wait + Dro
     book.admit(rt, alloc, seat, event)
 }
 
-/// Returns the seat's share of the count of accepted events. First makes sure that `all` has all rows that the seat
-/// knows.
+/// Returns the seat's share of the count of accepted events. First checks that `all` has all rows that the seat knows.
 fn share_of<S: Start + Protocol<Published, View>, W: Wait>(
     rt: &W,
     all: &Front<S>,
@@ -115,7 +117,7 @@ fn share_of<S: Start + Protocol<Published, View>, W: Wait>(
     share
 }
 
-/// Merges the shares of all seats into one. There is at least one seat.
+/// Merges the shares of all seats into one share. There is at least one seat.
 fn shares_of<S: Start + Protocol<Published, View>, W: Wait>(
     rt: &W,
     all: &Front<S>,
@@ -137,7 +139,7 @@ fn shares_of<S: Start + Protocol<Published, View>, W: Wait>(
 }
 
 impl<S: Start + Protocol<Published, View>, M: Machine + Drop, R: Wait + Drop> Live<S, M, R> {
-    /// Makes a start from a manager: publishes the manager's table, and makes the seats. On a fault, returns the
+    /// Makes a start from a manager: publishes the manager's table, and makes the seats. If this fails, returns the
     /// manager unchanged.
     pub fn start(
         rt: R,
@@ -173,7 +175,7 @@ impl<S: Start + Protocol<Published, View>, M: Machine + Drop, R: Wait + Drop> Li
     }
 
     /// Gives a seat to a task, and returns the task's pass. If the number is too large, returns the seat and `BadTask`.
-    /// Doesn't check that the task exists: a task may have its pass before it begins.
+    /// The call doesn't check that the task exists, since a task may have its pass before it begins.
     pub fn attach(&self, seat: Seat<S>, task: TaskId) -> Result<TaskPass<S>, (Seat<S>, BadTask)>
         ensures { MatchResult result
             (λ pass. (pass ≡ record { task = task; knows = seat }) × (task < MAX_TASKS))
@@ -216,8 +218,8 @@ impl<S: Start + Protocol<Published, View>, M: Machine + Drop, R: Wait + Drop> Li
     }
 }
 
-/// Ends a book and returns its manager. All seats are passed in, so the numbers of their accepted events add up to the
-/// length of the history.
+/// Ends a book and returns its manager. The caller passes all seats, so the numbers of their accepted events add up to
+/// the length of the history.
 fn closed<S: Start + Protocol<Published, View>, M: Machine + Drop, R: Wait + Drop, W: Wait>(
     rt: &W,
     book: Book<S, M, R>,

@@ -40,7 +40,7 @@ pub struct StartFault<M> {
     pub cause: StartCause,
 }
 
-/// Returns this table as the published table of a history without rows.
+/// Returns this table as a published table that has a history without rows.
 fn first_of(table: &Table, seen: &Seen<Accepted, u64, Law>) -> Published
     ensures { result ≡ record { table = table.now; rows = 0; seen = seen.now } }
 {
@@ -61,7 +61,7 @@ fn table_by<S: Start>(change: Change) -> Table
     table
 }
 
-/// Publishes once more, so that the writer knows what is published.
+/// Publishes again without a change, so that the writer knows what is published.
 fn known<S: Start + Protocol<Published, View>, W: Wait>(rt: &W, changes: Changes<S>) -> Changes<S>
     requires rule { RuleIs S.holds S.first S.setting S.base S.book }
     requires table { IsTable S.setting S.base changes.desk.shown.value }
@@ -73,7 +73,7 @@ fn known<S: Start + Protocol<Published, View>, W: Wait>(rt: &W, changes: Changes
     changes.publish_as::<Sees, W>(rt).0
 }
 
-/// Makes the board, and publishes the table of the empty history on it. An error means that memory ran out.
+/// Makes the board, and publishes the table of the empty history. An error means that memory ran out.
 fn changes<S: Start + Protocol<Published, View>, W: Wait>(
     rt: &W,
     alloc: Global,
@@ -96,8 +96,8 @@ fn changes<S: Start + Protocol<Published, View>, W: Wait>(
     Ok(known::<S, W>(rt, writer))
 }
 
-/// Makes a seat that knows this history, with a reader of its own and this share of the count. Returns an error if
-/// `left_right` refuses the reader.
+/// Makes a seat with this history, this share of the count and a reader of its own. Returns an error if `left_right`
+/// refuses the reader.
 fn seat<S: Start + Protocol<Published, View>>(
     changes: &mut Changes<S>,
     front: &Front<S>,
@@ -151,9 +151,9 @@ fn seats<S: Start + Protocol<Published, View>>(
 }
 
 impl<S: Start + Protocol<Published, View>, M: Machine + Drop, R: Wait + Drop> Book<S, M, R> {
-    /// Opens a book over a manager whose journal is empty: publishes the manager's table and makes the seats. Looks at
-    /// every site. `blank` and `opened` become the ledger and the history of the start. If memory runs out, or
-    /// `left_right` has no place for a reader, the manager is returned unchanged.
+    /// Opens a book with a manager whose journal is empty: publishes the manager's table and makes the seats. The call
+    /// reads the row of every site. `blank` and `opened` become the ledger and the history of the start. If memory runs
+    /// out, or `left_right` has no place for a reader, the manager is returned unchanged.
     pub fn pair(
         rt: R,
         alloc: Global,

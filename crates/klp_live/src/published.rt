@@ -1,10 +1,10 @@
-//! What running tasks see. Nothing in this file depends on a start.
+//! The table and the history that running tasks see. Nothing in this file depends on a start.
 use crate::law::{Accepted, Law};
 use crate::table::{Change, Table};
 use logbook::Seen;
 
-/// The dispatch table after a history. There are two copies, which swap their roles: readers use one while the other is
-/// changed.
+/// The dispatch table after a history. There are two copies, which swap their roles. Readers use one copy while the
+/// other is changed.
 #[derive(Drop)]
 pub struct Published {
     pub table: Table,
@@ -14,22 +14,24 @@ pub struct Published {
     pub seen: Seen<Accepted, u64, Law>,
 }
 
-/// One more row of the history, as it is published: its changes of the table, and the history up to this row.
+/// One more row of the history in the form in which it is published: the changes that it makes in the table, and the
+/// history up to this row.
 #[derive(Drop)]
 pub struct News {
     pub change: Change,
-    /// How many rows the history has, this one included.
+    /// How many rows the history has, including this one.
     pub rows: u64,
-    /// The history, this row included. It exists in contracts alone.
+    /// The history, including this row. It exists in contracts alone.
     pub seen: Seen<Accepted, u64, Law>,
 }
 
-/// What a reader knows: the history of the table that it read last. It exists in proofs alone; no value of it is made.
+/// The history that a reader knows: that of the table which the reader read last. It exists in proofs alone, and no
+/// value of it is made.
 pub struct Known {
     pub seen: Seen<Accepted, u64, Law>,
 }
 
-/// What a reader or the writer knows: one history, or none if it knows nothing yet.
+/// The knowledge of a reader or of the writer: one history, or none if nothing is known yet.
 pub struct View {
     pub known: [Known; 0],
 }

@@ -1,4 +1,4 @@
-//! The publisher: the history of accepted events, and the board that shows the table after it.
+//! The publisher: the history of accepted events, and the board that shows the table after this history.
 ghost use Rattle.std.specs.Prelude.{◌≡◌, ◌<◌, ◌≤◌, ◌^◌, ◌++◌, ◌∷◌, [], length, Ok, MatchBool, MatchOption};
 ghost use mathlib.Core.List.{IsPrefix};
 ghost use Rattle.klp_model.specs.Legal.{IsLegal, state_after_history};
@@ -23,8 +23,8 @@ use std::marker::Model;
 use std::sync::Wait;
 use std::sync::ledger::{Book as Ledger, Share};
 
-/// The history with its board, and with the number of accepted events of all seats. Only the publisher can add to the
-/// history.
+/// The history with its board, and with the number of accepted events of all seats. Only the publisher can add rows to
+/// the history.
 #[derive(Drop)]
 pub struct Publisher<S: Start + Protocol<Published, View>, R: Wait + Drop> {
     pub(crate) board: Board<S, R>,
@@ -48,7 +48,7 @@ impl<S: Start + Protocol<Published, View>, R: Wait + Drop> Model for Publisher<S
         × RuleIs S.holds S.first S.setting S.base S.book };
 }
 
-/// Makes the news to publish: the last row of this history, with its changes of the table.
+/// Makes the news to publish: the last row of this history, with the changes that the row makes in the table.
 fn news<S: Start>(change: Change, front: &Front<S>) -> News
     ensures change { result.change ≡ change }
     ensures rows { result.rows ≡ length front.now }
@@ -62,7 +62,8 @@ fn news<S: Start>(change: Change, front: &Front<S>) -> News
     }
 }
 
-/// Appends a row to the history and publishes it. If there is no memory for that, changes nothing and returns false.
+/// Appends a row to the history and publishes it. If there is no memory to publish it, changes nothing and returns
+/// false.
 fn append<S: Start + Protocol<Published, View>, R: Wait + Drop, W: Wait>(
     rt: &W,
     board: &mut Board<S, R>,
@@ -117,22 +118,22 @@ impl<S: Start + Protocol<Published, View>, R: Wait + Drop> Publisher<S, R> {
         &self.front
     }
 
-    /// Returns only if the history begins with all that the seat knows.
+    /// Returns if the history begins with all rows that the seat knows. Otherwise never returns.
     pub fn must_cover<W: Wait>(&self, rt: &W, seat: &Seat<S>)
         ensures { IsPrefix seat.now.list self.now }
     {
         must_cover(rt, &self.front, &seat.front);
     }
 
-    /// Lets the seat know all of the history.
+    /// Lets the seat know the whole history.
     pub fn catch_up(&self, seat: &mut Seat<S>)
         ensures { seat.new ≡ record { list = self.now; accepted = seat.old.accepted } }
     {
         seat.front = self.front.again();
     }
 
-    /// Appends the row of an event that was accepted, publishes the row, and counts it for the seat. Then the seat
-    /// knows the row. If there is no memory for this, changes nothing and returns `None`.
+    /// Appends the row of an event that was accepted, publishes the row, and counts the event for the seat. Afterwards
+    /// the seat knows the row. If there is no memory to publish it, changes nothing and returns `None`.
     pub fn publish<W: Wait>(
         &mut self,
         rt: &W,
@@ -171,8 +172,8 @@ impl<S: Start + Protocol<Published, View>, R: Wait + Drop> Publisher<S, R> {
         Some(Receipt::new(kept, self.front.again()))
     }
 
-    /// Makes sure that `all`, the merged shares of all seats, counts as many events as the history has. Changes
-    /// neither.
+    /// Checks that `all`, the merged shares of all seats, counts as many events as the history has. Changes neither the
+    /// count nor the history.
     pub fn audit(&mut self, all: &mut Share<S>)
         requires { all.old.parts ≡ S.parts }
         ensures history { self.new ≡ self.old }

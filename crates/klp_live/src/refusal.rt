@@ -17,8 +17,8 @@ pub enum LiveRefusal {
     NoMemory,
 }
 
-/// Three events never fill a journal: if the journal has no room after a history, the history has more than three
-/// events. A function here does nothing: its contract is the law.
+/// Three events never fill a journal. If the journal has no room after a history, the history has more than three
+/// events. The function does nothing: its contract is the law.
 pub fn few_events_leave_room()
     ensures { (setting : Setting) (base : State) (list : History) (event : Event)
         → FindsNoRoom setting base list event → 3 < length list }

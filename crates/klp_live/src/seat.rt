@@ -1,4 +1,4 @@
-//! A seat and a receipt: what one task thread knows.
+//! A seat and a receipt, which say what one task thread knows.
 ghost use Rattle.std.specs.Prelude.{◌≡◌, ◌⊎◌, length};
 ghost use mathlib.Core.List.{IsPrefix};
 ghost use Rattle.klp_model.specs.Legal.{IsLegal};
@@ -14,7 +14,8 @@ use klp_model::{Event, Reply};
 use std::marker::Model;
 use std::sync::ledger::Share;
 
-/// A thread's place in a start: the beginning of the history that it knows, and how many of its events were accepted.
+/// A thread's place in a start: the prefix of the history that the seat knows, and how many of the seat's events were
+/// accepted.
 #[derive(Drop)]
 pub struct Seat<S: Start + Protocol<Published, View>> {
     pub(crate) reader: Place<S>,
@@ -37,8 +38,8 @@ impl<S: Start + Protocol<Published, View>> Model for Seat<S> {
 }
 
 impl<S: Start + Protocol<Published, View>> Seat<S> {
-    /// Returns how many rows of the history the seat knows. It knows those up to its last receipt or refusal, or of the
-    /// last table that it read.
+    /// Returns how many rows of the history the seat knows. The last known row is that of its last receipt or refusal,
+    /// or of the last table that it read.
     pub fn rows(&self) -> u64
         ensures rows { result ≡ length self.now.list }
         ensures legal { IsLegal S.setting S.base self.now.list }
@@ -46,8 +47,8 @@ impl<S: Start + Protocol<Published, View>> Seat<S> {
         self.front.len()
     }
 
-    /// Learns of a receipt's event and of all events before it. Afterwards the seat knows the longer of its own history
-    /// and the receipt's.
+    /// Adds a receipt's event and all events before it to the known history. Afterwards the seat knows the longer of
+    /// its own history and the receipt's history.
     pub fn hear(&mut self, receipt: &Receipt<S>)
         ensures own { IsPrefix self.old.list self.new.list }
         ensures heard { IsPrefix receipt.now.list self.new.list }
@@ -88,7 +89,7 @@ impl<S: Start> Model for Receipt<S> {
 }
 
 impl<S: Start> Receipt<S> {
-    /// Makes the receipt of the last row of this history. `kept` must have that row.
+    /// Makes the receipt of the last row of this history. `kept` must be that row.
     pub(crate) fn new(kept: Kept, front: Front<S>) -> Receipt<S>
         requires { IsLast front (event_kept kept) (reply_kept kept) }
         ensures { result ≡ record {

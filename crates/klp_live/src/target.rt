@@ -1,4 +1,4 @@
-//! What a call runs, found in the table alone.
+//! The version that a call runs, looked up in the table alone.
 ghost use Rattle.std.specs.Prelude.{◌≡◌, ℕ, slice_index_or, MatchResult, Ok, Err, Some, None};
 ghost use Rattle.std.specs.Result.{result_ok};
 ghost use Rattle.klp_types.specs.Setting.{Setting};
@@ -12,14 +12,15 @@ ghost use Rattle.klp_live.specs.declared.table.Table.{Table as AnyTable};
 use crate::table::Table;
 use klp_types::{Site, SiteRow, Target, TaskId, Version};
 
-/// Why a call finds nothing. `NoSite` is checked before `NoTask`.
+/// Why a call finds no version. `NoSite` is checked before `NoTask`.
 #[derive(Clone, Copy, Debug)]
 pub enum EnterFault {
     /// There is no such site, or its object isn't loaded.
     NoSite,
     /// There is no such task.
     NoTask,
-    /// The book has ended, or the table was older than what the seat knows. No proof excludes that the table is older.
+    /// The book has ended, or the table's history was shorter than that of the seat. No proof excludes that the table
+    /// is older.
     NoTable,
 }
 
@@ -35,7 +36,7 @@ fn chosen(site: Site, row: &SiteRow, state: i8) -> Target
     }
 }
 
-/// Returns what a task runs at a site, by the table. The cost is two lookups, whatever is installed.
+/// Returns the version that a task runs at a site, by the table. The cost is two look-ups, whatever is installed.
 #[inline(always)]
 pub fn target_of(table: &Table, task: TaskId, site: Site) -> Result<Target, EnterFault>
     ensures { result ≡ found table.now task site }
@@ -51,13 +52,14 @@ pub fn target_of(table: &Table, task: TaskId, site: Site) -> Result<Target, Ente
     Ok(chosen(site, row, state))
 }
 
-/// A call finds the same target in the table of a state as in the state itself.
+/// A call finds the same version in the table of a state as in the state itself.
 pub fn tables_answer_what_the_machine_picks()
     ensures { (setting : Setting) (state : State) (table : AnyTable) (task site : ℕ)
         → IsDispatch setting state table → found table task site ≡ entered setting state task site }
 {}
 
-/// A call finds a target exactly if the machine picks one, and then finds that target.
+/// A call finds a version exactly if the machine picks one. The version that it finds is the one that the machine
+/// picks.
 pub fn what_is_entered_is_what_is_picked()
     ensures { (setting : Setting) (state : State) (task site : ℕ)
         → result_ok (entered setting state task site) ≡ pick setting state task site }

@@ -1,4 +1,4 @@
-//! A body: what one task does, step by step.
+//! A body: a list of steps that one task does.
 ghost use Rattle.std.specs.Prelude.{◌≡◌};
 
 use crate::fault::BodyFault;
@@ -11,7 +11,7 @@ use klp_live::{Live, Published, Start, TaskPass, View};
 use std::alloc::Global;
 use std::sync::Wait;
 
-/// A task's pass, with the gate that decides before each step whether the task may go on.
+/// A task's pass, with a gate. Before each step, the gate decides whether the task may do the step.
 #[derive(Drop)]
 pub struct TaskBody<S: Start + Protocol<Published, View>, G: Gate + Drop> {
     pub pass: TaskPass<S>,
@@ -39,9 +39,9 @@ impl<S: Start + Protocol<Published, View>, G: Gate + Drop> TaskBody<S, G> {
         pass
     }
 
-    /// Does the steps one after the other. Before each step it waits until the gate lets the task in. Appends the
-    /// outcome of each step to `out`. Submitting an event may wait. If the body stops before the last step, `out` has
-    /// the outcomes of the steps that were done.
+    /// Does the steps one after the other. Before each step the call waits until the gate lets the task in. After each
+    /// step its outcome is appended to `out`. Submitting an event may wait. If the body stops before the last step,
+    /// `out` has the outcomes of the steps that were done.
     pub fn run<M: Machine + Drop, R: Wait + Drop, W: Wait>(
         self,
         rt: &W,

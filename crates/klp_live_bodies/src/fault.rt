@@ -1,17 +1,18 @@
-//! Why a body has stopped before its last step.
+//! The reason why a body stopped before its last step.
 use crossbeam_utils::rule::Protocol;
 use klp_live::{Published, Start, TaskPass, View};
 
 /// Why a body has stopped.
 #[derive(Clone, Copy, Debug)]
 pub enum BodyCause {
-    /// The gate was asked 1,000,000 times before a step, and never let the task in.
+    /// Before a step, the gate was asked 1,000,000 times, and never let the task in.
     Held,
-    /// There was no memory for the outcomes of all steps, or to admit an event. That event changed nothing.
+    /// There was no memory for the outcomes of all steps, or no memory to admit an event. An event that wasn't admitted
+    /// changed nothing.
     NoMemory,
 }
 
-/// A body that stopped before a step: its pass at that time, and why it stopped.
+/// The error that a body stopped before a step. It has the pass as it was at that time, and the reason.
 #[derive(Drop)]
 pub struct BodyFault<S: Start + Protocol<Published, View>> {
     pub pass: TaskPass<S>,

@@ -1,5 +1,5 @@
-//! Laws about what a body's outcomes say of the history that its task knows in the end. A function here does nothing:
-//! its contract is the law.
+//! Laws that connect a body's outcomes with the history that its task knows in the end. A function of this module does
+//! nothing: its contract is the law.
 ghost use Rattle.std.specs.Prelude.{◌≡◌, ℕ, ◌<◌, ◌≤◌, List, length, take, slice_get, Some};
 ghost use Rattle.klp_types.specs.declared.version.Version.{Version};
 ghost use Rattle.klp_types.specs.Setting.{Setting};
@@ -13,8 +13,8 @@ ghost use Rattle.klp_live_bodies.specs.declared.step.What.TheVariants.{Receipt};
 ghost use Rattle.klp_live_bodies.specs.Running.{AreDone};
 
 /// From outcome to outcome, the number of known events never falls. It is at least the number known at the start, and
-/// at most the number known in the end. The number of a receipt is greater than all numbers known before it. At that
-/// number the history has the receipt's event and reply.
+/// at most the number known in the end. The number of a receipt is greater than all numbers known before the receipt.
+/// At that number the history has the receipt's event and reply.
 pub fn outcomes_are_reported_in_order()
     ensures within { (setting : Setting) (base : State) (task : ℕ) (list : History) (before : ℕ) (frames : List Version)
         (steps : List Step) (outcomes : List Outcome) (place : ℕ) (outcome : Outcome)

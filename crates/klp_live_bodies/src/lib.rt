@@ -1,7 +1,8 @@
-//! Bodies of task threads. A body is a list of steps that one task does on a start, which threads share.
+//! Bodies of task threads. A body is a list of steps that one task does on a start. Several threads share the start.
 //!
-//! A [`TaskBody`] does its steps one after the other, each when its [`Gate`] lets the task in, and reports the outcome
-//! of each (`specs/Steps`, `specs/Running`). [`run_two`] runs two [`Job`]s at once. docs/THREADS.md explains it.
+//! A [`TaskBody`] does its steps one after the other, each step when its [`Gate`] lets the task in. It reports the
+//! outcome of each step (`specs/Steps`, `specs/Running`). [`run_two`] runs two [`Job`]s at once. docs/THREADS.md
+//! explains the whole crate.
 #![tactic(auto)]
 
 mod body;

@@ -22,7 +22,7 @@ use std::sync::Wait;
 /// How often a gate is asked at most before one step.
 const TRIES: u32 = 1_000_000;
 
-/// Asks the gate until it lets the task in, at most `TRIES` times. Returns its last answer.
+/// Asks the gate until it lets the task in, at most `TRIES` times. Returns the gate's last answer.
 fn waits_for_gate<G: Gate>(gate: &G, task: TaskId, step: u32) -> bool
     ensures { G.answers gate.now task step result }
 {
@@ -58,15 +58,15 @@ fn submitted<S: Start + Protocol<Published, View>, M: Machine + Drop, R: Wait + 
     }
 }
 
-/// Whether the task is inside of as many versions as a list of frames can have.
+/// Whether the task is inside of as many versions as a list of frames has room for.
 fn is_full(frames: &Frames) -> bool
     ensures { MatchBool result (length frames.now ≡ MAX_FRAMES) (length frames.now < MAX_FRAMES) }
 {
     frames.count() >= MAX_FRAMES
 }
 
-/// Calls the function at a site, and returns the result: the entered version, why no version was entered, or `Deep` if
-/// the list of frames is full.
+/// Calls the function at a site, and returns the result. The result is the entered version, or why no version was
+/// entered. If the list of frames is full, the result is `Deep`.
 fn called<S: Start + Protocol<Published, View>>(
     pass: &mut TaskPass<S>,
     frames: &mut Frames,
@@ -116,8 +116,8 @@ fn came_to<S: Start + Protocol<Published, View>, M: Machine + Drop, R: Wait + Dr
     }
 }
 
-/// Does a step. Returns its outcome, with how many events the task knew of after it. Returns `None` if there was no
-/// memory.
+/// Does a step. Returns the step's outcome, with the number of events that the task knew after the step. Returns `None`
+/// if there was no memory.
 fn done<S: Start + Protocol<Published, View>, M: Machine + Drop, R: Wait + Drop, W: Wait>(
     rt: &W,
     alloc: Global,
@@ -138,8 +138,8 @@ fn done<S: Start + Protocol<Published, View>, M: Machine + Drop, R: Wait + Drop,
     })
 }
 
-/// Does all steps, and appends the outcome of each to `out`. Stops early if the gate doesn't let the task in, or if
-/// there is no memory.
+/// Does all steps, and appends the outcome of each step to `out`. Stops early if the gate doesn't let the task in, or
+/// if there is no memory.
 pub(crate) fn run_steps<
     S: Start + Protocol<Published, View>,
     G: Gate,

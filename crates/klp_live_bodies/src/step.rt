@@ -6,17 +6,17 @@ use klp_types::{Site, Target};
 /// What a task does next.
 #[derive(Clone, Copy)]
 pub enum Step {
-    /// The task's thread submits an event. It may be any event, also one of another task.
+    /// The task's thread submits an event. The event may also be one of another task.
     Submit(Event),
-    /// The task calls the function at the site, and is then inside of the version that it enters.
+    /// The task calls the function at the site, and is afterwards inside of the version that it enters.
     Call(Site),
     /// The task returns from the innermost version that it is inside of, if there is one.
     Return,
-    /// The task falls asleep inside of the versions that it entered and hasn't returned from.
+    /// The task falls asleep inside of the versions that it has entered and from which it hasn't returned.
     Nap,
 }
 
-/// A receipt as plain data: the number of an accepted event, counted from 1, the event, and its reply.
+/// The data of a receipt: the number of an accepted event, counted from 1, the event, and its reply.
 #[derive(Clone, Copy)]
 pub struct Accepted {
     pub number: u64,
@@ -27,7 +27,7 @@ pub struct Accepted {
 /// The result of a step.
 #[derive(Clone, Copy)]
 pub enum What {
-    /// The event was accepted; this is its receipt.
+    /// The event was accepted, with this receipt.
     Receipt(Accepted),
     /// The event was refused.
     Refused(Refusal),
@@ -35,13 +35,13 @@ pub enum What {
     Entered(Target),
     /// The call found nothing to enter.
     NoEntry(EnterFault),
-    /// The task has returned, or wasn't inside of any version.
+    /// The task has returned from the innermost version, or wasn't inside of any version.
     Returned,
-    /// The task was inside of as many versions as can be stored, so nothing was entered.
+    /// The task was already inside of as many versions as can be stored, so it entered no version.
     Deep,
 }
 
-/// The outcome of a step: its result, and how many events the task knew of after it.
+/// The outcome of a step: its result, and the number of events that the task knew after the step.
 #[derive(Clone, Copy)]
 pub struct Outcome {
     pub known: u64,

@@ -1,5 +1,5 @@
-//! Running two jobs at once. Taking the body out of a job and storing how it ended are separate functions, since each
-//! drops the old value (docs/DECISIONS.md, "One way out for an owner").
+//! Running two jobs at once. There is one function that takes the body out of a job, and another that stores how the
+//! body ended. The two are separate, since each drops an old value (docs/DECISIONS.md, "One way out for an owner").
 ghost use Rattle.std.specs.Prelude.{◌≡◌, ◌<◌, ◌^◌, [], length, Some, None, IsSome, IfSome, vec_len};
 ghost use Rattle.klp_live_bodies.specs.Jobs.{body_of, IsRun};
 ghost use Rattle.klp_live_bodies.specs.Running.{Ends};
@@ -66,8 +66,8 @@ fn keep<S: Start + Protocol<Published, View>>(
     *outcomes = answered;
 }
 
-/// Runs the bodies of two jobs, and waits for both. They run at the same time if a second thread can be made, otherwise
-/// one after the other.
+/// Runs the bodies of two jobs, and waits for both. If a second thread can be made, the bodies run at the same time.
+/// Otherwise they run one after the other.
 pub fn run_two<
     S: Start + Protocol<Published, View> + Send + Sync,
     G: Gate + Drop + Send,

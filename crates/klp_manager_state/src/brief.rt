@@ -1,11 +1,11 @@
-//! A reply in a few bytes.
+//! Replies in a form of a few bytes.
 ghost use Rattle.std.specs.Prelude.{◌≡◌};
 
 use klp_model::Reply;
 use klp_types::{ObjId, PatchId};
 use std::marker::Model;
 
-/// The kinds of a [`BriefReply`], each with its values.
+/// The kinds of a [`BriefReply`], each with the values of that kind.
 #[derive(Drop)]
 pub enum Brief {
     /// [`Reply::Done`].
@@ -25,8 +25,8 @@ pub enum Brief {
 }
 
 /// A [`Reply`] that has no frames of a task and no value of a variable. It is smaller than `Reply`, which needs room
-/// for both. Most events reply in this form, because passing a whole `Reply` from step to step costs more than refusing
-/// an event. In contracts a `BriefReply` is the `Reply` to which it is converted.
+/// for both. Most events reply in this form, because passing a whole `Reply` from function to function costs more than
+/// refusing an event. In contracts a `BriefReply` is the `Reply` to which it is converted.
 #[derive(Drop)]
 pub struct BriefReply(pub Brief);
 

@@ -1,4 +1,4 @@
-//! What a sleeping task is inside of. A module can't be unloaded while a task sleeps inside of it.
+//! The object that a sleeping task is inside of. A module can't be unloaded while a task sleeps inside of it.
 ghost use Rattle.std.specs.Prelude.{◌≡◌, ◌<◌, ◌==◌, ◌&&◌, true, false, length, option_map, slice_get, Some, None};
 ghost use Rattle.std.specs.List.{list_any};
 ghost use Rattle.klp_model.specs.Frames.{is_inside, is_object, object_of_version};
@@ -12,8 +12,8 @@ use crate::state::ManagerState;
 use klp_catalog::Catalog;
 use klp_types::{Frames, MAX_TASKS, Mode, ObjId, PatchId, Site, TaskId, Version};
 
-/// Returns the object of a patch's function, or `None` if the patch has no function of this number. The object is read
-/// from the catalog, since a function may have no site.
+/// Returns the object of a patch's function. Returns `None` if the patch has no function with this number. The object
+/// is read from the catalog, since a function may have no site.
 fn object_of_function(catalog: &Catalog, patch: PatchId, number: u16) -> Option<ObjId>
     ensures { result ≡ option_map (λ (f : FunctionOf). f.object) (slice_get
         (catalog_functions catalog.now patch) number) }
@@ -24,7 +24,7 @@ fn object_of_function(catalog: &Catalog, patch: PatchId, number: u16) -> Option<
 
 impl ManagerState {
     /// Whether a task sleeps inside of the module: in one of the module's functions, or in a new function for one of
-    /// them. Unloading the module would remove all of these. Looks at each frame of each task.
+    /// these. Unloading the module would remove all such functions. The call checks each frame of each task.
     pub fn is_in_use(&self, catalog: &Catalog, object: ObjId) -> bool
         requires { Invariant self.now catalog.now }
         ensures { result ≡ list_any (is_inside (setting_in self.now catalog.now) object) self.now.tasks }
@@ -37,7 +37,8 @@ impl ManagerState {
         false
     }
 
-    /// Whether this task sleeps inside of the module. False for a task that doesn't sleep, which has no frames here.
+    /// Whether this task sleeps inside of the module. False for a task that doesn't sleep, since the state has no
+    /// frames for it.
     fn is_inside(&self, catalog: &Catalog, object: ObjId, task: TaskId) -> bool
         requires { Invariant self.now catalog.now }
         ensures value { result ≡ is_inside (setting_in self.now catalog.now) object (task_at self.now.tasks task) }
@@ -66,7 +67,7 @@ impl ManagerState {
         false
     }
 
-    /// Whether a version is in the object. A version that neither the image nor the catalog has is in no object.
+    /// Whether a version is in the object. False if neither the image nor the catalog has the version.
     fn lies_in(&self, catalog: &Catalog, object: ObjId, version: Version) -> bool
         requires { Invariant self.now catalog.now }
         ensures { result ≡ is_object object (object_of_version (setting_in self.now catalog.now) version) }
@@ -89,7 +90,8 @@ impl ManagerState {
         }
     }
 
-    /// Returns the object of a site, or `None` if the image has no such site. Looks it up in the table of names.
+    /// Returns the object of a site. Returns `None` if the image has no such site. The site is looked up in the table
+    /// of names.
     fn object_of_site(&self, site: Site) -> Option<ObjId>
         ensures { result ≡ option_map (λ (s : Named). s.object) (symbol_at_site self.now.modules.names site) }
     {

@@ -1,4 +1,4 @@
-//! Laws of the states that a manager may be in. A function here does nothing: its contract is the law.
+//! Laws of the states in which a manager may be. A function of this module does nothing: its contract is the law.
 ghost use Rattle.std.specs.Prelude.{◌≡◌, ◌≢◌, ℕ, true, false, List, None};
 ghost use Rattle.std.specs.List.{All};
 ghost use Rattle.klp_types.specs.declared.record.Record.{Record};
@@ -23,17 +23,17 @@ ghost use Rattle.klp_types.specs.Entries.{is_empty};
 ghost use Rattle.klp_model.specs.Allowed.{Allowed};
 ghost use Rattle.klp_model.specs.Opening.{opening_state};
 
-/// When a callback takes over the value of a state, world and catalog agree on the patch that has it: the newest patch
-/// that was installed before and names the state. The world finds this patch in its rows. The two agree because in
-/// every manager each installed patch has the states that the catalog gives it.
+/// When a callback takes over the value of a state from an older patch, world and catalog agree on which patch that is:
+/// the newest patch that was installed before and names the state. The world finds this patch by the states that it
+/// stores. The two agree because in every manager each installed patch has the states that the catalog gives it.
 pub fn previous_states_agree()
     ensures { (managed : Managed) (patch id : ℕ) → IsStated (setting_of managed) managed.state
         → previous_patch managed.state.world patch id
         ≡ previous_state managed.catalog patch id (installed_patches managed.state) }
 {}
 
-/// The facts that boot needs of the opening state: it is allowed, and each installed patch has its states, since no
-/// patch is installed.
+/// The facts of the opening state that boot needs. The opening state is allowed. Each installed patch has its states,
+/// since no patch is installed.
 pub(crate) fn opening_keeps()
     ensures allowed { (setting : Setting) → is_empty setting.image.objects ≡ false
         → Allowed setting (opening_state setting) }
@@ -43,8 +43,8 @@ pub(crate) fn opening_keeps()
     klp_model::laws::installed_patches_have_their_states();
 }
 
-/// The facts that hold after each step if they held before it. They are one law, so that each event's function calls
-/// one law and not three.
+/// If these facts hold before a step, they hold after it. They are in one law, so that each event's function calls only
+/// one law.
 pub fn steps_keep()
     ensures { StepLaws }
 {
@@ -53,8 +53,8 @@ pub fn steps_keep()
     klp_catalog::laws::runs_add_up();
 }
 
-/// If nothing refuses an event, and the event runs no callback and changes only rows of one kind, then making this
-/// change is doing the event as the model defines it. The events of tasks and of shadow variables are proved by this.
+/// Suppose nothing refuses an event, and the event runs no callback and changes only rows of one kind. Then making this
+/// change does the event as the model defines it. The events of tasks and of shadow variables are proved by this law.
 #[tactic(auto, using(crate::proofs::StepLemmas::tasks_taken, crate::proofs::StepLemmas::world_taken))]
 pub fn changes_of_one_kind_are_taken()
     ensures tasks { AreTasksTaken }
@@ -62,7 +62,7 @@ pub fn changes_of_one_kind_are_taken()
 {}
 
 /// If each record of a change has an effect, putting the records back restores the rows before the change, whatever is
-/// logged of other rows. So proofs handle the records of each kind of rows without those of the others.
+/// logged of other rows. So proofs about the records of one kind of rows don't need the records of other kinds.
 #[tactic(auto, using(crate::proofs::RowLemmas::world_back, crate::proofs::RowLemmas::tasks_back))]
 pub fn what_is_logged_gives_the_rows_back()
     ensures world { (before after : World) (log_before log_after : RecordList) (rows : List Record)
@@ -75,9 +75,9 @@ pub fn what_is_logged_gives_the_rows_back()
         → TasksGoBack before after log_before log_after }
 {}
 
-/// A record that has an effect changes the rows when it is put back, unless it is a hook's. The hook of a site follows
-/// its entries, so putting the hook's record back changes nothing. This record still counts as having an effect,
-/// because it comes right after its entry's record.
+/// A record that has an effect changes the rows when it is put back, unless it is the record of a hook. The hook of a
+/// site follows the site's entries, so putting back the hook's record changes nothing. The hook's record still counts
+/// as having an effect, because it is logged right after the record of the entry.
 #[tactic(auto, using(crate::proofs::EffectLemmas::changed_if))]
 pub fn what_tells_a_change_has_an_effect()
     ensures { (rows : Rows) (row : Record) → has_effect rows row ≡ true → hook_of row ≡ None

@@ -25,7 +25,7 @@ impl Model for Pins {
 }
 
 impl Pins {
-    /// Makes a flag for each of the catalog's `patches`, none of them pinned. An error means that memory ran out.
+    /// Makes a flag for each of the catalog's `patches`. No patch is pinned. An error means that memory ran out.
     pub fn new(alloc: Global, patches: u8) -> Result<Self, AllocError>
         ensures { IfOk result (λ pins. pins ≡ replicate patches false) }
     {
@@ -44,8 +44,8 @@ impl Pins {
             .unwrap_or(false)
     }
 
-    /// Pins a patch, and logs that it wasn't pinned. If the patch is pinned already, does nothing, since an unchanged
-    /// row gets no record. If the catalog has no such patch, does nothing either.
+    /// Pins a patch, and logs that it wasn't pinned. Does nothing if the patch is pinned already, since an unchanged
+    /// row gets no record. Does nothing either if the catalog has no such patch.
     pub fn pin(&mut self, patch: PatchId, log: &mut Records)
         requires { 0 < spare_of log.old }
         ensures flags { self.new ≡ slice_set self.old patch true }
@@ -60,7 +60,7 @@ impl Pins {
         }
     }
 
-    /// Pins all of these patches except `patch`, the forced cumulative patch that replaces the others.
+    /// Pins all of these patches except `patch`. `patch` is the forced cumulative patch, which replaces the others.
     pub fn pin_others(&mut self, patches: &[PatchId], patch: PatchId, log: &mut Records)
         requires { length patches.now ≤ spare_of log.old }
         ensures flags { self.new ≡ pin_all (filter (λ p. not (p == patch)) patches.now) self.old }
@@ -74,7 +74,7 @@ impl Pins {
         }
     }
 
-    /// Restores the flag that the record names. Ignores a record of another kind, as the definition does.
+    /// Restores the flag that the record names. Does nothing for a record of another kind, as the definition.
     pub fn put_back(&mut self, row: Record)
         ensures { self.new ≡ put_pinned self.old row }
     {

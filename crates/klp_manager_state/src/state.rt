@@ -35,13 +35,13 @@ pub struct ManagerState {
     pub pinned: Pins,
     /// The versions that block sleepers. The set is filled when a transition is tried.
     pub blocked: VersionSet,
-    /// Records of the rows that events changed, each as it was before, oldest first. Those of the events in the journal
-    /// come first, then those of the event under way. At its beginning, an event drops all records that aren't of the
-    /// journal.
+    /// Records of the rows that events changed, each row as it was before the change, oldest first. The records of the
+    /// events in the journal come first. The records of the current event follow. When an event begins, it drops all
+    /// records that don't belong to the journal.
     pub log: Records,
 }
 
-/// The parts of a manager that are made without the image.
+/// The parts of a manager that can be made without the image.
 #[derive(Drop)]
 struct Room {
     world: World,
@@ -50,7 +50,7 @@ struct Room {
     log: Records,
 }
 
-/// Allocates the parts that need no image, all of them empty. An error means that memory ran out.
+/// Allocates the parts that can be made without the image. All parts are empty. An error means that memory ran out.
 fn make_room(alloc: Global, catalog: &Catalog) -> Result<Room, AllocError>
     ensures world { IfOk result (λ made. made.world ≡ record { installed = []; shadow = finite.empty }) }
     ensures tasks { IfOk result (λ made. made.tasks ≡ replicate MAX_TASKS None) }
@@ -70,8 +70,8 @@ fn make_room(alloc: Global, catalog: &Catalog) -> Result<Room, AllocError>
 }
 
 impl ManagerState {
-    /// Makes the state of a manager that has just opened: `vmlinux` alone is loaded, and there are no patches, tasks or
-    /// variables. An error means that memory ran out; image and modules are dropped then.
+    /// Makes the state of a manager that has just opened. Only `vmlinux` is loaded, and there are no patches, tasks or
+    /// variables. An error means that memory ran out. On an error, image and modules are dropped.
     pub fn new(
         alloc: Global,
         image: Image,

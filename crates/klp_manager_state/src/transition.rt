@@ -1,4 +1,4 @@
-//! The patch in transition, as a row of the state, so that undo puts it back like any other row.
+//! The patch in transition, as a row of the state. So undo puts it back like any other row.
 ghost use Rattle.std.specs.Prelude.{◌≡◌, ◌≢◌, ◌<◌, ◌∷◌, [], length, not};
 ghost use Rattle.klp_types.specs.Records.{spare_of};
 ghost use Rattle.klp_model.specs.Refusals.{moves_out};
@@ -8,8 +8,8 @@ ghost use Rattle.klp_manager_state.specs.Rows.{row_of_moving, rows_before, put_m
 use crate::state::ManagerState;
 use klp_types::{PatchId, Record, Transition};
 
-/// Returns the transition before the change, which the record has. For a record of another kind, returns `moving`, as
-/// the definition does.
+/// Returns the transition that the record has, which is the transition before the change. For a record of another kind,
+/// returns `moving`, as the definition.
 pub(crate) fn moving_before(moving: Option<Transition>, row: Record) -> Option<Transition>
     ensures { result ≡ put_moving moving row }
 {
@@ -33,7 +33,7 @@ impl ManagerState {
     }
 
     /// Replaces the transition by another one, or by none, and logs the old transition, so that undo restores it. The
-    /// new value must differ from the old, since an unchanged row gets no record.
+    /// new value must differ from the old value, since an unchanged row gets no record.
     #[tactic(auto, using(crate::proofs::RowLemmas::moving_back))]
     pub fn set_moving(&mut self, moving: Option<Transition>)
         requires room { 0 < spare_of self.old.log }

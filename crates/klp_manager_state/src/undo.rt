@@ -1,4 +1,4 @@
-//! Putting back what an event logged. Undo doesn't run steps backwards: all old rows are in the records.
+//! Putting back what an event logged. Undo doesn't run steps backwards, since the records have all old rows.
 ghost use Rattle.std.specs.Prelude.{◌≡◌, ◌<◌, true, false, [], length};
 ghost use Rattle.klp_journal.specs.Small.{row_of};
 ghost use Rattle.klp_manager_state.specs.Rows.{rows_in, put_back, undone, is_due, are_due};
@@ -10,10 +10,10 @@ use klp_journal::SmallRecord;
 use klp_types::Record;
 
 impl ManagerState {
-    /// Puts all records of an event back, newest first, and removes them from the log. The newest is the last in the
-    /// log. The cost grows with the number of records. No callback runs. Stacks are rows like all others, so nothing is
-    /// computed anew (docs/DECISIONS.md, "Undo by rows"). The clause `due` ensures room for each entry that is put
-    /// back. It holds for each group of the journal.
+    /// Puts all records of an event back, newest first, and removes them from the log. The newest record is the last in
+    /// the log. The cost grows with the number of records. No callback runs. Stacks are rows like all others, so
+    /// nothing is computed anew (docs/DECISIONS.md, "Undo by rows"). The clause `due` ensures room for each entry that
+    /// is put back. Each group of the journal satisfies this clause.
     pub fn undo(&mut self)
         requires modules { self.old.modules.loaded ≡ self.old.sites.loaded }
         requires objects { length self.old.sites.loaded ≡ length self.old.sites.image.objects }
@@ -26,7 +26,7 @@ impl ManagerState {
         while self.put_newest_back() {}
     }
 
-    /// Puts back the newest record that is left. Returns whether there was one.
+    /// Puts back the newest record that is left. Returns whether there was a record.
     #[inline(always)]
     fn put_newest_back(&mut self) -> bool
         requires modules { self.old.modules.loaded ≡ self.old.sites.loaded }
@@ -51,8 +51,8 @@ impl ManagerState {
         true
     }
 
-    /// Puts back the newest record, of a kind that few events log. This function isn't inlined, since otherwise its
-    /// caller would clear the memory for a whole record at each turn.
+    /// Puts back the newest record, which is of a kind that few events log. This function isn't inlined, since
+    /// otherwise its caller would clear the memory for a whole record at each turn of its loop.
     #[cold]
     fn put_other_back(&mut self)
         requires some { 0 < length self.old.log.logged }
@@ -88,8 +88,8 @@ impl ManagerState {
         }
     }
 
-    /// Puts any record back. It is passed only to the parts that have such rows, since passing every record to every
-    /// part would cost more than putting most of them back.
+    /// Puts any record back. The record is passed only to the parts that have such rows. Passing every record to every
+    /// part would cost more than putting most records back.
     fn put_back(&mut self, row: &Record)
         requires modules { self.old.modules.loaded ≡ self.old.sites.loaded }
         requires objects { length self.old.sites.loaded ≡ length self.old.sites.image.objects }

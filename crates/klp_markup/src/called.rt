@@ -17,7 +17,7 @@ fn goes_on(byte: u8) -> bool
     byte >= 128 && byte < 192
 }
 
-/// Returns the first [`MAX_SHOWN`] bytes of a name, or fewer, so that no character of UTF-8 is cut.
+/// Returns the first [`MAX_SHOWN`] bytes of a name. If this would cut a character of UTF-8, returns fewer bytes.
 fn front_of(name: &[u8]) -> &[u8]
     requires { MAX_SHOWN < length name.now }
     ensures { result.now ≡ take (last_begin MAX_SHOWN name.now) name.now }
@@ -42,7 +42,7 @@ fn add_shown(sheet: &mut Sheet, name: &[u8])
     }
 }
 
-/// Adds a task's name behind its number. Adds nothing if the name isn't known.
+/// Adds a task's name after its number. Adds nothing if the name isn't known.
 pub(crate) fn add_called(sheet: &mut Sheet, name: Option<&[u8]>)
     ensures { Adds sheet.old sheet.new (called_text (option_map (λ name. name.now) name.entry)) }
 {
@@ -54,8 +54,8 @@ pub(crate) fn add_called(sheet: &mut Sheet, name: Option<&[u8]>)
     }
 }
 
-/// Adds a task's number, and its name if that is known. It adds no markup, since a tooltip allows none. It has no
-/// contract, and is for layout.
+/// Adds a task's number, and the task's name if it is known. Adds no markup, since a tooltip allows none. The function
+/// has no contract, and is for layout.
 pub fn add_plain_task(sheet: &mut Sheet, names: &Names, task: TaskId) {
     sheet.number(u64::from(task.0));
     match names.name(task) {

@@ -1,11 +1,11 @@
 //! The sheet on which a page is written.
 //!
-//! A [`Sheet`] takes two kinds of text: markup, which is part of the program, and text that comes from a run, which it
-//! escapes. So nothing that a catalog, a script or a trace says can be mistaken for markup (`specs/Escaped`). A sheet
-//! stores whether memory ran out, so a caller that adds ten pieces checks this once, at the end (`specs/Adds`).
+//! Two kinds of text are added to a [`Sheet`]: markup, which is part of the program, and text from a run, which is
+//! escaped. So no text from a catalog, a script or a trace can be mistaken for markup (`specs/Escaped`). A sheet stores
+//! whether memory ran out. So a caller that adds ten pieces checks this once, at the end (`specs/Adds`).
 //!
-//! The names of a catalog are spelled by `names` (`specs/Names`), and times by `times` (`specs/Times`). Lists of tasks
-//! are spelled by `tasks` (`specs/Tasks`), with the tasks' names (`specs/Called`).
+//! `names` spells the names of a catalog (`specs/Names`), and `times` spells times (`specs/Times`). `tasks` spells
+//! lists of tasks (`specs/Tasks`), with the tasks' names (`specs/Called`).
 #![tactic(auto)]
 
 mod called;

@@ -84,8 +84,8 @@ fn add_new_function(sheet: &mut Sheet, patch: &[u8], number: u16, name: &[u8])
     sheet.markup(")");
 }
 
-/// Adds a function that a task can sleep in: the symbol of an original function, or `PATCH:INDEX (NAME)` for a patch's
-/// new function. The catalog must have been assembled over these modules.
+/// Adds a function that a task can sleep in. An original function is spelled as the symbol of its site. A patch's new
+/// function is spelled `PATCH:INDEX (NAME)`. The catalog must have been assembled with these modules.
 pub fn add_version(sheet: &mut Sheet, catalog: &Catalog, modules: &Modules, version: Version)
     requires { catalog.now.names ≡ modules.now.names }
     ensures { Adds sheet.old sheet.new (version_text catalog.now version) }

@@ -8,16 +8,16 @@ use itoa::Buffer;
 use std::alloc::{AllocError, Global};
 use std::marker::Model;
 
-/// What is put into a gap of a template. `Markup` is text of the program itself. Text that comes from a run is escaped.
+/// A value that is put into a gap of a template. `Markup` is text of the program itself. Text from a run is escaped.
 #[derive(Clone, Copy)]
 pub enum Value<'a> {
     Markup(&'static str),
     Number(u64),
     Integer(i64),
     Text(&'a [u8]),
-    /// A name, escaped, in which the browser may break the line behind each word.
+    /// A name, escaped. The browser may break the line after each word of the name.
     Words(&'a [u8]),
-    /// A name as in `Words`, in the font of code.
+    /// A name like `Words`, in the font of code.
     Name(&'a [u8]),
 }
 
@@ -36,7 +36,7 @@ impl Model for Sheet {
     ghost view = { λ s. record { text = s.bytes.items; is_short = s.is_short } };
 }
 
-/// Whether the browser may break a line behind this byte of a name.
+/// Whether the browser may break a line after this byte of a name.
 fn ends_word(byte: u8) -> bool
     ensures { result ≡ ends_word byte }
 {
@@ -44,7 +44,7 @@ fn ends_word(byte: u8) -> bool
 }
 
 impl Sheet {
-    /// Returns an empty sheet. Takes no memory.
+    /// Returns an empty sheet. The call takes no memory.
     pub fn new(alloc: Global) -> Sheet
         ensures { result ≡ record { text = []; is_short = false } }
     {
@@ -54,7 +54,8 @@ impl Sheet {
         }
     }
 
-    /// Adds these bytes as they are. If memory runs out, they are missing, and the sheet counts as short from then on.
+    /// Adds these bytes unchanged. If memory runs out, the bytes are missing, and from then on the sheet counts as
+    /// short.
     fn add(&mut self, bytes: &[u8])
         ensures { Adds self.old self.new bytes.now }
     {
@@ -63,7 +64,7 @@ impl Sheet {
         }
     }
 
-    /// Adds one byte of a run's text, escaped.
+    /// Adds one byte of text from a run, escaped.
     fn add_byte(&mut self, byte: u8)
         ensures { Adds self.old self.new (escaped_byte byte) }
     {
@@ -108,7 +109,7 @@ impl Sheet {
         self.add(Buffer::new().format(value).as_bytes());
     }
 
-    /// Lets the browser break the line behind this byte, if the byte ends a word.
+    /// If this byte ends a word, lets the browser break the line after it.
     fn add_break(&mut self, byte: u8)
         ensures { Adds self.old self.new (break_behind byte) }
     {
@@ -118,7 +119,7 @@ impl Sheet {
         }
     }
 
-    /// Adds a name, escaped, in which the browser may break the line behind each word.
+    /// Adds a name, escaped. The browser may break the line after each word of the name.
     pub fn words(&mut self, name: &[u8])
         ensures { Adds self.old self.new (words_text name.now) }
     {
@@ -139,7 +140,7 @@ impl Sheet {
         self.markup("</span>");
     }
 
-    /// Adds a value, in the form of its variant.
+    /// Adds a value in the form that its variant says.
     fn value(&mut self, value: &Value<'_>) {
         match *value {
             Value::Markup(markup) => self.markup(markup),
@@ -151,7 +152,7 @@ impl Sheet {
         }
     }
 
-    /// Adds a template, with a value in place of each `{}`. It has no contract, and is for layout.
+    /// Adds a template, with a value in place of each `{}`. The function has no contract, and is for layout.
     pub fn fill(&mut self, template: &'static str, values: &[Value<'_>]) {
         let mut rest = template;
         for value in values {
@@ -179,7 +180,7 @@ impl Sheet {
         self.bytes.is_empty()
     }
 
-    /// Returns the sheet's text. Returns `Err` if memory ran out while it was written.
+    /// Returns the sheet's text. Returns `Err` if memory ran out while the sheet was written.
     pub fn into_bytes(self) -> Result<Vec<u8>, AllocError>
         ensures { MatchResult result (λ bytes. (self.is_short ≡ false) × (bytes.items ≡ self.text))
             (λ _. self.is_short ≡ true) }

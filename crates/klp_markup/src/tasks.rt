@@ -9,7 +9,7 @@ use crate::sheet::Sheet;
 use klp_names::Names;
 use klp_types::TaskId;
 
-/// How many tasks a shortened list names. The list then says how many others there are.
+/// How many tasks a shortened list names. After these tasks, the list has the number of the remaining tasks.
 pub const MAX_NAMED: usize = 8;
 
 /// Returns the singular or the plural of a word.
@@ -19,8 +19,8 @@ pub fn plural(count: usize, one: &'static str, more: &'static str) -> &'static s
     if count == 1 { one } else { more }
 }
 
-/// Returns how many of `count` tasks a list names. A list of nine tasks isn't shortened to eight and "1 more": it names
-/// all.
+/// Returns how many of `count` tasks a list names. A list of nine tasks isn't shortened to eight tasks and "1 more", so
+/// it names all nine.
 fn named(count: usize) -> usize
     ensures { result ≡ named count }
 {
@@ -31,7 +31,7 @@ fn named(count: usize) -> usize
     }
 }
 
-/// Returns the text in front of the task at this place in a list of `count` tasks.
+/// Returns the text before the task at this place in a list of `count` tasks.
 fn join(place: usize, count: usize) -> &'static str
     requires { place < count }
     ensures { result.now ≡ join place count }
@@ -45,7 +45,7 @@ fn join(place: usize, count: usize) -> &'static str
     }
 }
 
-/// Adds a task's number, and its name if that is known.
+/// Adds a task's number, and the task's name if it is known.
 pub fn add_task(sheet: &mut Sheet, names: &Names, task: TaskId)
     ensures { Adds sheet.old sheet.new (task_text names.now task) }
 {
@@ -67,7 +67,7 @@ fn add_names(sheet: &mut Sheet, names: &Names, count: usize, tasks: &[TaskId])
     }
 }
 
-/// Adds how many tasks a shortened list leaves out. Adds nothing if the list names all.
+/// Adds how many tasks a shortened list leaves out. Adds nothing if the list names all tasks.
 fn add_more(sheet: &mut Sheet, count: usize)
     ensures { Adds sheet.old sheet.new (more_text count) }
 {

@@ -18,7 +18,7 @@ pub fn add_seconds(sheet: &mut Sheet, time: u64)
     sheet.markup(" s");
 }
 
-/// Adds a duration: ` for 15.1 s`. Adds nothing if it isn't known.
+/// Adds a duration: ` for 15.1 s`. Adds nothing if the duration isn't known.
 fn add_lasting(sheet: &mut Sheet, lasting: Option<u64>)
     ensures { Adds sheet.old sheet.new (lasting_text lasting) }
 {
@@ -29,8 +29,8 @@ fn add_lasting(sheet: &mut Sheet, lasting: Option<u64>)
     }
 }
 
-/// Adds a time since the first one, and a duration: ` (+3.0 s for 15.1 s)`. Adds nothing if the time isn't known, and
-/// only the time if the duration isn't known.
+/// Adds a time since the first known time, and a duration: ` (+3.0 s for 15.1 s)`. If the time isn't known, adds
+/// nothing. If only the duration isn't known, adds only the time.
 fn add_after(sheet: &mut Sheet, time: Option<u64>, lasting: Option<u64>)
     ensures { Adds sheet.old sheet.new (after_text time lasting) }
 {
@@ -50,8 +50,8 @@ pub fn add_line_time(sheet: &mut Sheet, names: &Names, line: u64)
     add_after(sheet, names.since_start(line), None);
 }
 
-/// Adds when something began, and for how long it lasted: ` (+0.0 s for 15.1 s)`. It lasted from `line` to the line
-/// `to`.
+/// Adds when a condition began, and for how long it lasted: ` (+0.0 s for 15.1 s)`. The condition lasted from `line` to
+/// the line `to`.
 pub fn add_span_time(sheet: &mut Sheet, names: &Names, line: u64, to: Option<u64>)
     ensures { Adds sheet.old sheet.new (span_time names.now line to) }
 {

@@ -1,5 +1,5 @@
-//! Worked examples of allowed states: for each condition a state that breaks it. A function here does nothing: its
-//! contract is the example, and it is proved by computing the definition.
+//! Worked examples of allowed states. For each condition there is a state that breaks it. A function of this module
+//! does nothing. The function's contract is the example, which is proved by computing the definition.
 ghost use Rattle.std.specs.Prelude.{◌≡◌, ◌≤◌, pos, negsuc, true, false, [], ◌∷◌, Some, None};
 ghost use Rattle.std.specs.FinMap as finite;
 ghost use Rattle.klp_types.specs.declared.version.Version.TheVariants.{Original, New};
@@ -10,8 +10,8 @@ ghost use Rattle.klp_model.specs.Allowed.{Allowed};
 ghost use Rattle.klp_model.specs.Examples.{small_kernel, faulty, alone, move_of, installed, state_with, with_states};
 ghost use Rattle.klp_model.specs.Examples.{in_user, asleep_in};
 
-/// States that are allowed. A cumulative patch may be above others while it is in transition, or below others if it is
-/// the oldest. A sleeper may be inside of functions that aren't loaded.
+/// States that are allowed. While a cumulative patch is in transition, it may be above other patches. If it is the
+/// oldest, it may be below others. A sleeper may be inside of functions that aren't loaded.
 pub fn these_states_are_allowed()
     ensures replacing { Allowed small_kernel
         (state_with false (0 ∷ 1 ∷ []) (move_of 1 true) (alone (asleep_in (pos 1) (New 1 0 ∷ Original 2 ∷ [])))) }
@@ -20,7 +20,7 @@ pub fn these_states_are_allowed()
     ensures replaced { Allowed small_kernel (state_with true (1 ∷ 2 ∷ []) None (alone (in_user (negsuc 0)))) }
 {}
 
-/// States that the manager never reaches; each breaks one condition of an allowed state.
+/// States that the manager never reaches. Each of them breaks one condition of an allowed state.
 pub fn these_states_are_never_reached()
     ensures no_kernel { Allowed small_kernel (record (state_with true [] None (alone None)) { loaded = false ∷ true ∷ [] }) → ⊥ }
     ensures unknown { Allowed small_kernel (state_with true (0 ∷ 4 ∷ []) None (alone None)) → ⊥ }

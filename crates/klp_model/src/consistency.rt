@@ -1,6 +1,6 @@
-//! What is proved of honest observed runs, and examples of such runs. A function here does nothing: its contract is the
-//! law or the example. The laws are in this crate because only they depend on which versions block a sleeper
-//! (docs/DECISIONS.md, "Where the theorems are").
+//! What is proved of honest observed runs, and examples of such runs. A function of this module does nothing: its
+//! contract is the law or the example. The laws are in this crate because no other crate depends on which versions
+//! block a sleeper (docs/DECISIONS.md, "Where the theorems are").
 ghost use Rattle.std.specs.Prelude.{◌≡◌, ℕ, pos, negsuc, true, false, List, [], ◌∷◌, ◌++◌, Some, None};
 ghost use Rattle.klp_types.specs.declared.version.Version.TheVariants.{Original, New};
 ghost use Rattle.klp_types.specs.Setting.{Setting};
@@ -19,33 +19,33 @@ ghost use Rattle.klp_model.specs.ObservedExamples.{kernel, stray_kernel, one_tas
 ghost use Rattle.klp_model.specs.ObservedExamples.{inside, watched, start, in_original, late, sleeper_run, stray_run};
 ghost use Rattle.klp_model.specs.ObservedExamples.{under_a_task, inside_both, moving_in, unpatched, stray_behind};
 
-/// At every moment of an honest observed run, each frame of each task is the version that the task would run at
-/// that site now. This is the consistency model in one sentence: no task is inside of old code while its calls run
-/// new code.
+/// At every moment of an honest observed run, each frame of each task is the version that the task would run at that
+/// site now. This law is the consistency model in one sentence: no task is inside of old code while its calls run new
+/// code.
 pub fn frames_are_current()
     ensures { (setting : Setting) (start : State) (first second : List Seen)
         → IsInPlace setting → IsHonestRun setting start (first ++ second)
         → AllCurrent setting (seen_from setting start first) }
 {}
 
-/// No task has a frame of a function whose entry has left the function stacks. So the code of a patch that has left may
-/// be freed.
+/// No task has a frame of a function whose entry was taken off the function stacks. So when a patch isn't installed any
+/// more, its code may be freed.
 pub fn none_has_left()
     ensures { (setting : Setting) (start : State) (first second : List Seen)
         → IsInPlace setting → IsHonestRun setting start (first ++ second)
         → NoneLeft setting (seen_from setting start first) }
 {}
 
-/// During a transition, a task with patch state 0 has no frame of the patch's functions. A task with state 1 has no
-/// frame of a version below an entry of the patch. So no task mixes old and new code.
+/// During a transition, a task with patch state 0 has no frame of a function of the patch. A task with patch state 1
+/// has no frame of a version below an entry of the patch. So no task mixes old and new code.
 pub fn none_is_mixed()
     ensures { (setting : Setting) (start : State) (first second : List Seen)
         → IsInPlace setting → IsHonestRun setting start (first ++ second)
         → NoneMixed setting (seen_from setting start first) }
 {}
 
-/// In an honest observed run, the version of each frame is a version of the site that was called: its original, or a
-/// patch's new function for it. So a version determines its site, and frames needn't store both.
+/// In an honest observed run, the version of each frame is a version of the site that was called: the site's original,
+/// or a patch's new function for the site. So a version determines its site, and a frame needn't store the site too.
 pub fn versions_name_their_sites()
     ensures { (setting : Setting) (start : State) (first second : List Seen)
         → IsInPlace setting → IsHonestRun setting start (first ++ second)
@@ -53,21 +53,21 @@ pub fn versions_name_their_sites()
 {}
 
 /// At the end of an honest observed run, each frame of each task is the version that the task would run at that site
-/// now. In this form a function that handles a list of items can promise the law.
+/// now. A function that handles a list of items can promise the law in this form.
 pub fn frames_are_current_at_the_end()
     ensures { (setting : Setting) (start : State) (items : List Seen)
         → IsInPlace setting → IsHonestRun setting start items
         → AllCurrent setting (seen_from setting start items) }
 {}
 
-/// The state of an observed run is the state of a run of its events: watching what tasks call changes nothing.
+/// The state of an observed run is the state after its events alone, since watching what tasks call changes nothing.
 pub fn state_is_that_of_the_events()
     ensures { (setting : Setting) (w : Watched) (items : List Seen)
         → (seen_run setting w items).state ≡ run setting w.state (events_of items) }
 {}
 
-/// An honest observed run: a task sleeps in an original while the patch is being enabled. It blocks the transition
-/// until it leaves the kernel.
+/// An honest observed run. A task sleeps in an original while the patch is being enabled. The task blocks the
+/// transition until it leaves the kernel.
 pub fn a_sleeper_holds_the_transition()
     ensures in_place { IsInPlace kernel }
     ensures honest { IsHonestRun kernel start sleeper_run }
@@ -77,7 +77,7 @@ pub fn a_sleeper_holds_the_transition()
         (record { patch = 0; target = true })) in_original ≡ true }
 {}
 
-/// Items that aren't honest, among them: falling asleep without naming the frames, leaving the kernel inside of a
+/// Items that aren't honest. Examples are: falling asleep without naming the frames, leaving the kernel inside of a
 /// function, unloading a module while a task runs in it, and calling a function outside of the kernel.
 pub fn these_are_dishonest()
     ensures sleep { IsHonestItem kernel
@@ -94,7 +94,7 @@ pub fn these_are_dishonest()
     ensures inside_at_the_start { IsHonestRun kernel (unpatched User no_frames).state [] → ⊥ }
 {}
 
-/// What the laws of consistency exclude. Every frame counts, not only the innermost.
+/// States that the laws of consistency exclude. Every frame counts, not only the innermost.
 pub fn these_are_inconsistent()
     ensures old { AllCurrent kernel (moving_in (pos 1) (inside_both (New 0 0) (Original 1))) → ⊥ }
     ensures left { NoneLeft kernel (unpatched Kernel (inside_both (Original 0) (New 0 1))) → ⊥ }
@@ -106,8 +106,8 @@ pub fn these_are_inconsistent()
     ensures out_of_place { IsInPlace stray_behind → ⊥ }
 {}
 
-/// A call adds a frame to its task, with the version that the call got. A return removes the innermost frame. A forked
-/// child is inside of nothing, and so is a new task.
+/// A call adds a frame to its task, with the version that the call runs. A return removes the innermost frame. A new
+/// task and a forked child are inside of no function.
 pub fn calls_go_on_the_frames()
     ensures called { (seen_next kernel (unpatched Kernel (inside 0 (Original 0))) (Calls 1 1)).stacks 1
         ≡ (inside_both (Original 0) (Original 1)) 1 }
@@ -122,8 +122,8 @@ pub fn calls_go_on_the_frames()
     ensures anew { (seen_next kernel (watched start (inside 0 (Original 0))) (Happens (NewTask 1))).stacks 1 ≡ [] }
 {}
 
-/// Why a function must be in the object of its site: if it isn't, an honest run can leave a task inside of a
-/// function that no site has, because the module was unloaded.
+/// The reason why a function must be in the object of its site. Otherwise an honest run could unload the module of the
+/// site while a task is inside of the function. No site would then have that function.
 pub fn a_stray_function_outlives_its_site()
     ensures honest { IsHonestRun stray_kernel start stray_run }
     ensures end { seen_from stray_kernel start stray_run
@@ -132,8 +132,9 @@ pub fn a_stray_function_outlives_its_site()
         ≡ None }
 {}
 
-/// Why the version *below* the patch's entry blocks a sleeper towards target 1. If the new version blocked it instead,
-/// a sleeper in the original would be switched, and would be inside of code that its calls don't run any more.
+/// The reason why the version *below* the patch's entry blocks a sleeper towards target 1. If the new version blocked
+/// the sleeper instead, a sleeper in the original would be switched. Its calls would then run new code while it is
+/// still inside of old code.
 pub fn the_rule_turned_round_lets_a_sleeper_through()
     ensures turned { is_held (New 0 0 ∷ New 0 1 ∷ []) in_original ≡ false }
     ensures completed { version_now kernel (state_of false (0 ∷ []) None (one_task Asleep (negsuc 0) in_original)) 1 0

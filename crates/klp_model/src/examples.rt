@@ -1,6 +1,6 @@
-//! Worked examples of the definitions. A function here does nothing: its contract is the example, and it is proved
-//! by computing the definition. They are here and not in tests, since a test proves nothing of a definition
-//! (docs/DECISIONS.md, "Tests above what they test").
+//! Worked examples of the definitions. A function of this module does nothing. The function's contract is the example,
+//! which is proved by computing the definition. The examples are in the crate and not in its tests, since a test proves
+//! nothing of a definition (docs/DECISIONS.md, "Tests above what they test").
 ghost use Rattle.std.specs.Prelude.{◌≡◌, pos, negsuc, true, false, [], ◌∷◌, replicate, Some, None};
 ghost use Rattle.klp_types.specs.declared.callback.Which.TheVariants.{Pre, Post, PreUn, PostUn};
 ghost use Rattle.klp_types.specs.declared.version.Version.TheVariants.{Original, New};
@@ -32,8 +32,8 @@ ghost use Rattle.klp_model.specs.Examples.{small_kernel, module_kernel, taking_o
 ghost use Rattle.klp_model.specs.Examples.{faulty, alone, move_of, state_with, with_state, with_states, in_user};
 ghost use Rattle.klp_model.specs.Examples.{in_kernel, asleep_in, ran_by};
 
-/// A reversal runs no callback, towards either target, and the tasks keep their patch states. What callbacks set up is
-/// still there, and each task is switched back from its present state.
+/// A reversal runs no callback, towards either target, and the tasks keep their patch states. All effects of earlier
+/// callbacks stay, and each task is switched back from its present state.
 pub fn a_reversal_runs_nothing()
     ensures enabling { calls small_kernel (state_with true (0 ∷ []) (move_of 0 true) []) (SetEnabled 0 false) ≡ [] }
     ensures disabling { calls small_kernel (state_with true (0 ∷ []) (move_of 0 false) []) (SetEnabled 0 true) ≡ [] }
@@ -44,7 +44,8 @@ pub fn a_reversal_runs_nothing()
         ≡ state_with true (0 ∷ []) (move_of 0 false) (in_kernel (pos 1) ∷ []) }
 {}
 
-/// Disabling starts with pre-unpatch. Every task still runs the patch then, since all of its entries are still there.
+/// Disabling starts with pre-unpatch. At that time every task still runs the patch, since all entries of the patch are
+/// still there.
 pub fn a_disabling_starts_with_pre_unpatch()
     ensures runs { ran (calls small_kernel (state_with true (0 ∷ []) None []) (SetEnabled 0 false))
         ≡ (0, PreUn) ∷ (1, PreUn) ∷ [] }
@@ -58,9 +59,9 @@ pub fn a_disabling_starts_with_pre_unpatch()
         ≡ state_with true (0 ∷ []) (move_of 0 false) (in_kernel (pos 1) ∷ []) }
 {}
 
-/// Enabling runs pre-patch in the order of the patch's objects, up to the first that refuses. Then post-unpatch
-/// runs for the objects before it, so that every successful pre-patch is cleaned up. Objects that aren't loaded are
-/// left out. Afterwards the patch isn't installed, and there is no transition.
+/// Enabling runs pre-patch for the patch's objects in order, up to the first object that refuses. Then post-unpatch
+/// runs for the objects before that one, so that every successful pre-patch is cleaned up. Objects that aren't loaded
+/// are skipped. Afterwards the patch isn't installed, and there is no transition.
 pub fn objects_before_the_one_that_refuses_get_post_unpatch()
     ensures runs { ran
         (calls (refusing_in 1)
@@ -91,9 +92,9 @@ pub fn objects_before_the_one_that_refuses_get_post_unpatch()
         ≡ state_with true [] None (in_kernel (negsuc 0) ∷ []) }
 {}
 
-/// When a cumulative patch completes, the older patches leave the list. Its nops over their functions are taken out
-/// too, since no entries are left below them. Newer patches stay. If the cumulative patch is withdrawn instead, only it
-/// leaves.
+/// When the transition of a cumulative patch completes, the older patches are removed from the list. The cumulative
+/// patch's nops are taken out too, since no entries are left below them. Newer patches stay. If the cumulative patch is
+/// disabled before its transition completes, no other patch is removed.
 pub fn a_replacement_takes_the_older_patches_out()
     ensures older { installed_patches (accepted small_kernel (state_with true (0 ∷ 1 ∷ []) (move_of 1 true) []) Poll).1
         ≡ 1 ∷ [] }
@@ -107,9 +108,9 @@ pub fn a_replacement_takes_the_older_patches_out()
         (accepted small_kernel (state_with true (0 ∷ 1 ∷ []) (move_of 1 false) []) Poll).1 ≡ 0 ∷ [] }
 {}
 
-/// While a task isn't at the target, a poll doesn't complete the transition and runs no callback. It switches sleeping
-/// tasks that aren't blocked. It doesn't switch tasks in the kernel or in user space: these switch when they next leave
-/// the kernel.
+/// While a task isn't at the target, a poll doesn't complete the transition and runs no callback. The poll switches
+/// sleeping tasks that aren't blocked. It doesn't switch tasks in the kernel or in user space: each of them is switched
+/// when it next leaves the kernel.
 pub fn a_poll_waits_for_tasks()
     ensures runs { calls small_kernel (state_with true (0 ∷ []) (move_of 0 true) (in_kernel (pos 0) ∷ [])) Poll ≡ [] }
     ensures reply { (accepted small_kernel (state_with true (0 ∷ []) (move_of 0 true) (in_kernel (pos 0) ∷ [])) Poll).0
@@ -136,9 +137,9 @@ pub fn a_poll_waits_for_tasks()
         ≡ (Completed false, state_with true (0 ∷ []) None (in_kernel (negsuc 0) ∷ [])) }
 {}
 
-/// While a patch is being enabled, the versions below its entries block a sleeping task. While it is being disabled,
-/// its own versions do. These are the versions that the task wouldn't run any more once it is switched. The same holds
-/// if a newer patch is above. A nop counts as the original.
+/// While a patch is being enabled, the versions below its entries block a sleeping task. While a patch is being
+/// disabled, its own versions block a sleeping task. After the switch the task's calls wouldn't run the blocking
+/// versions any more. The rule doesn't change if a newer patch is above. A nop counts as the original.
 pub fn tasks_are_held_by_what_they_would_leave()
     ensures to_the_patch { blocked small_kernel (state_with false (0 ∷ []) (move_of 0 true) [])
         (record { patch = 0; target = true }) ≡ Original 0 ∷ Original 1 ∷ [] }
@@ -152,8 +153,8 @@ pub fn tasks_are_held_by_what_they_would_leave()
         (record { patch = 1; target = false }) ≡ New 1 0 ∷ Original 1 ∷ Original 2 ∷ [] }
 {}
 
-/// A task with patch state 0 runs the version below the entry of the patch in transition, since the task isn't switched
-/// to the patch. Any other task runs the newest version. If that is a nop, it runs the original.
+/// A task with patch state 0 isn't switched to the patch in transition, so it runs the version below that patch's
+/// entry. Any other task runs the version of the newest entry. If that entry is a nop, the task runs the original.
 pub fn tasks_pick_by_their_state()
     ensures below { pick small_kernel (state_with true (0 ∷ 2 ∷ []) (move_of 2 true) (in_kernel (pos 0) ∷ [])) 0 0
         ≡ Some (record { version = New 0 0; address = 0 }) }
@@ -181,8 +182,8 @@ pub fn what_is_not_loaded_has_nothing()
 {}
 
 /// The row of a site has its two newest entries, with the addresses at which their versions begin. If an entry is a nop
-/// or is missing, its address is the one after the original's entry site. A site is hooked if it has an entry. A site
-/// of an object that isn't loaded has no row.
+/// or is missing, its address is the one after the entry site. A site is hooked if it has an entry. A site of an object
+/// that isn't loaded has no row.
 pub fn a_row_tells_the_two_newest_entries()
     ensures nop { row_of small_kernel (state_with true (0 ∷ 1 ∷ []) (move_of 1 true) []) 1
         ≡ Some (record {
@@ -211,8 +212,8 @@ pub fn a_row_tells_the_two_newest_entries()
 {}
 
 /// Loading a module runs pre-patch and post-patch, patch by patch, oldest first. For a patch in transition only
-/// pre-patch runs, because its post-patch runs when the transition completes. If a pre-patch refuses, the patches
-/// before it are cleaned up, and the module isn't loaded.
+/// pre-patch runs, because its post-patch runs when the transition completes. If a pre-patch refuses, the module isn't
+/// loaded. The patches that were already applied to the module are cleaned up.
 pub fn a_module_comes_patch_by_patch()
     ensures still { ran_by (calls small_kernel (state_with false (0 ∷ []) None []) (Coming 1))
         ≡ (0, Pre) ∷ (0, Post) ∷ [] }
@@ -234,8 +235,8 @@ pub fn a_module_comes_patch_by_patch()
 {}
 
 /// Unloading a module runs pre-unpatch and post-unpatch, patch by patch, oldest first. For a patch in transition only
-/// post-unpatch runs, since either its post-patch never ran, or its pre-unpatch already ran. The module isn't unloaded
-/// while a task sleeps inside of it: in one of its own functions, or in a new function for it.
+/// post-unpatch runs: either its post-patch never ran, or its pre-unpatch ran already. The module isn't unloaded while
+/// a task sleeps inside of one of its own functions, or inside of a new function for it.
 pub fn a_module_goes_patch_by_patch()
     ensures still { ran_by (calls small_kernel (state_with true (0 ∷ []) None []) (Going 1))
         ≡ (0, PreUn) ∷ (0, PostUn) ∷ [] }
@@ -249,8 +250,9 @@ pub fn a_module_goes_patch_by_patch()
         (state_with true (0 ∷ []) None (asleep_in (negsuc 0) (New 0 2 ∷ []) ∷ [])) (Going 1) ≡ Some InUse }
 {}
 
-/// Forcing a transition switches every task to the target. Forcing a patch out pins that patch. Forcing a cumulative
-/// patch in pins all other installed patches. A task may still be inside of a pinned patch's functions.
+/// Forcing a transition switches every task to the target. If a patch is forced out, it is pinned. If a cumulative
+/// patch is forced in, all other installed patches are pinned. A task may still be inside of a pinned patch's
+/// functions.
 pub fn who_is_forced_away_is_pinned()
     ensures away { (accepted small_kernel (state_with true (0 ∷ 2 ∷ []) (move_of 2 false) (in_kernel (pos 1) ∷ []))
         (Force 2)).1
@@ -264,9 +266,9 @@ pub fn who_is_forced_away_is_pinned()
         ≡ false ∷ false ∷ false ∷ false ∷ [] }
 {}
 
-/// A new task is in user space, and at the target of the transition if there is one. A forked task is in the kernel
-/// and has its parent's patch state. A task that leaves the kernel is switched to the target. A task that wakes is
-/// in the kernel again, and the reply has its frames.
+/// A new task is in user space. If there is a transition, the new task is at its target. A forked task is in the kernel
+/// and has its parent's patch state. A task that leaves the kernel is switched to the target. A task that wakes is in
+/// the kernel again, and the reply has the task's frames.
 pub fn tasks_come_and_go()
     ensures new { accepted small_kernel (state_with true (0 ∷ []) (move_of 0 true) (None ∷ [])) (NewTask 0)
         ≡ (Done, state_with true (0 ∷ []) (move_of 0 true) (in_user (pos 1) ∷ [])) }
@@ -294,9 +296,9 @@ pub fn tasks_come_and_go()
         ≡ (Woken (Original 0 ∷ Original 1 ∷ []), state_with true [] None (in_kernel (negsuc 0) ∷ [])) }
 {}
 
-/// Callbacks run after a patch is added to the list of installed patches, and before patches are removed from it.
-/// So pre-patch can set a state of its own patch, and post-patch can take over the value of a patch that is about
-/// to be replaced.
+/// Callbacks run after a patch is added to the list of installed patches, and before patches are removed from it. So
+/// pre-patch can set a state of its own patch. Post-patch can take the value of a state from a patch that is about to
+/// be replaced.
 pub fn callbacks_find_the_patches_there()
     ensures set { state_value (accepted taking_over (with_states (with_state 0 5 ∷ []) None) (Enable 1)).1.world 1 7
         ≡ Some 3 }
@@ -305,9 +307,9 @@ pub fn callbacks_find_the_patches_there()
         ≡ Some 5 }
 {}
 
-/// There must be room for the variables of all callbacks that may run, even if some of them don't run in the end. So
-/// the room that is needed is known beforehand. The cases are a poll that stays pending, an enabling that succeeds, and
-/// the clean-up of a module that is being loaded.
+/// There must be room for the variables of all callbacks that may run, even if some of these callbacks don't run in the
+/// end. So the needed room is known before the first callback runs. The examples are a poll that stays pending, a patch
+/// that is enabled without a refusal, and the clean-up of a module that is being loaded.
 pub fn room_is_asked_for_all_that_may_run()
     ensures pending { refusal (crowded Post) (state_with true (0 ∷ []) (move_of 0 true) (in_kernel (pos 0) ∷ [])) Poll
         ≡ Some Full }
@@ -315,8 +317,8 @@ pub fn room_is_asked_for_all_that_may_run()
     ensures coming { refusal (crowded PreUn) (state_with false (0 ∷ []) None []) (Coming 1) ≡ Some Full }
 {}
 
-/// Why enabling a patch, writing its `enabled` file and forcing it are refused. If two reasons hold, the one that is
-/// checked first is reported.
+/// The reasons why an event is refused that enables a patch, writes a patch's `enabled` file or forces a patch. If two
+/// reasons hold, the one that is checked first is reported.
 pub fn refusals_come_in_order()
     ensures no_patch { refusal small_kernel (state_with true (0 ∷ []) (move_of 0 true) []) (Enable 4) ≡ Some NoPatch }
     ensures there_first { refusal small_kernel (state_with true (0 ∷ []) (move_of 0 true) []) (Enable 0)
@@ -337,8 +339,8 @@ pub fn refusals_come_in_order()
     ensures at_rest { refusal small_kernel (state_with true (0 ∷ []) None []) Poll ≡ Some NotMoving }
 {}
 
-/// Why events of modules and tasks are refused, reason by reason. If several reasons hold, the one that is checked
-/// first is reported.
+/// The reasons why events of modules and tasks are refused. If several reasons hold, the one that is checked first is
+/// reported.
 pub fn modules_and_tasks_are_refused()
     ensures kernel { refusal small_kernel (state_with true [] None []) (Coming 0) ≡ Some NoModule }
     ensures no_module { refusal small_kernel (state_with true [] None []) (Coming 2) ≡ Some NoModule }
@@ -368,13 +370,13 @@ pub fn modules_and_tasks_are_refused()
     ensures no_task { refusal small_kernel (state_with true [] None (None ∷ [])) (Wake 0) ≡ Some NoTask }
 {}
 
-/// A manager begins with only `vmlinux` loaded, and without patches, pins, tasks and shadow variables.
+/// When a manager begins, only `vmlinux` is loaded. There are no patches, pins, tasks and shadow variables.
 pub fn a_manager_begins_with_nothing_installed()
     ensures { opening_state small_kernel ≡ state_with false [] None (replicate 64 None) }
 {}
 
-/// Enabling adds the patch as the newest, and sets the patch state of every task to 0, since no task runs the patch
-/// yet. Loading or unloading a module changes that module's flag.
+/// Enabling adds the patch as the newest. It sets the patch state of every task to 0, since no task runs the patch yet.
+/// Loading or unloading a module changes that module's flag.
 pub fn an_enabling_starts_with_no_task_at_the_patch()
     ensures enabled { accepted small_kernel
         (state_with true (0 ∷ []) None (in_kernel (negsuc 0) ∷ asleep_in (negsuc 0) [] ∷ None ∷ [])) (Enable 2)
@@ -386,7 +388,7 @@ pub fn an_enabling_starts_with_no_task_at_the_patch()
     ensures no_object { is_loaded (state_with true [] None []) 2 ≡ false }
 {}
 
-/// The `enabled` file of a patch reads 0 only while the patch itself is being disabled.
+/// The `enabled` file of an installed patch reads 0 only while the patch itself is being disabled.
 pub fn a_patch_reads_enabled_until_it_moves_out()
     ensures still { enabled_value (state_with true (0 ∷ []) None []) 0 ≡ true }
     ensures coming_in { enabled_value (state_with true (0 ∷ []) (move_of 0 true) []) 0 ≡ true }
@@ -434,8 +436,8 @@ pub fn earlier_reasons_come_first()
         ≡ Some WrongMode }
 {}
 
-/// An event is accepted if there is no reason to refuse it. For example, a task may end while it is in the kernel. And
-/// a sleeper may be inside of functions whose objects aren't loaded or whose patches aren't installed.
+/// An event is accepted if there is no reason to refuse it. For example, a task may end while it is in the kernel. A
+/// sleeper may be inside of functions whose objects aren't loaded or whose patches aren't installed.
 pub fn what_no_reason_is_against_is_accepted()
     ensures ends { refusal small_kernel (state_with true [] None (in_kernel (negsuc 0) ∷ [])) (EndTask 0) ≡ None }
     ensures ends_outside { refusal small_kernel (state_with true [] None (in_user (negsuc 0) ∷ [])) (EndTask 0) ≡ None }
@@ -459,8 +461,8 @@ pub fn what_no_reason_is_against_is_accepted()
 {}
 
 /// There must be room for exactly as many variables as the callbacks that may run can add. Callbacks that can't run
-/// don't count: post-patch and pre-unpatch of a patch in transition when a module is loaded or unloaded, and all
-/// callbacks at a reversal.
+/// don't count. When a module is loaded or unloaded, post-patch and pre-unpatch of a patch in transition can't run. At
+/// a reversal, no callback can run.
 pub fn the_last_place_may_be_taken()
     ensures enabling { refusal (crowded_by 512 Pre) (state_with true [] None []) (Enable 0) ≡ None }
     ensures unloaded { refusal (crowded Pre) (state_with false [] None []) (Enable 0) ≡ None }
@@ -477,7 +479,7 @@ pub fn the_last_place_may_be_taken()
     ensures completing { refusal (crowded PostUn) (state_with true (0 ∷ []) (move_of 0 true) []) Poll ≡ None }
 {}
 
-/// A shadow event concerns the variables that it names. Other events concern no variable.
+/// A shadow event concerns the variables that it names. No other event concerns a variable.
 pub fn shadow_events_concern_what_they_name()
     ensures added { concerns (ShadowAlloc (key_of 1 2) []) (key_of 1 2) ≡ true }
     ensures another { concerns (ShadowAlloc (key_of 1 2) []) (key_of 3 2) ≡ false }

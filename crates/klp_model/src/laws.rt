@@ -1,6 +1,6 @@
 //! What is proved of the definitions themselves. Each law is the contract of a function that does nothing. The laws
-//! show that the definitions mean what they should. Crates above may rely on them. A lemma that a crate above needs is
-//! a law here too, since that crate can cite only public contracts (docs/DECISIONS.md, "Lemmas of other crates").
+//! show that the definitions mean what they should. Crates above may rely on the laws. A lemma that a crate above needs
+//! is a law too, since that crate can cite only public contracts (docs/DECISIONS.md, "Lemmas of other crates").
 ghost use Rattle.std.specs.Prelude.{◌≡◌, ℕ, ◌+◌, ◌-◌, ◌≤◌, nat_le, if◌then◌else◌, ℤ, pos, Bool, true, false, not, ◌==◌};
 ghost use Rattle.std.specs.Prelude.{◌&&◌, List, [], ◌∷◌, ◌++◌, map, reverse, filter, Some, None, is_some, is_none};
 ghost use Rattle.std.specs.Prelude.{option_map, Ok};
@@ -44,14 +44,14 @@ ghost use Rattle.klp_model.specs.Allowed.{is_one_of, Allowed};
 ghost use Rattle.klp_model.specs.Stated.{IsStated};
 ghost use Rattle.klp_model.specs.Opening.{opening_state};
 
-/// The state with which a manager is booted is allowed, if the image has an object. The first object is `vmlinux`,
+/// If the image has an object, the state with which a manager is booted is allowed. The first object is `vmlinux`,
 /// which is loaded from the start.
 pub fn the_opening_state_is_allowed()
     ensures { (setting : Setting) → is_empty setting.image.objects ≡ false → Allowed setting (opening_state setting) }
 {}
 
-/// A step leads from an allowed state to an allowed state, and so does a run. So a condition of allowed states holds of
-/// every state that a manager reaches.
+/// A step or a run from an allowed state leads to an allowed state. So a condition of allowed states holds of every
+/// state that a manager reaches.
 pub fn states_stay_allowed()
     ensures step { (setting : Setting) (state : State) (event : AnyEvent) → Allowed setting state
         → Allowed setting (next setting state event) }
@@ -59,17 +59,17 @@ pub fn states_stay_allowed()
         → Allowed setting (run setting state events) }
 {}
 
-/// An accepted event changes a shadow variable exactly as the shadow event does, or as the callbacks do that the event
-/// runs. So a variable can be followed through a run without computing the states.
+/// An accepted event changes a shadow variable exactly as the shadow event does, or as the event's callbacks do. So a
+/// variable can be followed through a run without computing the states.
 pub fn callbacks_make_the_changes()
     ensures { (setting : Setting) (state : State) (event : AnyEvent) (key : ShadowKey)
         → variable (accepted setting state event).1.world key ≡ variable (after_calls (shadow_changed state.world event)
         (calls setting state event)) key }
 {}
 
-/// The version that a task runs, computed from the installed patches alone. A task with patch state 0 runs what it
-/// would run if the patch in transition weren't installed. Any other task runs the newest version, and so does every
-/// task while there is no transition. So a task runs a patch as a whole or not at all.
+/// The version that a task runs, computed from the installed patches alone. A task with patch state 0 runs the version
+/// that it would run if the patch in transition weren't installed. Any other task runs the newest version. While there
+/// is no transition, every task runs the newest version. So a task runs a patch as a whole or not at all.
 pub fn tasks_run_whole_lists_of_patches()
     ensures patched { (setting : Setting) (state : State) (own : ℤ) (site : ℕ)
         → is_site_loaded setting state site ≡ true → is_unpatched own ≡ false
@@ -85,8 +85,8 @@ pub fn tasks_run_whole_lists_of_patches()
         (reverse (others move.patch (installed_patches state)))) }
 {}
 
-/// Removing the patch in transition removes its own entries. Those of the other patches stay as they were, including
-/// nops. So the stacks needn't be built again.
+/// Removing the patch in transition removes its own entries. The entries of the other patches stay as they were,
+/// including nops. So the stacks needn't be built again.
 pub fn a_patch_leaves_the_entries_of_the_others()
     ensures { (setting : Setting) (state : State) (patch : ℕ) (site : ℕ) → Allowed setting state
         → moves state.moving patch ≡ true
@@ -95,7 +95,7 @@ pub fn a_patch_leaves_the_entries_of_the_others()
 {}
 
 /// An event is accepted exactly if no case of a refusal holds. An accepted event leads to the state that its step
-/// defines, and a refused event doesn't change the state. So the list of cases says everything about refusals.
+/// defines. A refused event doesn't change the state. So the list of cases says everything about refusals.
 pub fn events_are_accepted_where_no_case_holds()
     ensures none { (cases : List (Bool × Refusal)) → is_none (first_of cases) ≡ true → NoneHolds cases }
     ensures next { (setting : Setting) (state : State) (event : AnyEvent) → accepts setting state event ≡ true
@@ -104,9 +104,9 @@ pub fn events_are_accepted_where_no_case_holds()
         → next setting state event ≡ state }
 {}
 
-/// A history grows by each event that is accepted after it. A history can be cut in two: the first part is a history
-/// from the same base, and the second part is one from the state to which the first part leads. The events determine
-/// the replies. Undo relies on this, since it cuts histories at their end.
+/// If an event is accepted after a history, the history with this event added is a history too. A history can be cut in
+/// two. The first part is a history from the same base. The second part is a history from the state to which the first
+/// part leads. The events determine the replies. Undo relies on this law, since undo cuts histories at their end.
 pub fn histories_grow_and_are_cut_at_their_end()
     ensures grown { (setting : Setting) (base : State) (history : History) (event : AnyEvent) (reply : AnyReply)
         → IsLegal setting base history → answer setting (state_after_history setting base history) event ≡ Ok reply
@@ -130,17 +130,17 @@ pub fn accepted_events_lead_where_all_lead()
         → state_after_history setting state (history_of setting state events) ≡ run setting state events }
 {}
 
-/// If no task lags, trying the sleepers changes nothing. So a poll may complete the transition without checking who
-/// sleeps.
+/// If all tasks are at the target, trying to switch the sleepers changes nothing. So a poll may complete the transition
+/// without checking which tasks sleep.
 pub fn where_none_lags_none_is_switched()
     ensures { (blocked : List AnyVersion) (target : Bool) (tasks : Tasks) → count_by (lags target) tasks ≡ 0
         → map (option_map (switched blocked target)) tasks ≡ tasks }
 {}
 
-/// When a cumulative patch has replaced the older ones, their entries are gone, and so are its nops. All other entries
-/// are as they were. If there were older patches, only the cumulative patch's functions are left, since it is the
-/// newest patch. If it is the oldest itself, because it was disabled and enabled again, there may be newer patches,
-/// which stay.
+/// When a cumulative patch has replaced the older patches, the entries of the older patches and its own nops are gone.
+/// All other entries are as they were. If there were older patches, only the cumulative patch's functions are left,
+/// since it is the newest patch. The cumulative patch may itself be the oldest, because it was disabled and enabled
+/// again. In this case there may be newer patches, which stay.
 pub fn a_replacement_takes_the_older_entries_along()
     ensures older { (setting : Setting) (state : State) (move : Transition) (site : ℕ) → Allowed setting state
         → state.moving ≡ Some move → replaces setting move.patch ≡ true
@@ -157,15 +157,15 @@ pub fn a_replacement_takes_the_older_entries_along()
         ≡ filter (λ (e : Entry). e.patch == move.patch && is_some e.func) (entries_of setting state site) }
 {}
 
-/// At most two of the installed patches are cumulative: the oldest, and one in transition. When the transition of a
-/// cumulative patch completes, all older patches leave the list.
+/// At most two of the installed patches are cumulative: the oldest patch, and the patch in transition. When the
+/// transition of a cumulative patch completes, all older patches are removed from the list.
 pub fn at_most_two_patches_replace()
     ensures { (setting : Setting) (state : State) → Allowed setting state
         → count_by (replaces setting) (installed_patches state) ≤ 2 }
 {}
 
-/// In every state that a manager reaches, an installed patch has a value for exactly the system states that it names in
-/// the catalog. So a value is missing only if the patch isn't installed or doesn't name the state.
+/// In every state that a manager reaches, an installed patch has a value for exactly the system states that the catalog
+/// says it names. So a value is missing only if the patch isn't installed or doesn't name the state.
 pub fn installed_patches_have_their_states()
     ensures opening { (setting : Setting) → IsStated setting (opening_state setting) }
     ensures step { (setting : Setting) (state : State) (event : AnyEvent) → IsStated setting state
@@ -175,15 +175,15 @@ pub fn installed_patches_have_their_states()
         (state_ids setting patch)) }
 {}
 
-/// A site has an entry exactly when its object is loaded and an installed patch has a function for it. A nop is never
-/// alone, because a cumulative patch puts it only over an older entry.
+/// A site has an entry exactly when its object is loaded and an installed patch has a function for the site. A nop is
+/// never the only entry of a site, because a cumulative patch puts a nop only on top of an older entry.
 pub fn entry_where_patched()
     ensures { (setting : Setting) (state : State) (site : ℕ)
         → is_hooked setting state site
         ≡ (is_site_loaded setting state site && list_any (patches_site setting site) (installed_patches state)) }
 {}
 
-/// A function of a loaded object reads as it was built, except for its entry site, whatever happened before.
+/// A function of a loaded object reads as it was built, except for its entry site, whatever events happened before.
 pub fn reads_as_built()
     ensures { (setting : Setting) (state : State) (object : ℕ) (number : ℕ)
         → is_loaded state object ≡ true
@@ -193,7 +193,7 @@ pub fn reads_as_built()
         (given_symbol setting.image object number) }
 {}
 
-/// A function without an entry reads as it was built, with the NOP at its entry site. So it runs as if there were
+/// A function without an entry reads as it was built, but with the NOP at its entry site. So it runs as if there were
 /// no patches.
 pub fn reads_nop_without_entry()
     ensures { (setting : Setting) (state : State) (object : ℕ) (number : ℕ)
@@ -203,8 +203,9 @@ pub fn reads_nop_without_entry()
         ≡ option_map resting (given_symbol setting.image object number) }
 {}
 
-/// The text depends only on which objects are loaded and which sites have functions of installed patches. It doesn't
-/// depend on the order of patches, the transition, pins or tasks. So a patch that has left changes no byte of it.
+/// The text depends only on which objects are loaded and for which sites installed patches have functions. The text
+/// doesn't depend on the order of patches, the transition, pins or tasks. So a patch that isn't installed any more
+/// changes no byte of the text.
 pub fn same_functions_same_text()
     ensures { (setting : Setting) (a : State) (b : State) (object : ℕ)
         → a.loaded ≡ b.loaded
@@ -213,8 +214,9 @@ pub fn same_functions_same_text()
         → text_of setting a object ≡ text_of setting b object }
 {}
 
-/// A run over two lists, one after the other, is the run over the first list, followed by the run over the second list
-/// from the state in which the first run ends. So runs may be cut anywhere.
+/// A run over two lists, one after the other, can be cut between the lists. Its first part is the run over the first
+/// list. Its second part is the run over the second list from the state in which the first part ends. So runs may be
+/// cut anywhere.
 pub fn runs_go_on_where_they_end()
     ensures state { (setting : Setting) (state : State) (first second : List AnyEvent)
         → run setting state (first ++ second) ≡ run setting (run setting state first) second }
@@ -223,8 +225,9 @@ pub fn runs_go_on_where_they_end()
         (run setting state first) second }
 {}
 
-/// The effect of a shadow event depends on whether its variable exists. If it does, `ShadowAlloc` is refused, and
-/// `ShadowGetOrAlloc` returns its value. If it doesn't, both need room to add it, and `ShadowFree` removes nothing.
+/// The effect of a shadow event depends on whether its variable exists. If the variable exists, `ShadowAlloc` is
+/// refused, and `ShadowGetOrAlloc` returns its value. If the variable doesn't exist, both events need room to add it,
+/// and `ShadowFree` removes nothing.
 pub fn shadow_events_go_by_what_is_there()
     ensures exists { (setting : Setting) (state : State) (key : ShadowKey) (value old : ShadowValue)
         → variable state.world key ≡ Some old → refusal setting state (ShadowAlloc key value) ≡ Some Exists }

@@ -1,5 +1,6 @@
-//! What is proved of a patch that is enabled and has left again. A function here does nothing: its contract is the law.
-//! The premises are in `specs/Company`; `round_trip_examples` shows what is lost if some of them don't hold.
+//! What is proved of a patch that was enabled and isn't installed any more. A function of this module does nothing: its
+//! contract is the law. The premises are in `specs/Company`. `round_trip_examples` shows what is lost if some of the
+//! premises don't hold.
 ghost use Rattle.std.specs.Prelude.{◌≡◌, ℕ, ◌<◌, false, List, [], ◌∷◌, ◌++◌, Some};
 ghost use Rattle.std.specs.List.{find};
 ghost use Rattle.klp_types.specs.declared.callback.Which.TheVariants.{Pre};
@@ -16,8 +17,8 @@ ghost use Rattle.klp_model.specs.Footprint.{SameFootprint};
 ghost use Rattle.klp_model.specs.Rounds.{enablings, kinds_for, repeated, RanInRounds, RanOneRound};
 ghost use Rattle.klp_model.specs.Company.{taking_part, company_keys, IsFairCompany};
 
-/// Whenever the patch isn't installed during a fair company, the footprint is that of the start. This holds at
-/// every moment, since the patch may be enabled and disabled many times.
+/// Whenever the patch isn't installed during a fair company, the footprint is that of the start. The law is about every
+/// moment, since the patch may be enabled and disabled many times.
 pub fn gone_without_a_trace()
     ensures { (setting : Setting) (patch : ℕ) (start : State) (first second : List AnyEvent)
         → IsFairCompany setting patch start (first ++ second)
@@ -25,9 +26,8 @@ pub fn gone_without_a_trace()
         → SameFootprint setting (company_keys setting start patch) (run setting start first) start }
 {}
 
-/// At every moment of a fair company, the shadow variables that the patch's callbacks don't touch are those of the
-/// start, changed only by the shadow events. No callback of another patch runs, since no other patch is enabled or
-/// disabled.
+/// At every moment of a fair company, the shadow variables that the patch's callbacks don't touch are as at the start,
+/// except for changes by shadow events. No callback of another patch runs, since no other patch is enabled or disabled.
 pub fn only_shadow_events_outside()
     ensures { (setting : Setting) (patch : ℕ) (start : State) (first second : List AnyEvent)
         → IsFairCompany setting patch start (first ++ second)
@@ -35,9 +35,9 @@ pub fn only_shadow_events_outside()
         → variable (run setting start first).world key ≡ variable (shadow_changes start.world first) key }
 {}
 
-/// Between two moments of a fair company at which the patch isn't installed, the callbacks of each object that takes
-/// part run in rounds, one for each enabling. A round is pre-patch, then post-patch and pre-unpatch any number of
-/// times, then post-unpatch. So a callback can rely on its partner having run.
+/// Consider two moments of a fair company at which the patch isn't installed. Between them, the callbacks of each
+/// object that takes part run in rounds, one round each time the patch is enabled. A round is pre-patch, then
+/// post-patch and pre-unpatch any number of times, then post-unpatch. So a callback can rely on its partner having run.
 pub fn callbacks_in_rounds()
     ensures { (setting : Setting) (patch : ℕ) (start : State) (first second third : List AnyEvent)
         → IsFairCompany setting patch start (first ++ second ++ third)
@@ -47,8 +47,9 @@ pub fn callbacks_in_rounds()
         (enablings second) }
 {}
 
-/// The case of `callbacks_in_rounds` with one enabling, which is the most frequent. Between two moments of a fair
-/// company at which the patch isn't installed, the callbacks of each object that takes part run in one round.
+/// The most frequent case of `callbacks_in_rounds`, in which the patch is enabled only once. Consider two moments of a
+/// fair company at which the patch isn't installed. Between them, the callbacks of each object that takes part run in
+/// one round.
 pub fn callbacks_of_one_round()
     ensures { (setting : Setting) (patch : ℕ) (start : State) (first second third : List AnyEvent)
         → IsFairCompany setting patch start (first ++ second ++ third)
@@ -58,8 +59,8 @@ pub fn callbacks_of_one_round()
         → RanOneRound (taking_part setting start patch) (callbacks_of_run setting (run setting start first) second) }
 {}
 
-/// If an object refuses, each enabling runs only the pre-patch callback of that object, and no callback of the objects
-/// after it. So a pre-patch that fails has to clean up after itself.
+/// If an object refuses, each attempt to enable the patch runs only the pre-patch callback of that object, and no
+/// callback of the objects after it. So a pre-patch callback that fails has to clean up after itself.
 pub fn callbacks_of_the_object_that_refuses()
     ensures refusing { (setting : Setting) (patch : ℕ) (start : State) (first second third : List AnyEvent)
         → IsFairCompany setting patch start (first ++ second ++ third)
@@ -74,7 +75,7 @@ pub fn callbacks_of_the_object_that_refuses()
 {}
 
 /// If the patch isn't installed at the end of a fair company, the footprint is that of the start. A function that makes
-/// a list of events promises this if all of them are accepted.
+/// a list of events promises this law if all events are accepted.
 pub fn gone_at_the_end()
     ensures { (setting : Setting) (patch : ℕ) (start : State) (events : List AnyEvent)
         → IsFairCompany setting patch start events
@@ -82,9 +83,9 @@ pub fn gone_at_the_end()
         → SameFootprint setting (company_keys setting start patch) (run setting start events) start }
 {}
 
-/// What a run of any events promises at its end, if its accepted events are a fair company of a patch. If the patch
-/// isn't installed then, the footprint is that of the start. The shadow variables that the patch's callbacks don't
-/// touch are changed only by shadow events.
+/// If the accepted events of a run are a fair company of a patch, the run promises two things at its end. If the patch
+/// isn't installed, the footprint is that of the start. The shadow variables that the patch's callbacks don't touch are
+/// changed only by shadow events.
 pub fn at_the_end_of_a_run()
     ensures footprint { (setting : Setting) (patch : ℕ) (start : State) (events : List AnyEvent)
         → IsFairCompany setting patch start (accepted_events setting start events)
@@ -97,9 +98,9 @@ pub fn at_the_end_of_a_run()
         (accepted_events setting start events)) key }
 {}
 
-/// Whenever the patch isn't installed during a fair company, the world is as if the patch had never been there: the
-/// world of the start, changed by the shadow events. This says more than the footprint, since shadow events may happen
-/// during the company.
+/// Whenever the patch isn't installed during a fair company, the world is as if the patch had never been installed: the
+/// world of the start, changed by the shadow events. This law says more than a law of the footprint, since shadow
+/// events may happen during the company.
 pub fn as_if_it_had_never_been()
     ensures { (setting : Setting) (patch : ℕ) (start : State) (first second : List AnyEvent)
         → IsFairCompany setting patch start (first ++ second)

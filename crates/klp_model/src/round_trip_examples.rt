@@ -1,6 +1,6 @@
-//! Worked examples. Some show that fair companies exist, so that the laws aren't empty. Others show what is lost if a
-//! premise doesn't hold. A function here does nothing: its contract is the example, and it is proved by computing the
-//! definition.
+//! Worked examples. Some show that fair companies exist, so that the laws don't hold only for lack of one. Other
+//! examples show what is lost if a premise doesn't hold. A function of this module does nothing. The function's
+//! contract is the example, which is proved by computing the definition.
 ghost use Rattle.std.specs.Prelude.{◌≡◌, pos, true, false, [], ◌∷◌, find, is_some, Some, None};
 ghost use Rattle.klp_types.specs.declared.callback.Which.TheVariants.{Pre, Post, PreUn, PostUn};
 ghost use Rattle.klp_types.specs.World.{variable};
@@ -20,18 +20,19 @@ ghost use Rattle.klp_model.specs.RoundTripExamples.{key_of, value_of, adding, ba
 ghost use Rattle.klp_model.specs.RoundTripExamples.{own_variable_first, refusing_behind, both_loaded, sharing};
 ghost use Rattle.klp_model.specs.RoundTripExamples.{with_five, there_and_back, freeing};
 
-/// A fair company with every stage: a cumulative patch is enabled, blocked by a sleeper, reversed twice, completed,
-/// disabled, polled until it completes, and gone. Meanwhile a variable is added that the patch doesn't touch. So the
-/// laws cover all these stages.
+/// A fair company with every stage. A cumulative patch is enabled, blocked by a sleeper, reversed twice, completed,
+/// disabled, and polled until it isn't installed any more. Meanwhile a variable is added that the patch doesn't touch.
+/// So the laws cover all these stages.
 pub fn a_fair_company_goes_through_every_stage()
     ensures allowed { Allowed adding with_a_sleeper }
     ensures fair { IsFairCompany adding 0 with_a_sleeper every_stage }
     ensures gone { is_installed (run adding with_a_sleeper every_stage) 0 ≡ false }
 {}
 
-/// A variable that the patch's callbacks touch exists before the patch is enabled. Pre-patch leaves it as it is, and
-/// post-unpatch removes it, so it is lost. This company isn't fair for two reasons: the event that adds the variable
-/// concerns a variable of the patch's callbacks, and after that event the callbacks don't undo each other.
+/// A variable that the patch's callbacks touch exists before the patch is enabled. Pre-patch leaves the variable as it
+/// is, and post-unpatch removes it, so the variable is lost. This company isn't fair, for two reasons. The event that
+/// adds the variable concerns a variable of the patch's callbacks. After that event the callbacks don't undo each
+/// other.
 pub fn a_variable_that_was_there_is_lost()
     ensures gone { is_installed (run adding bare own_variable_first) 0 ≡ false }
     ensures lost { variable (run adding bare own_variable_first).world (key_of 1 9) ≡ None }
@@ -42,9 +43,9 @@ pub fn a_variable_that_was_there_is_lost()
         (taking_part adding bare 0) → ⊥ }
 {}
 
-/// Two objects whose callbacks share a variable. The callbacks of each object undo each other, and yet the variable is
-/// changed when the patch is gone. The reason is that objects are cleaned up in the order in which they were set up,
-/// not in reverse.
+/// Two objects whose callbacks share a variable. The callbacks of each object undo each other. Still the variable has
+/// another value when the patch isn't installed any more. The reason is that objects are cleaned up in the order in
+/// which they were set up, not in reverse.
 pub fn objects_that_share_a_variable_leave_a_trace()
     ensures undone { EachUndoes 0 with_five.world (taking_part sharing with_five 0) }
     ensures before { variable with_five.world (key_of 1 1) ≡ Some (value_of 5) }
@@ -52,8 +53,8 @@ pub fn objects_that_share_a_variable_leave_a_trace()
     ensures after { variable (run sharing with_five there_and_back).world (key_of 1 1) ≡ Some (value_of 9) }
 {}
 
-/// A patch whose second object refuses is gone at once, and its enabling is a fair company. The first object takes
-/// part, since it was set up and cleaned up; the second one refuses.
+/// A patch whose second object refuses is removed at once. The company that only enables this patch is fair. The first
+/// object takes part, since it was set up and cleaned up. The second object refuses.
 pub fn a_refused_patch_is_a_fair_company()
     ensures fair { IsFairCompany refusing_behind 0 both_loaded (Enable 0 ∷ []) }
     ensures refuses { is_some (find refuses (loaded_objects refusing_behind both_loaded 0)) ≡ true }
@@ -69,8 +70,8 @@ pub fn variables_of_each_callback_count()
     ensures another { object_touches (key_of 2 9) (0, freeing Pre) ≡ false }
 {}
 
-/// What a footprint shows: the loaded modules, the installed patches in their order with the values of their states,
-/// the pinned patches, and the values of the variables.
+/// A footprint shows the loaded modules, the installed patches in their order with the values of their states, the
+/// pinned patches, and the values of the variables.
 pub fn a_footprint_shows_each_trace()
     ensures module { SameFootprint small_kernel (λ key. false) (state_with true [] None []) (state_with false [] None []) → ⊥ }
     ensures order { SameFootprint small_kernel (λ key. false) (state_with true (0 ∷ 2 ∷ []) None [])
@@ -83,8 +84,8 @@ pub fn a_footprint_shows_each_trace()
         (with_world bare (shadow_changed bare.world (ShadowAlloc (key_of 1 9) (value_of 77)))) bare → ⊥ }
 {}
 
-/// What isn't fair to a patch: events of other patches and of modules, a force, a change of a variable of its
-/// callbacks, an event that is refused, and a replacement of older patches. It isn't fair either if there is a
+/// What makes a company of a patch unfair: an event of another patch or of a module, a force, a change of a variable of
+/// the patch's callbacks, a refused event, or a replacement of older patches. A company is also unfair if there is a
 /// transition at the start, or if the patch is installed at the start.
 pub fn these_companies_are_unfair()
     ensures another { IsOfCompany 0 (λ key. false) (Enable 1) → ⊥ }

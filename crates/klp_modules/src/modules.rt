@@ -20,14 +20,14 @@ use std::mem::replace;
 
 /// The names of all objects and symbols, loaded or not, and which objects are loaded.
 ///
-/// Each name is stored once, in a table that a look-up searches. The look-up then walks over the objects, of which
-/// there are few, or over the symbols of that name. Only `new` takes memory.
+/// Each name is stored once, in a table. A look-up first searches this table. Then it walks over the few objects, or
+/// over the symbols that have the name. Only `new` takes memory.
 #[derive(Drop)]
 pub struct Modules {
     /// Every name of an object or a symbol. A name's index in this set is its number.
     names: IndexSet<String>,
     objects: Vec<NumberedObject>,
-    /// By object, whether it is loaded.
+    /// By object, whether the object is loaded.
     loaded: Vec<bool>,
     tables: Tables,
 }
@@ -48,8 +48,8 @@ impl Model for Modules {
 }
 
 impl Modules {
-    /// Makes the names of an image, and all tables. Only object 0 is loaded then. The call compares each symbol with
-    /// those before it in its object. Returns `Err` if memory is refused.
+    /// Makes the names of an image, and all tables. At first only object 0 is loaded. Each symbol is compared with the
+    /// symbols before it in its object. Returns `Err` if memory is refused.
     pub fn new(alloc: Global, image: &Image) -> Result<Modules, AllocError>
         ensures { IfOk result (λ modules. modules ≡ opening image.now.image.objects) }
     {
@@ -65,8 +65,8 @@ impl Modules {
         })
     }
 
-    /// Returns the number of the object with this name, or of the first such object if there are several. Returns
-    /// `None` if there is none. The cost is one look-up, and a walk over the objects, of which there are few.
+    /// Returns the number of the object with this name. If several objects have the name, returns the first. Returns
+    /// `None` if there is no such object. The cost is one look-up, and a walk over the few objects.
     pub fn object(&self, name: &str) -> Option<ObjId>
         ensures { result ≡ object_named self.now.names name.now }
     {
@@ -105,7 +105,7 @@ impl Modules {
             .unwrap_or(false)
     }
 
-    /// Marks an object as loaded or not, and returns the undo record, which says whether it was loaded before.
+    /// Sets an object's loaded flag, and returns the undo record, which has the old flag.
     pub fn set_loaded(&mut self, object: ObjId, loaded: bool) -> Record
         requires { object < length self.old.loaded }
         ensures flag { self.new ≡ record self.old { loaded = slice_set self.old.loaded object loaded } }
@@ -116,8 +116,8 @@ impl Modules {
         Record::LoadedFlag { object, was }
     }
 
-    /// Restores the loaded flag that the record names. Nothing changes if the record is of another kind, or if its
-    /// object doesn't exist.
+    /// Restores the loaded flag that the record names. Does nothing if the record is of another kind, or if its object
+    /// doesn't exist.
     pub fn put_back(&mut self, row: Record)
         ensures { self.new ≡ put_back self.old row }
     {
@@ -129,8 +129,9 @@ impl Modules {
     }
 
     /// Returns the site of the symbol that a name and a position pick in an object, loaded or not. Position 0 picks the
-    /// only symbol of that name, and n the n-th in the object's order (livepatch, Metadata). If no symbol is picked,
-    /// returns the reason as `Err`: `Missing` if there is no such object.
+    /// only symbol of that name, and position n picks the n-th symbol of that name in the object's order (livepatch,
+    /// Metadata). If no symbol is picked, returns the reason as `Err`. If there is no such object, the reason is
+    /// `Missing`.
     ///
     /// The cost is one look-up, and a walk over the symbols of that name.
     pub fn resolve(&self, object: ObjId, name: &str, position: u32) -> Result<Site, SymbolFault>
@@ -146,8 +147,8 @@ impl Modules {
     }
 
     /// Returns the symbol of a site: its object, its name, and its position, from 1, among the symbols of that name in
-    /// the object. Returns `None` if there is no such site. It needs no look-up by name: a table has each site's
-    /// symbol.
+    /// the object. Returns `None` if there is no such site. A table has the symbol of each site, so no name is looked
+    /// up.
     pub fn symbol(&self, site: Site) -> Option<(ObjId, &str, u32)>
         ensures object { option_map (λ found. found.0) result
             ≡ option_map (λ (s : Named). s.object) (symbol_at_site self.now.names site) }
@@ -173,14 +174,14 @@ fn text(names: &IndexSet<String>, number: usize) -> &str
     names.as_slice()[number].as_str()
 }
 
-/// Returns the index of the first object whose name has this number. Returns `None` if there is none.
+/// Returns the index of the first object whose name has this number. Returns `None` if there is no such object.
 fn place_of(objects: &[NumberedObject], name: usize) -> Option<usize>
     ensures { result ≡ position (λ (object : NumberedObjectValue). object.name == name) objects.now }
 {
     objects.iter().position(|object| object.name == name)
 }
 
-/// Returns how many names an image has: one for each object and each symbol. Several may be equal.
+/// Returns how many names an image has: one for each object and each symbol. Equal names are counted separately.
 fn name_count(image: &Image) -> usize
     ensures { result ≡ length image.now.image.objects + length (symbols_of image.now.image.objects) }
 {
@@ -191,7 +192,8 @@ fn name_count(image: &Image) -> usize
     count
 }
 
-/// Returns the set of all names of an image, and the image's objects with numbers in that set in place of names.
+/// Returns the set of all names of an image, and the image's objects. In the objects, each name is replaced by its
+/// number in the set.
 fn numbered_objects(
     alloc: Global,
     image: &Image,

@@ -13,12 +13,12 @@ pub struct NamedSite {
     pub site: Site,
 }
 
-/// The symbols that have the same name, of all objects in order. Only a second symbol takes memory, and few names have
-/// one.
+/// The symbols that have the same name, of all objects in order. The list takes memory only if a name has at least two
+/// symbols, which few names have.
 pub type NamedSites = SmallVec<NamedSite, 1>;
 
-/// Returns the site of the object's symbol with this number, counted from 0 over the object's symbols in the list.
-/// Returns `None` if the object has fewer.
+/// Returns the site of one of the object's symbols in the list. `number` counts the object's symbols in the list, from
+/// 0. Returns `None` if the list has no such symbol.
 fn site_of(sites: &[NamedSite], object: ObjId, number: usize) -> Option<Site>
     ensures { result ≡ slice_get (sites_of object sites.now) number }
 {
@@ -34,7 +34,7 @@ fn site_of(sites: &[NamedSite], object: ObjId, number: usize) -> Option<Site>
     None
 }
 
-/// Picks one of the object's symbols by its position: 0 picks the only symbol, and n the n-th.
+/// Picks one of the object's symbols by its position. Position 0 picks the only symbol, and position n picks the n-th.
 pub fn pick(sites: &[NamedSite], object: ObjId, position: u32) -> Result<Site, SymbolFault>
     ensures { result ≡ picked (sites_of object sites.now) position }
 {

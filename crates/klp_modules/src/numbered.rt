@@ -1,7 +1,7 @@
 use klp_types::ObjId;
 
-/// An object with the numbers of its name and of its symbols' names, in order. The tables use these numbers, so
-/// that they needn't compare or hash texts.
+/// An object with the numbers of its name and of its symbols' names, in order. The tables use these numbers, so texts
+/// needn't be compared or hashed.
 #[derive(Drop)]
 pub struct NumberedObject {
     pub name: usize,

@@ -39,7 +39,7 @@ impl Tables {
     }
 }
 
-/// Makes `names` empty lists, one for each name.
+/// Makes `names` empty lists: one for each name.
 fn without_sites(alloc: Global, names: usize) -> Result<Vec<NamedSites>, AllocError>
     ensures count { IfOk result (λ sites. length sites.items ≡ names) }
     ensures sites { IfOk result (λ sites. HasSites [] sites.items) }
@@ -51,8 +51,8 @@ fn without_sites(alloc: Global, names: usize) -> Result<Vec<NamedSites>, AllocEr
     Ok(sites)
 }
 
-/// Makes `names` lists, one for each name. A list has the symbols of its name, of all objects in order. Each symbol's
-/// name must be a number below `names`.
+/// Makes `names` lists: one for each name. The list of a name has the symbols with that name, of all objects in order.
+/// The number of each symbol's name must be below `names`.
 fn sites_by_name(
     alloc: Global,
     names: usize,
@@ -85,7 +85,7 @@ fn symbol_count(objects: &[NumberedObject]) -> usize
     count
 }
 
-/// Makes a table with the symbol of each site. It is needed because an administrator names a site by its symbol.
+/// Makes a table with the symbol of each site. The table is needed because an administrator names a site by its symbol.
 fn symbols_by_site(
     alloc: Global,
     objects: &[NumberedObject],
@@ -101,8 +101,8 @@ fn symbols_by_site(
     Ok(table)
 }
 
-/// Adds the symbols of an object to the table. Each symbol's position is counted over the symbols before it, which
-/// is quadratic, but done only once.
+/// Adds the symbols of an object to the table. The position of each symbol is counted over the symbols before it. This
+/// takes quadratic time, but is done only once.
 fn add_symbols(
     table: &mut Vec<NumberedSymbol>,
     object: ObjId,
@@ -122,8 +122,8 @@ fn add_symbols(
     Ok(())
 }
 
-/// Returns how many of the symbols have the name with this number. If the last of the symbols has it, this is the last
-/// symbol's position, from 1.
+/// Returns how many of the symbols have the name with this number. If the last symbol has this name, the result is the
+/// position of the last symbol, from 1.
 fn count(symbols: &[usize], number: usize) -> usize
     ensures { result ≡ count_by (λ other. other == number) symbols.now }
 {

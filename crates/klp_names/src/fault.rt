@@ -6,8 +6,8 @@ use std::alloc::{AllocError, AllocFailed};
 use std::{error, fmt};
 use thiserror::Error;
 
-/// What is wrong with a line of a text of names. If a line has several faults, the first of these is reported.
-/// `NoMemory` may be reported in place of any of them.
+/// What is wrong with a line of a text of names. If a line has several faults, the first in this order is reported.
+/// `NoMemory` may be reported in place of any other fault.
 #[derive(Clone, Copy, Debug, PartialEq, Eq)]
 pub enum NamesFaultKind {
     /// The line begins neither with `task` nor with `line`.
@@ -16,15 +16,15 @@ pub enum NamesFaultKind {
     BadTask,
     /// A name is empty, has more than 64 bytes, or has a control character.
     BadName,
-    /// A line's number isn't a number from 1 on.
+    /// A line's number isn't a positive number.
     BadLine,
     /// A time isn't seconds with up to six decimals.
     BadTime,
     /// The line names a task that has a name already.
     NamedTwice,
-    /// A line gets a time although this line or a later one already has a time.
+    /// A line gets a time, but this line or a later line already has a time.
     LineFalls,
-    /// A line's time is earlier than that of the line before which has a time.
+    /// A line's time is earlier than the time of an earlier line.
     TimeFalls,
     NoMemory,
 }

@@ -1,4 +1,4 @@
-//! The message for people on a faulty line of a text of names.
+//! The message for people about a faulty line of a text of names.
 
 use crate::fault::{NamesFault, NamesFaultKind};
 use klp_words::cut;
@@ -7,8 +7,8 @@ use std::fmt;
 /// How many bytes of a faulty word a message shows at most.
 const SHOWN: usize = 64;
 
-/// A fault of a file of names, for people: printed as `FILE: line 3: BadTask: '64': wanted is a task's number, 0 to
-/// 63`. It has no contract.
+/// A fault of a file of names, for people. It is printed as `FILE: line 3: BadTask: '64': wanted is a task's number, 0
+/// to 63`. It has no contract.
 #[derive(Clone, Copy)]
 pub struct Misread<'a> {
     /// The name of the file.
@@ -57,8 +57,7 @@ fn shown(word: &[u8]) -> &[u8] {
     word.get(..SHOWN).unwrap_or(word)
 }
 
-/// Writes text, with an escape for each character that controls a terminal or isn't printable, and for bytes that
-/// aren't UTF-8.
+/// Writes text. Characters that control a terminal or aren't printable are escaped, and so are bytes that aren't UTF-8.
 fn write_escaped<W: fmt::Write>(f: &mut fmt::Formatter<W>, word: &[u8]) -> fmt::Result {
     for chunk in word.utf8_chunks() {
         for c in chunk.valid().chars() {

@@ -31,7 +31,7 @@ impl Named {
         })
     }
 
-    /// Whether this is the name of `task`.
+    /// Whether `task` is the task that has this name.
     pub(crate) fn is_of(&self, task: TaskId) -> bool
         ensures { result ≡ (self.now.task == task) }
     {

@@ -10,8 +10,8 @@ use klp_types::TaskId;
 use std::alloc::Global;
 use std::marker::Model;
 
-/// What an observer knows of a run in addition to its lines: the names of tasks, and the times of lines. It may be
-/// empty.
+/// Facts that an observer knows of a run in addition to its lines: the names of tasks, and the times of lines. The
+/// value may be empty.
 #[derive(Drop)]
 pub struct Names {
     named: Vec<Named>,
@@ -29,7 +29,7 @@ impl Model for Names {
 }
 
 impl Names {
-    /// Returns an empty value: no task has a name, and no line has a time. Takes no memory.
+    /// Returns an empty value: no task has a name, and no line has a time. The call takes no memory.
     pub fn new(alloc: Global) -> Names
         ensures { result ≡ nothing_known }
     {
@@ -39,7 +39,7 @@ impl Names {
         }
     }
 
-    /// Returns the name of a task. Returns `None` if it isn't known.
+    /// Returns the name of a task. Returns `None` if the name isn't known.
     pub fn name(&self, task: TaskId) -> Option<&[u8]>
         ensures { option_map (λ name. name.now) result ≡ name_of self.now.named task }
     {
@@ -51,7 +51,7 @@ impl Names {
         None
     }
 
-    /// Returns the time of a line in microseconds, by a binary search. Returns `None` if it isn't known.
+    /// Returns the time of a line in microseconds, by a binary search. Returns `None` if the time isn't known.
     pub fn time(&self, line: u64) -> Option<u64>
         ensures { result ≡ time_of self.now.timed line }
     {
@@ -61,8 +61,8 @@ impl Names {
         }
     }
 
-    /// Returns the index of this line's time. If the line has no time, returns as `Err` the index at which one would
-    /// have to be inserted.
+    /// Returns the index of this line's time. If the line has no time, returns as `Err` the index at which its time
+    /// would have to be inserted.
     fn place_of(&self, line: u64) -> Result<usize, usize>
         ensures found { IfOk result (IsAt self.now.timed line) }
         ensures absent { IfErr result (IsGapFor self.now.timed line) }
@@ -70,8 +70,8 @@ impl Names {
         self.timed.binary_search_by_key(&line, |timed| timed.line)
     }
 
-    /// Returns how long something lasted, in microseconds. It was so after each line from `from` to `to`, and ended
-    /// with the line after `to`. Returns `None` if it hasn't ended, or if a time isn't known.
+    /// Returns for how many microseconds a condition lasted. The condition held after each line from `from` to `to`,
+    /// and ended with the line after `to`. Returns `None` if the condition hasn't ended, or if a time isn't known.
     pub fn lasted(&self, from: u64, to: Option<u64>) -> Option<u64>
         ensures { result ≡ lasted self.now.timed from to }
     {
@@ -91,7 +91,7 @@ impl Names {
         Some(at.saturating_sub(first.at))
     }
 
-    /// Whether the time of any line is known.
+    /// Whether the time of at least one line is known.
     pub fn has_times(&self) -> bool
         ensures { result ≡ is_some (start_of self.now.timed) }
     {
@@ -110,8 +110,8 @@ impl Names {
         Ok(())
     }
 
-    /// Adds the time of a line, in microseconds. The line must come after the last line with a time, and the time
-    /// mustn't be earlier than that line's. Otherwise, or if memory runs out, returns `Err` and adds nothing.
+    /// Adds the time of a line, in microseconds. The line must come after all lines that have a time. Its time mustn't
+    /// be earlier than any of their times. Otherwise, or if memory runs out, returns `Err` and adds nothing.
     pub(crate) fn add_time(&mut self, line: u64, at: u64) -> Result<(), NamesFaultKind>
         ensures { IsOutcome self.old (with_time self.old line at) self.new result }
     {

@@ -29,7 +29,7 @@ pub(crate) fn is_task_name(word: &[u8]) -> bool
     !word.is_empty() && word.len() <= MAX_TASK_NAME && !has_control(word)
 }
 
-/// Reads the number of a task. Returns `None` if it isn't a number from 0 to 63.
+/// Reads the number of a task. Returns `None` if the word isn't a number from 0 to 63.
 pub(crate) fn task_of(word: &[u8]) -> Option<TaskId>
     ensures { result ≡ task_of word.now }
 {
@@ -41,7 +41,7 @@ pub(crate) fn task_of(word: &[u8]) -> Option<TaskId>
     }
 }
 
-/// Reads the number of a line. Returns `None` if it isn't a number from 1 on.
+/// Reads the number of a line. Returns `None` if the word isn't a positive number.
 pub(crate) fn line_of(word: &[u8]) -> Option<u64>
     ensures { result ≡ line_of word.now }
 {
@@ -50,7 +50,7 @@ pub(crate) fn line_of(word: &[u8]) -> Option<u64>
 }
 
 impl Names {
-    /// Adds the name of a task. `rest` is what follows `task ` in the file: `NUMBER NAME`.
+    /// Adds the name of a task. In the file, `rest` follows `task `. It has the form `NUMBER NAME`.
     fn add_named(&mut self, rest: &[u8]) -> Result<(), NamesFaultKind>
         ensures { IsOutcome self.old (with_named self.old rest.now) self.new result }
     {
@@ -64,7 +64,7 @@ impl Names {
         self.add_name(task, name)
     }
 
-    /// Adds the time of a line. `rest` is what follows `line ` in the file: `NUMBER SECONDS`.
+    /// Adds the time of a line. In the file, `rest` follows `line `. It has the form `NUMBER SECONDS`.
     fn add_timed(&mut self, rest: &[u8]) -> Result<(), NamesFaultKind>
         ensures { IsOutcome self.old (with_timed self.old rest.now) self.new result }
     {
@@ -78,7 +78,7 @@ impl Names {
         self.add_time(line, at)
     }
 
-    /// Adds what one line of the file says.
+    /// Adds the name or the time that one line of the file has.
     fn add_line(&mut self, line: &[u8]) -> Result<(), NamesFaultKind>
         ensures { IsOutcome self.old (with_line self.old line.now) self.new result }
     {
@@ -92,8 +92,8 @@ impl Names {
         }
     }
 
-    /// Reads the text of a file of names, in time linear in its length. If a line is faulty or memory runs out, returns
-    /// `Err` with the first such line.
+    /// Reads the text of a file of names, in time linear in its length. If a line is faulty or memory runs out at a
+    /// line, returns `Err` with the first such line.
     pub fn read(alloc: Global, text: &[u8]) -> Result<Names, NamesFault>
         ensures names { IfOk result (λ names. names_of text.now ≡ Ok names) }
         ensures fault { IfErr result (λ fault. IsFaultOf text.now fault.line fault.kind) }

@@ -15,14 +15,15 @@ use klp_sites::Sites;
 use klp_tasks::VersionSet;
 use klp_types::{MAX_SITES, Site, Transition};
 
-/// Adds to the set the version that the transition blocks at one site, if there is one.
+/// Adds the version that the transition blocks at one site to the set. Does nothing if it blocks no version there.
 fn block_at(sites: &Sites, site: Site, moving: &Transition, blocked: &mut VersionSet)
     requires number { AreFunctions (entries_at sites.now.stacks site) }
     requires sites { length sites.now.stacks ≤ MAX_SITES }
     ensures { (versions : List AnyVersion) → IsSetOf blocked.old versions
         → IsSetOf blocked.new (versions ++ blocked_among site moving.now (entries_at sites.now.stacks site)) }
 {
-    // A site without an entry of the patch blocks no task: what tasks run there doesn't change with the transition.
+    // If the patch has no entry at a site, the transition doesn't change what tasks run there. So such a site blocks no
+    // task.
     let stacks = sites.stacks();
     if stacks.entry(site, moving.patch).is_none() {
         return;
@@ -32,8 +33,8 @@ fn block_at(sites: &Sites, site: Site, moving: &Transition, blocked: &mut Versio
     }
 }
 
-/// Adds to the empty set the versions that the transition of a cumulative patch blocks. Goes over all sites that have
-/// entries, because such a patch also has nops at sites where it has no function.
+/// Adds the versions that the transition of a cumulative patch blocks to the empty set. Goes over all sites that have
+/// entries, because a cumulative patch also has nops at sites for which it has no function.
 fn block_all(sites: &Sites, moving: &Transition, blocked: &mut VersionSet)
     requires empty { IsSetOf blocked.old [] }
     requires number { (site : ℕ) → AreFunctions (entries_at sites.now.stacks site) }
@@ -47,8 +48,8 @@ fn block_all(sites: &Sites, moving: &Transition, blocked: &mut VersionSet)
     }
 }
 
-/// Adds to the empty set the versions that the transition of a patch blocks, if the patch isn't cumulative. Goes over
-/// the sites of the patch's functions alone, because the patch has no entry elsewhere.
+/// Adds the versions that the transition of a patch that isn't cumulative blocks to the empty set. Goes only over the
+/// sites of the patch's functions, because the patch has no other entries.
 fn block_functions(sites: &Sites, catalog: &Catalog, moving: &Transition, blocked: &mut VersionSet)
     requires empty { IsSetOf blocked.old [] }
     requires number { (site : ℕ) → AreFunctions (entries_at sites.now.stacks site) }
@@ -65,17 +66,17 @@ fn block_functions(sites: &Sites, catalog: &Catalog, moving: &Transition, blocke
     }
 }
 
-/// Fills the set with the versions that block sleepers: a task inside of one of them can't switch to the target of the
-/// transition. Drops what the set had before. One set is used for all tasks of a try; the kernel instead goes over the
-/// patch's functions for each frame (`klp_check_stack`).
+/// Replaces the content of the set by the versions that block sleepers. A task inside of a blocked version can't switch
+/// to the target of the transition. When a transition is tried, one set is used for all tasks. The kernel instead goes
+/// over the patch's functions for each frame (`klp_check_stack`).
 ///
-/// The cost grows with the number of the patch's functions, or for a cumulative patch with the number of sites that
-/// have entries.
+/// For a patch that isn't cumulative, the cost grows with the number of its functions. For a cumulative patch, it grows
+/// with the number of sites that have entries.
 pub fn block(sites: &Sites, catalog: &Catalog, moving: Transition, blocked: &mut VersionSet)
     requires number { (site : ℕ) → AreFunctions (entries_at sites.now.stacks site) }
     requires sites { length sites.now.stacks ≤ MAX_SITES }
     requires names { catalog.now.names ≡ names_of sites.now.image.objects }
-    // only a cumulative patch has entries at sites where it has no function
+    // only a cumulative patch has entries at sites for which it has no function
     requires own { (site : ℕ) → MayHaveEntry catalog.now moving.patch sites.now.stacks site }
     ensures { IsSetOf blocked.new (blocked_at 0 moving sites.now.stacks) }
 {

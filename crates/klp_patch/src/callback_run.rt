@@ -1,4 +1,4 @@
-//! Running one callback. Callbacks are run here and nowhere else, so that the facts about a run are proved once.
+//! Running one callback. All callbacks are run by this module, so that the facts about a run are proved once.
 ghost use Rattle.std.specs.Prelude.{◌≡◌};
 ghost use Rattle.klp_model.specs.Callbacks.{status_of};
 ghost use Rattle.klp_catalog.specs.Runs.{script_at};
@@ -10,9 +10,9 @@ use klp_journal::Records;
 use klp_types::{PatchId, Which};
 use klp_world::World;
 
-/// Runs a patch's callback of this kind for the object at this place (its number among the patch's objects). Returns
-/// the callback's status, or 0 if the patch has no such callback. Calls the laws that every run needs, so that no loop
-/// over callbacks has to call them.
+/// Runs a patch's callback of this kind for one of its objects. `place` is the object's index in the patch. Returns the
+/// callback's status, or 0 if the patch has no such callback. The function calls the laws that every run needs, so that
+/// no loop over callbacks has to call them.
 pub(crate) fn run_at(
     catalog: &mut Catalog,
     patch: PatchId,

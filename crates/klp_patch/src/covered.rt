@@ -10,7 +10,7 @@ use klp_sites::Sites;
 use klp_text::Image;
 use klp_types::{ObjId, Site};
 
-/// Whether a change covers this object. If `only` is an object, the change covers just that object, loaded or not. If
+/// Whether a change covers this object. If `only` is an object, the change covers only that object, loaded or not. If
 /// `only` is `None`, the change covers each loaded object.
 pub(crate) fn is_in_scope(image: &Image, only: Option<ObjId>, object: ObjId) -> bool
     ensures { result ≡ covered.is_in_scope only image.now.loaded object }
@@ -21,9 +21,9 @@ pub(crate) fn is_in_scope(image: &Image, only: Option<ObjId>, object: ObjId) -> 
     }
 }
 
-/// Returns the function's site if the change covers the function's object. `in_scope` says whether it does; the caller
-/// passes this, so that it is computed once for each object. Returns `None` if the object isn't covered, or if the
-/// function has no site.
+/// Returns the function's site if the change covers the function's object. `in_scope` says whether the change covers
+/// this object. It is a parameter so that it is computed once for each object. Returns `None` if the object isn't
+/// covered, or if the function has no site.
 #[inline(always)]
 pub(crate) fn site_in_scope(
     sites: &Sites,
@@ -37,14 +37,14 @@ pub(crate) fn site_in_scope(
         → is_at result site ≡ (covered.is_covered sites.now only.now site && is_at function.now.site site) }
     ensures there { IfSome result (λ site. site < length sites.now.stacks) }
 {
-    // called for its contract: each site of the image has a stack
+    // called for its contract, which says that each site of the image has a stack
     let _image = sites.image();
     if in_scope { function.site() } else { None }
 }
 
-/// Whether a change covers a site. If `only` is an object, the site must lie in that object. If `only` is `None`, the
-/// site must lie in a loaded object. The cost grows with the number of objects before the site's own, since objects are
-/// searched in order.
+/// Whether a change covers a site. If `only` is an object, the site must be in that object. If `only` is `None`, the
+/// site must be in a loaded object. Objects are searched in order, so the cost grows with the number of objects before
+/// the site's own.
 pub(crate) fn covers(sites: &Sites, only: &Option<ObjId>, site: Site) -> bool
     ensures { result ≡ covered.is_covered sites.now only.now site }
 {

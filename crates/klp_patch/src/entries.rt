@@ -1,5 +1,6 @@
-//! The entries that a patch has on many sites: one for each of its functions and, if it is cumulative, its nops. They
-//! are put on function stacks, or taken out. `site_entry` changes the stack of one site.
+//! The entries that a patch has on many sites: one for each of its functions and, if it is cumulative, its nops.
+//! Functions of this module put these entries on function stacks and take them out. `site_entry` changes the stack of
+//! one site.
 ghost use Rattle.std.specs.Prelude.{◌≡◌, ℕ, ◌+◌, ◌<◌, ◌≤◌, ◌&&◌, ◌++◌, true, false, length, map, is_some};
 ghost use Rattle.std.specs.List.{All};
 ghost use Rattle.klp_types.specs.Setting.{function_for};
@@ -23,8 +24,8 @@ use klp_sites::Sites;
 use klp_types::{Entry, MAX_FUNCTIONS, MAX_PATCHES, MAX_SITES, ObjId, PatchId};
 
 /// Puts the functions of a patch on top of the stacks of their sites, for the objects that the change covers. No two
-/// functions share a site, so each stack gets at most one entry. Whether an object is covered is computed once for each
-/// object.
+/// functions of the patch have the same site, so each stack gets at most one entry. Whether an object is covered is
+/// computed once for each object.
 fn put_functions(
     sites: &mut Sites,
     functions: &[CatalogFunction],
@@ -64,8 +65,8 @@ fn put_functions(
     }
 }
 
-/// Puts a nop of a patch on each covered site that has entries but none of the patch. So calls there run the original,
-/// and not the functions of older patches. The patch's own functions must be on their stacks already.
+/// Puts a nop of a patch on each covered site that has entries but no entry of the patch. So calls at these sites run
+/// the original, and not the functions of older patches. The patch's own functions must be on their stacks already.
 fn put_nops(sites: &mut Sites, patch: PatchId, only: &Option<ObjId>, log: &mut Records)
     requires number { patch < MAX_PATCHES }
     requires sites { length sites.old.stacks ≤ MAX_SITES }
@@ -139,12 +140,12 @@ fn take_all(sites: &mut Sites, patch: PatchId, only: &Option<ObjId>, log: &mut R
     }
 }
 
-/// Puts a patch's entries on top of the stacks of its sites. If `only` is an object, these are that object's sites; if
-/// it is `None`, those of all loaded objects. A cumulative patch also gets a nop on each other covered site that has
-/// entries (the kernel's `klp_add_nops`).
+/// Puts a patch's entries on top of the stacks of its sites. If `only` is an object, only the sites of that object are
+/// covered. If `only` is `None`, the sites of all loaded objects are covered. A cumulative patch also gets a nop on
+/// each other covered site that has entries (the kernel's `klp_add_nops`).
 ///
-/// The cost grows with the number of the patch's functions, and for a cumulative patch with the number of sites that
-/// have entries, too.
+/// The cost grows with the number of the patch's functions. For a cumulative patch, it also grows with the number of
+/// sites that have entries.
 pub fn patch_sites(
     sites: &mut Sites,
     catalog: &Catalog,
@@ -172,11 +173,11 @@ pub fn patch_sites(
     }
 }
 
-/// Takes a patch's entries out of the stacks of its sites. If `only` is an object, these are that object's sites; if it
-/// is `None`, those of all loaded objects.
+/// Takes a patch's entries out of the stacks of its sites. If `only` is an object, only the sites of that object are
+/// covered. If `only` is `None`, the sites of all loaded objects are covered.
 ///
-/// The cost grows with the number of the patch's functions, or for a cumulative patch with the number of sites that
-/// have entries.
+/// For a patch that isn't cumulative, the cost grows with the number of its functions. For a cumulative patch, it grows
+/// with the number of sites that have entries.
 pub fn unpatch_sites(
     sites: &mut Sites,
     catalog: &Catalog,
@@ -186,7 +187,7 @@ pub fn unpatch_sites(
 )
     requires sites { length sites.old.stacks ≤ MAX_SITES }
     requires names { catalog.now.names ≡ names_of sites.old.image.objects }
-    // only a cumulative patch has entries at sites where it has no function
+    // only a cumulative patch has entries at sites for which it has no function
     requires own { (site : ℕ) → is_covered sites.old only site ≡ true
         → MayHaveEntry catalog.now patch sites.old.stacks site }
     requires records { most_entries catalog.now patch sites.old + MAX_SITES ≤ spare_of log.old }
@@ -205,8 +206,8 @@ pub fn unpatch_sites(
     }
 }
 
-/// Takes the nops of a patch out of all stacks. Once no older entries are below a nop, it has no purpose: calls run the
-/// original without it. The cost grows with the number of sites that have entries.
+/// Takes the nops of a patch out of all stacks. If there are no older entries below a nop, calls run the original even
+/// without it, so the nop has no purpose. The cost grows with the number of sites that have entries.
 pub fn drop_nops(sites: &mut Sites, patch: PatchId, log: &mut Records)
     requires sites { length sites.old.stacks ≤ MAX_SITES }
     requires records { length sites.old.stacks + MAX_SITES ≤ spare_of log.old }

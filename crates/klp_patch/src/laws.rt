@@ -1,4 +1,4 @@
-//! Laws of the definitions themselves. A function here does nothing: its contract is the law.
+//! Laws of the definitions themselves. A function of this module does nothing: its contract is the law.
 ghost use Rattle.std.specs.Prelude.{◌≡◌, ℕ, ◌≤◌, ◌++◌, List, Option, length};
 ghost use Rattle.std.specs.List.{flat_map};
 ghost use Rattle.klp_types.specs.declared.callback.Which.TheVariants.{Pre, PostUn};
@@ -16,8 +16,8 @@ ghost use Rattle.klp_stack.specs.Stack.{entries_at};
 ghost use Rattle.klp_patch.specs.Blocked.{blocked_at};
 ghost use Rattle.klp_patch.specs.Calls.{records_of};
 
-/// If each site's stack has the entries that the state gives it, stacks and state give the same blocked versions. So
-/// `block` may make its set from the stacks, which the model's definitions don't mention.
+/// If each site's stack has the entries that the state gives the site, stacks and state give the same blocked versions.
+/// So `block` may compute its set from the stacks, although the model's definitions don't mention stacks.
 pub fn the_stacks_tell_what_is_blocked()
     ensures { (setting : Setting) (state : State) (move : Transition) (stacks : List (List Entry))
         → length stacks ≡ length (symbols_of setting.image.objects)
@@ -25,8 +25,8 @@ pub fn the_stacks_tell_what_is_blocked()
         → blocked_at 0 move stacks ≡ blocked setting state move }
 {}
 
-/// The callbacks that run log at most as many records as all callbacks that may run. So room for the records of all
-/// that may run is enough.
+/// The callbacks that run log at most as many records as all callbacks that may run. So it is enough if there is room
+/// for the records of all callbacks that may run.
 pub fn runs_log_no_more_than_may_run()
     ensures enabling { (patch : ℕ) (objects : List (ℕ × PatchObject))
         → records_of (enable_calls patch objects) ≤ records_of (calls_of patch Pre objects

@@ -1,5 +1,5 @@
-//! The callbacks of a module that is loaded (coming) or unloaded (going): patch by patch, oldest first, as the kernel
-//! walks over `klp_patches`.
+//! The callbacks of a module that is loaded (coming) or unloaded (going). They run patch by patch, oldest first, as the
+//! kernel walks over `klp_patches`.
 ghost use Rattle.std.specs.Prelude.{◌≡◌, ℕ, ◌+◌, ◌≤◌, find, length, take, None, Some, option_map, MatchOption};
 ghost use Rattle.std.specs.List.{flat_map};
 ghost use Rattle.klp_types.specs.declared.callback.Which.TheVariants.{Pre};
@@ -30,7 +30,7 @@ pub fn allocs_of_coming(
 ) -> usize
     requires { length installed.now ≤ MAX_PATCHES }
     ensures value { result ≡ allocs_of (flat_map (coming_may_run moving) (parts_in catalog.now object installed.now)) }
-    // so a bound on the records follows
+    // from this clause a bound on the records follows
     ensures records { records_of (flat_map (coming_may_run moving) (parts_in catalog.now object installed.now))
         ≤ MAX_COMING_EDITS + result }
 {
@@ -94,8 +94,8 @@ pub fn may_run_going(
     false
 }
 
-/// For each of these patches that changes the module, runs pre-unpatch unless the patch is in transition, and then
-/// post-unpatch. Called when a module is unloaded, and to clean up after a refused load.
+/// Goes over these patches. For each patch that changes the module, runs pre-unpatch unless the patch is in transition,
+/// and then post-unpatch. The function is called when a module is unloaded, and to clean up after a refused load.
 fn each_going(
     catalog: &mut Catalog,
     installed: &[PatchId],
@@ -114,9 +114,9 @@ fn each_going(
     }
 }
 
-/// For each of these patches that changes the module, runs pre-patch, and then post-patch unless the patch is in
-/// transition. Stops after the first pre-patch that refuses, and then returns three things: the index of the refusing
-/// patch in `installed`, so that the caller can clean up the patches before it; the patch; and the status.
+/// Goes over these patches. For each patch that changes the module, runs pre-patch, and then post-patch unless the
+/// patch is in transition. If a pre-patch refuses, stops and returns three things: the index of the refusing patch in
+/// `installed`, the refusing patch, and the status. From the index, the caller knows which patches to clean up.
 fn each_coming(
     catalog: &mut Catalog,
     installed: &[PatchId],
@@ -145,11 +145,11 @@ fn each_coming(
     None
 }
 
-/// Runs the callbacks for a module that is loaded: for each of these patches that changes it, pre-patch, and post-patch
-/// unless the patch is in transition. If a pre-patch refuses, no later patch's callbacks run. The patches before the
-/// refusing one are cleaned up then, oldest first (the kernel's `klp_cleanup_module_patches_limited`): pre-unpatch
-/// unless the patch is in transition, then post-unpatch. Returns the refusing patch and its status, or `None` if none
-/// refused.
+/// Runs the callbacks for a module that is loaded. For each of these patches that changes the module, pre-patch runs,
+/// and then post-patch unless the patch is in transition. If a pre-patch refuses, no later patch's callbacks run. The
+/// patches before the refusing patch are then cleaned up, oldest first (the kernel's
+/// `klp_cleanup_module_patches_limited`): pre-unpatch runs unless the patch is in transition, then post-unpatch.
+/// Returns the refusing patch and its status, or `None` if no patch refused.
 pub fn run_coming(
     catalog: &mut Catalog,
     installed: &[PatchId],
@@ -172,8 +172,8 @@ pub fn run_coming(
     Some((patch, status))
 }
 
-/// Runs the callbacks for a module that is unloaded: for each of these patches that changes it, pre-unpatch unless the
-/// patch is in transition, then post-unpatch. None of them can refuse the unloading.
+/// Runs the callbacks for a module that is unloaded. For each of these patches that changes the module, pre-unpatch
+/// runs unless the patch is in transition, then post-unpatch. None of these callbacks can refuse the unloading.
 pub fn run_going(
     catalog: &mut Catalog,
     installed: &[PatchId],

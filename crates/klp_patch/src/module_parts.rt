@@ -1,6 +1,6 @@
 //! The callbacks of one patch for a module that is loaded (coming) or unloaded (going).
 //!
-//! `moving` is passed by reference, since it is looked at for each callback.
+//! `moving` is passed by reference, since it is read for each callback.
 ghost use Rattle.std.specs.Prelude.{◌≡◌, ◌+◌, ◌*◌, ◌≤◌, [], find, option_map, is_some, true};
 ghost use Rattle.std.specs.List.{flat_map};
 ghost use Rattle.klp_types.specs.declared.limits.TheConstants.{MAX_EDITS};
@@ -23,7 +23,7 @@ use klp_journal::Records;
 use klp_types::{ObjId, PatchId, Transition, Which, is_in_transition};
 use klp_world::World;
 
-/// Returns how many shadow variables one callback adds at most: 0 if the patch has no such callback.
+/// Returns how many shadow variables one callback adds at most. Returns 0 if the patch has no such callback.
 fn allocs_at(catalog: &Catalog, patch: PatchId, place: u8, which: Which) -> usize
     ensures value { result ≡ allocs_of (call_at catalog.now patch place which) }
     ensures limit { result ≤ MAX_EDITS }
@@ -32,7 +32,8 @@ fn allocs_at(catalog: &Catalog, patch: PatchId, place: u8, which: Which) -> usiz
     usize::from(catalog.allocs(patch, place, which))
 }
 
-/// Like `allocs_at`, but returns 0 if the patch is in transition. It is for a callback that doesn't run then.
+/// Like `allocs_at`, but returns 0 if the patch is in transition. The function is for callbacks that don't run while
+/// their patch is in transition.
 fn allocs_unless_moving(
     catalog: &Catalog,
     patch: PatchId,
@@ -51,8 +52,8 @@ fn allocs_unless_moving(
     }
 }
 
-/// Returns how many shadow variables the patch's callbacks may add at most when the module is loaded. All four kinds
-/// count, since a later patch may refuse, and then this patch is cleaned up.
+/// Returns how many shadow variables the patch's callbacks may add at most when the module is loaded. Callbacks of all
+/// four kinds count, since if a later patch refuses, this patch is cleaned up.
 pub(crate) fn coming_allocs(
     catalog: &Catalog,
     patch: PatchId,
@@ -76,8 +77,8 @@ pub(crate) fn coming_allocs(
     }
 }
 
-/// Returns how many shadow variables the patch's callbacks may add at most when the module is unloaded: pre-unpatch and
-/// post-unpatch.
+/// Returns how many shadow variables the patch's callbacks may add at most when the module is unloaded. Only
+/// pre-unpatch and post-unpatch run then.
 pub(crate) fn going_allocs(
     catalog: &Catalog,
     patch: PatchId,
@@ -98,7 +99,8 @@ pub(crate) fn going_allocs(
     }
 }
 
-/// Whether the patch has this callback and isn't in transition. It is for a callback that doesn't run in transition.
+/// Whether the patch has this callback and isn't in transition. The function is for callbacks that don't run while
+/// their patch is in transition.
 fn has_unless_moving(
     catalog: &Catalog,
     patch: PatchId,
@@ -170,7 +172,7 @@ fn run_unless_moving(
     }
 }
 
-/// Runs pre-patch for the object at this place. Returns its status if it refuses, that is, if the status isn't 0.
+/// Runs pre-patch for the object at this place. If pre-patch refuses, returns its status, which isn't 0.
 fn run_pre_at(
     catalog: &mut Catalog,
     patch: PatchId,
@@ -190,7 +192,7 @@ fn run_pre_at(
 }
 
 /// Runs pre-patch for the object at this place, and then post-patch unless the patch is in transition. If pre-patch
-/// refuses, post-patch doesn't run, and the status is returned.
+/// refuses, returns its status, and post-patch doesn't run.
 fn coming_at(
     catalog: &mut Catalog,
     patch: PatchId,
@@ -214,8 +216,8 @@ fn coming_at(
     }
 }
 
-/// Runs one patch's callbacks for a module that is loaded, if the patch changes it: pre-patch, and post-patch unless
-/// the patch is in transition. Returns the status of a pre-patch that refuses.
+/// Runs one patch's callbacks for a module that is loaded, if the patch changes the module: pre-patch, and then
+/// post-patch unless the patch is in transition. If pre-patch refuses, returns its status.
 pub(crate) fn part_coming(
     catalog: &mut Catalog,
     patch: PatchId,
@@ -227,7 +229,7 @@ pub(crate) fn part_coming(
     requires { HasRoomFor world.old log.old (calls_until_refused moving.now (parts_at catalog.old object patch)) }
     ensures refused { option_map (λ status. (patch, status)) result
         ≡ option_map refusal (find part_refuses (parts_at catalog.old object patch)) }
-    // a patch has the module once, so none of its callbacks runs before the one that refuses
+    // the patch has the module only once, so no callback of the patch has run before the one that refuses
     ensures first { is_some result ≡ true → parts_before (parts_at catalog.old object patch) ≡ [] }
     ensures ran { HaveRun catalog.old catalog.new world.old world.new log.old log.new
         (calls_until_refused moving.now (parts_at catalog.old object patch)) }
@@ -237,7 +239,7 @@ pub(crate) fn part_coming(
 }
 
 /// Runs the callbacks of unloading for the object at this place: pre-unpatch unless the patch is in transition, then
-/// post-unpatch. A patch in transition has already run pre-unpatch, or never ran post-patch.
+/// post-unpatch. If the patch is in transition, either its pre-unpatch has already run, or its post-patch never ran.
 fn going_at(
     catalog: &mut Catalog,
     patch: PatchId,
@@ -255,8 +257,8 @@ fn going_at(
     run_at(catalog, patch, place, Which::PostUn, world, log);
 }
 
-/// Runs one patch's callbacks for a module that is unloaded, if the patch changes it: pre-unpatch unless the patch is
-/// in transition, then post-unpatch.
+/// Runs one patch's callbacks for a module that is unloaded, if the patch changes the module: pre-unpatch unless the
+/// patch is in transition, then post-unpatch.
 pub(crate) fn part_going(
     catalog: &mut Catalog,
     patch: PatchId,

@@ -19,8 +19,8 @@ use klp_modules::Modules;
 use klp_types::{ObjId, PatchId, Which};
 use klp_world::World;
 
-/// Returns how many shadow variables the callback of one object adds at most. Returns 0 if the object isn't loaded:
-/// then its callbacks run only when it is loaded.
+/// Returns how many shadow variables the callback of one object adds at most. Returns 0 if the object isn't loaded,
+/// since its callbacks run only when the object is loaded.
 fn allocs_where_loaded(
     catalog: &Catalog,
     modules: &Modules,
@@ -43,10 +43,10 @@ fn allocs_where_loaded(
 pub fn allocs(catalog: &Catalog, modules: &Modules, patch: PatchId, which: Which) -> usize
     ensures value { result ≡ allocs_of (calls_of patch which (loaded_in catalog.now modules.now patch)) }
     ensures limit { result ≤ MAX_TARGETS * MAX_EDITS }
-    // so a bound on the records follows
+    // from this clause a bound on the records follows
     ensures records { records_of (calls_of patch which (loaded_in catalog.now modules.now patch)) ≤ MAX_KIND_RECORDS }
 {
-    // Most patches have no callbacks, and every event that may run some asks first.
+    // Most patches have no callbacks. Every event that may run callbacks calls this function first.
     if !catalog.has_callbacks(patch) {
         return 0;
     }
@@ -85,8 +85,8 @@ pub fn has_callbacks(catalog: &Catalog, modules: &Modules, patch: PatchId, which
     false
 }
 
-/// Runs the callback of one object if the object is loaded. Returns the callback's status, or 0 if no callback ran:
-/// then nothing refused.
+/// Runs the callback of one object if the object is loaded. Returns the callback's status. If no callback ran, returns
+/// 0, since nothing refused.
 fn run_where_loaded(
     catalog: &mut Catalog,
     modules: &Modules,
@@ -109,7 +109,7 @@ fn run_where_loaded(
     }
 }
 
-/// Runs the callbacks of one kind for those of the patch's first `end` objects that are loaded, in order. To clean up,
+/// Runs the callbacks of one kind, in order, for the loaded objects among the patch's first `end` objects. To clean up,
 /// the caller passes the place of the refusing object as `end`.
 fn run_first(
     catalog: &mut Catalog,
@@ -131,8 +131,8 @@ fn run_first(
     }
 }
 
-/// Runs the callbacks of one kind for the loaded objects of a patch, in order. Drops their statuses: only pre-patch may
-/// refuse, as in the kernel, whose other callbacks return nothing.
+/// Runs the callbacks of one kind for the loaded objects of a patch, in order. Drops their statuses, since only
+/// pre-patch may refuse. In the kernel, all other callbacks return nothing.
 pub fn run_callbacks(
     catalog: &mut Catalog,
     modules: &Modules,
@@ -149,8 +149,9 @@ pub fn run_callbacks(
     run_first(catalog, modules, patch, which, end, world, log);
 }
 
-/// Runs pre-patch object by object, up to and including the first that refuses. Returns the refusing object's place and
-/// its status. Returns `None` if none refused. The objects before that place must be cleaned up.
+/// Runs pre-patch object by object, up to and including the first object that refuses. Returns the refusing object's
+/// place and its status. Returns `None` if no object refused. The caller must clean up the objects before the returned
+/// place.
 fn pre_patch(
     catalog: &mut Catalog,
     modules: &Modules,
@@ -170,7 +171,7 @@ fn pre_patch(
     klp_catalog::laws::runs_add_up();
     for place in 0..catalog.target_len(patch) {
         let status = run_where_loaded(catalog, modules, patch, Which::Pre, place, world, log);
-        // 0 is no refusal
+        // status 0 is no refusal
         if status != 0 {
             return Some((place, status));
         }
@@ -178,9 +179,9 @@ fn pre_patch(
     None
 }
 
-/// Runs pre-patch object by object, up to and including the first that refuses. If one refuses, runs post-unpatch for
-/// the objects before it, which cleans up what they set up. Then returns the refusing object with its status. The
-/// callback that refuses has to clean up after itself.
+/// Runs pre-patch object by object, up to and including the first object that refuses. If an object refuses, runs
+/// post-unpatch for the objects before it, which cleans up the effects of their pre-patch. Then returns the refusing
+/// object with its status. The callback that refuses has to clean up after itself.
 pub fn run_pre_patch(
     catalog: &mut Catalog,
     modules: &Modules,

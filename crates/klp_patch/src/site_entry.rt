@@ -1,5 +1,5 @@
-//! Changes of the stack of one site: the entry of a patch is put on it, or taken out. Changes of many sites, and their
-//! proofs, are made of these.
+//! Changes of the stack of one site: the entry of a patch is put on it, or taken out. Changes of many sites, and the
+//! proofs of these changes, are built from the functions of this module.
 ghost use Rattle.std.specs.Prelude.{◌≡◌, ℕ, ◌+◌, ◌<◌, ◌≤◌, ◌==◌, false, ◌∷◌, length};
 ghost use Rattle.klp_types.specs.Records.{spare_of};
 ghost use Rattle.klp_stack.specs.Spare.{spare_in};
@@ -10,8 +10,8 @@ use klp_journal::Records;
 use klp_sites::Sites;
 use klp_types::{Entry, MAX_PATCHES, MAX_SITES, PatchId, Site};
 
-/// Puts an entry on top of a site's stack. The contract's clauses on records have a form that loops over sites can add
-/// up.
+/// Puts an entry on top of a site's stack. The contract's clauses on records have a form that can be added up by loops
+/// over sites.
 #[inline(always)]
 pub(crate) fn put(sites: &mut Sites, site: Site, entry: Entry, log: &mut Records)
     requires there { site < length sites.old.stacks }
@@ -26,8 +26,8 @@ pub(crate) fn put(sites: &mut Sites, site: Site, entry: Entry, log: &mut Records
     sites.push(site, entry, log);
 }
 
-/// Puts a nop of the patch on top of a site's stack if the stack has entries but none of the patch. A site without
-/// entries needs no nop: it runs its original anyway.
+/// Puts a nop of the patch on top of a site's stack if the stack has entries but no entry of the patch. A site without
+/// entries needs no nop, since calls there run the original anyway.
 #[tactic(auto, using(crate::proofs::SiteLemmas::none_of_sites))]
 pub(crate) fn put_nop(sites: &mut Sites, site: Site, patch: PatchId, log: &mut Records)
     requires there { site < length sites.old.stacks }
@@ -44,8 +44,8 @@ pub(crate) fn put_nop(sites: &mut Sites, site: Site, patch: PatchId, log: &mut R
     }
 }
 
-/// Takes the entry of a patch out of a site's stack. If there is none, does nothing, since loops over all sites also
-/// call this for sites where the patch has no entry.
+/// Takes the entry of a patch out of a site's stack. Does nothing if the patch has no entry there, since loops over all
+/// sites also call this function for such sites.
 #[inline(always)]
 pub(crate) fn take(sites: &mut Sites, site: Site, patch: PatchId, log: &mut Records)
     requires { 1 + hooked_count sites.old ≤ spare_of log.old }
@@ -56,7 +56,7 @@ pub(crate) fn take(sites: &mut Sites, site: Site, patch: PatchId, log: &mut Reco
     sites.take(site, patch, log);
 }
 
-/// Takes the patch's entry out of a site's stack if that entry is a nop. If the entry is a function, it stays.
+/// Takes the patch's entry out of a site's stack if that entry is a nop. An entry that is a function stays.
 #[tactic(auto, using(crate::proofs::SiteLemmas::none_of_sites))]
 pub(crate) fn take_nop(sites: &mut Sites, site: Site, patch: PatchId, log: &mut Records)
     requires { 1 + hooked_count sites.old ≤ spare_of log.old }

@@ -1,5 +1,6 @@
-//! Whether an event may run a callback. Taking an event back doesn't reset the counts of runs. So a caller that may
-//! have to take an event back, because something after it may fail, checks this first.
+//! Whether an event may run a callback. Taking an event back doesn't reset the counts of runs. If something after an
+//! event may fail, its caller may have to take the event back. Such a caller checks first whether the event may run a
+//! callback.
 ghost use Rattle.std.specs.Prelude.{◌≡◌};
 ghost use Rattle.klp_model.specs.declared.event.Event.TheVariants.{Enable, SetEnabled, Poll};
 ghost use Rattle.klp_patch.specs.Calls.{are_some};
@@ -13,7 +14,7 @@ use klp_model::Event;
 use klp_patch::{has_callbacks, may_run_coming, may_run_going};
 use klp_types::{PatchId, Which, is_in_transition};
 
-/// Whether enabling a patch may run a callback: pre-patch, or post-unpatch, which runs if a pre-patch refuses.
+/// Whether enabling a patch may run a callback. This is pre-patch, or post-unpatch, which runs if a pre-patch refuses.
 fn may_run_enabling(state: &ManagerState, catalog: &Catalog, patch: PatchId) -> bool
     requires { Invariant state.now catalog.now }
     ensures { result ≡ are_some (may_run_in state.now catalog.now (Enable patch)) }
@@ -23,7 +24,7 @@ fn may_run_enabling(state: &ManagerState, catalog: &Catalog, patch: PatchId) -> 
     pre | post_un
 }
 
-/// Whether writing to a patch's `enabled` file may run a callback: pre-unpatch. Reversing a transition runs no
+/// Whether writing to a patch's `enabled` file may run a callback. This is pre-unpatch. Reversing a transition runs no
 /// callback.
 fn may_run_setting(state: &ManagerState, catalog: &Catalog, patch: PatchId, value: bool) -> bool
     requires { Invariant state.now catalog.now }
@@ -36,7 +37,7 @@ fn may_run_setting(state: &ManagerState, catalog: &Catalog, patch: PatchId, valu
     }
 }
 
-/// Whether a poll may run a callback: one that runs at the end of the transition, if there is a transition.
+/// Whether a poll may run a callback. If there is a transition, the callbacks of its end may run.
 fn may_run_polling(state: &ManagerState, catalog: &Catalog) -> bool
     requires { Invariant state.now catalog.now }
     ensures { result ≡ are_some (may_run_in state.now catalog.now Poll) }
@@ -47,9 +48,9 @@ fn may_run_polling(state: &ManagerState, catalog: &Catalog) -> bool
     }
 }
 
-/// Whether there is a callback that the event may run if nothing refuses it. These are the callbacks for whose
-/// variables the event needs room. The cost grows with the number of the patch's objects, or for a module with the
-/// objects of all installed patches.
+/// Whether there is a callback that the event may run if nothing refuses the event. The event needs room for the
+/// variables of exactly these callbacks. The cost grows with the number of the patch's objects. For an event of a
+/// module, it grows with the number of objects of all installed patches.
 pub fn may_run(state: &ManagerState, catalog: &Catalog, event: &Event) -> bool
     requires { Invariant state.now catalog.now }
     ensures { result ≡ are_some (may_run_in state.now catalog.now event.now) }

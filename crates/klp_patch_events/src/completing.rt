@@ -1,6 +1,6 @@
 //! Trying and completing a transition (livepatch, Consistency model; cumulative-patches). As in the kernel, entries are
-//! taken out before the callbacks run. The list of installed patches changes after the callbacks, so that these still
-//! find the patches that leave.
+//! taken out before the callbacks run. The list of installed patches changes after the callbacks have run, so that the
+//! callbacks still find the leaving patches.
 ghost use Rattle.std.specs.Prelude.{◌≡◌, ◌≢◌, ℕ, ◌+◌, ◌*◌, ◌≤◌, true, [], None, Some, ◌==◌, length};
 ghost use Rattle.std.specs.FinMap as finite;
 ghost use Rattle.klp_types.specs.declared.limits.TheConstants.{MAX_KIND_RECORDS, MAX_RECORDS, MAX_SITES, MAX_TASKS};
@@ -37,17 +37,17 @@ use klp_types::{
     MAX_FUNCTIONS, MAX_PATCHES, MAX_SITES, MAX_VARIABLES, PatchId, PatchState, Transition, Which,
 };
 
-/// Returns the kind of callback that runs at the end of a transition to this target: post-patch if the patch is being
-/// enabled, post-unpatch if it is being disabled.
+/// Returns the kind of callback that runs at the end of a transition to this target. The result is post-patch if the
+/// patch is being enabled, and post-unpatch if it is being disabled.
 pub(crate) fn end_of(target: bool) -> Which
     ensures { result ≡ end_of target }
 {
     if target { Which::Post } else { Which::PostUn }
 }
 
-/// Tries the transition once more: switches the sleepers that aren't blocked, and completes the transition if no task
-/// lags then. If there are no tasks, the first try completes it. A kernel tries every second, but here nothing
-/// completes without a poll (docs/DECISIONS.md, "When transitions complete").
+/// Tries the transition once more. Switches the sleepers that aren't blocked, and completes the transition if all tasks
+/// are then at the target. If there are no tasks, the first try completes it. A kernel tries every second, but this
+/// manager completes nothing without a poll (docs/DECISIONS.md, "When transitions complete").
 pub fn poll(state: &mut ManagerState, catalog: &mut Catalog) -> Result<BriefReply, Refusal>
     requires { Invariant state.old catalog.old }
     ensures taken { TakesEvent state.old state.new catalog.old catalog.new Poll result }
@@ -59,8 +59,9 @@ pub fn poll(state: &mut ManagerState, catalog: &mut Catalog) -> Result<BriefRepl
     }
 }
 
-/// Returns the first reason why a poll is refused, or `None`. The poll needs room for the callbacks at the transition's
-/// end even if a task will still lag, since that isn't known beforehand.
+/// Returns the first reason why a poll is refused. Returns `None` if it is accepted. It isn't known beforehand whether
+/// the transition completes. So the poll needs room for the callbacks of the transition's end even if a task will still
+/// lag.
 pub fn poll_refusal(state: &ManagerState, catalog: &Catalog) -> Option<Refusal>
     requires { Invariant state.now catalog.now }
     ensures refusal { result ≡ refused_in state.now catalog.now Poll }
@@ -69,7 +70,7 @@ pub fn poll_refusal(state: &ManagerState, catalog: &Catalog) -> Option<Refusal>
     let Some(moving) = state.moving else {
         return Some(Refusal::NotMoving);
     };
-    // The room for all callbacks of the end together decides, before any of them runs (docs/DECISIONS.md, "`Full` at
+    // The room is checked for all callbacks of the end together, before any of them runs (docs/DECISIONS.md, "`Full` at
     // the end of a transition").
     let end = allocs(catalog, &state.modules, moving.patch, end_of(moving.target));
     if usize::from(state.world.count()) + end > MAX_VARIABLES {
@@ -78,8 +79,8 @@ pub fn poll_refusal(state: &ManagerState, catalog: &Catalog) -> Option<Refusal>
     None
 }
 
-/// Tries the transition, and completes it if no task lags then. The caller has checked that nothing refuses the poll.
-/// If a task lags, only tasks have changed.
+/// Tries the transition, and completes it if all tasks are then at the target. The caller has checked that nothing
+/// refuses the poll. If a task still lags, only tasks have changed.
 fn try_once_more(state: &mut ManagerState, catalog: &mut Catalog) -> BriefReply
     requires kept { Invariant state.old catalog.old }
     requires free { refused_in state.old catalog.old Poll ≡ None }
@@ -89,7 +90,7 @@ fn try_once_more(state: &mut ManagerState, catalog: &mut Catalog) -> BriefReply
 {
     klp_manager_state::laws::steps_keep();
     let Some(moving) = state.moving else {
-        // Never happens: without a transition the poll is refused.
+        // Never happens, since a poll without a transition is refused.
         return BriefReply(Brief::Completed(false));
     };
     let left = try_tasks(state, catalog, &moving);
@@ -100,8 +101,8 @@ fn try_once_more(state: &mut ManagerState, catalog: &mut Catalog) -> BriefReply
     BriefReply(Brief::Completed(moving.target))
 }
 
-/// Drops what was logged, since the event begins here, and switches the sleepers that aren't blocked. Returns how many
-/// tasks still lag.
+/// Begins the event by dropping all earlier records of the log that the journal doesn't have, and switches the sleepers
+/// that aren't blocked. Returns how many tasks still lag.
 fn try_tasks(state: &mut ManagerState, catalog: &Catalog, moving: &Transition) -> u8
     requires kept { Invariant state.old catalog.now }
     requires moving { state.old.moving ≡ Some moving.now }
@@ -124,8 +125,8 @@ fn try_tasks(state: &mut ManagerState, catalog: &Catalog, moving: &Transition) -
     state.tasks.lagging(moving.target)
 }
 
-/// Switches the sleepers that aren't blocked. Makes the set of blocked versions anew, because the entries or the loaded
-/// modules may have changed since the last try.
+/// Switches the sleepers that aren't blocked. The set of blocked versions is computed anew, because the entries or the
+/// loaded modules may have changed since the last try.
 fn switch_sleepers(state: &mut ManagerState, catalog: &Catalog, moving: &Transition)
     requires state { Allowed (setting_in state.old catalog.now) (state_in state.old catalog.now) }
     requires limits { IsWithinLimits state.old.sites.image.objects }
@@ -153,7 +154,8 @@ fn switch_sleepers(state: &mut ManagerState, catalog: &Catalog, moving: &Transit
 }
 
 /// Completes a transition whose tasks are all at the target. As in the kernel (`klp_complete_transition`), the entries
-/// of the leaving patches are taken out before the callbacks run. The callbacks still find these patches in the list.
+/// of the leaving patches are taken out before the callbacks run. The callbacks still find the leaving patches in the
+/// list.
 fn complete(state: &mut ManagerState, catalog: &mut Catalog, moving: &Transition)
     requires kept { Invariant state.old catalog.old }
     requires moving { state.old.moving ≡ Some moving.now }
@@ -180,8 +182,8 @@ fn complete(state: &mut ManagerState, catalog: &mut Catalog, moving: &Transition
     rest(state);
 }
 
-/// Ends the transition: sets each task's patch state to -1, which `/proc/<pid>/patch_state` shows outside of
-/// transitions.
+/// Ends the transition. Sets each task's patch state to -1, which `/proc/<pid>/patch_state` shows while there is no
+/// transition.
 fn rest(state: &mut ManagerState)
     requires moves { state.old.moving ≢ None }
     requires tasks { length state.old.tasks ≡ MAX_TASKS }
@@ -197,8 +199,8 @@ fn rest(state: &mut ManagerState)
     state.set_moving(None);
 }
 
-/// Takes out the entries of the patches that leave when the transition completes. If the patch is being enabled and
-/// replaces no others, no site changes here.
+/// Takes out the entries of the patches that leave when the transition completes. If a patch that isn't cumulative is
+/// being enabled, no patch leaves and no site changes.
 fn remove_leaving_entries(state: &mut ManagerState, catalog: &Catalog, moving: &Transition)
     requires kept { Invariant state.old catalog.now }
     requires moving { state.old.moving ≡ Some moving.now }
@@ -231,7 +233,8 @@ fn remove_leaving_entries(state: &mut ManagerState, catalog: &Catalog, moving: &
     }
 }
 
-/// Takes out the entries of the older patches, and the replacing patch's nops, which only hid these entries.
+/// Takes out the entries of the older patches. Also takes out the nops of the replacing patch, whose only purpose was
+/// to hide these entries.
 fn replace_sites(state: &mut ManagerState, catalog: &Catalog, moving: &Transition)
     requires kept { Invariant state.old catalog.now }
     requires moving { state.old.moving ≡ Some moving.now }

@@ -20,8 +20,8 @@ use klp_tasks::target_state;
 use klp_types::{MAX_VARIABLES, PatchId, Transition, Which, is_in_transition};
 
 /// Writes a value to the `enabled` file of an installed patch (the kernel's `enabled_store`). If the patch is in
-/// transition, the transition is reversed, and no callback runs, since what callbacks set up is still there. Otherwise
-/// the patch starts to be disabled, and pre-unpatch runs object by object.
+/// transition, the transition is reversed. No callback runs, since all effects of earlier callbacks are still there.
+/// Otherwise the patch starts to be disabled, and pre-unpatch runs object by object.
 pub fn set_enabled(
     state: &mut ManagerState,
     catalog: &mut Catalog,
@@ -38,8 +38,9 @@ pub fn set_enabled(
     }
 }
 
-/// Returns the first reason why the value can't be written, or `None`. Lack of room is the last reason, but is computed
-/// first, since its proof also bounds the records (docs/DECISIONS.md, "Room computed before the refusals").
+/// Returns the first reason why the value can't be written. Returns `None` if it can be written. Lack of room is the
+/// last reason, but is computed first, since its proof also bounds the records (docs/DECISIONS.md, "Room computed
+/// before the refusals").
 pub fn set_enabled_refusal(
     state: &ManagerState,
     catalog: &Catalog,
@@ -67,8 +68,8 @@ pub fn set_enabled_refusal(
     }
 }
 
-/// Whether there is no room for the variables that the callbacks may add. A patch in transition runs no callback, since
-/// its transition is reversed.
+/// Whether there is no room for the variables that the callbacks may add. A patch in transition needs no room, since
+/// its transition is reversed, which runs no callback.
 fn lacks_room_to_set(state: &ManagerState, catalog: &Catalog, patch: PatchId, value: bool) -> bool
     requires { Invariant state.now catalog.now }
     ensures room { result ≡ lacks_room_in state.now catalog.now (SetEnabled patch value) }
@@ -104,8 +105,8 @@ fn turn(state: &mut ManagerState, catalog: &mut Catalog, patch: PatchId, value: 
     disable(state, catalog, patch, value)
 }
 
-/// Starts to disable a patch: runs pre-unpatch, sets all tasks to patch state 1, since all of them run the patch, and
-/// begins a transition to 0. The entries stay until the transition completes.
+/// Starts to disable a patch. Runs pre-unpatch, sets the patch state of all tasks to 1, since all tasks run the patch,
+/// and begins a transition to 0. The entries stay until the transition completes.
 fn disable(
     state: &mut ManagerState,
     catalog: &mut Catalog,

@@ -36,9 +36,9 @@ use klp_types::{
     Which,
 };
 
-/// Whether a function of the patch is for a loaded object but names no symbol of it. Then the patch couldn't be applied
-/// as a whole. A function for an object that isn't loaded may lack its symbol, since this is checked when the module is
-/// loaded (docs/DECISIONS.md, "Symbols of objects that aren't loaded").
+/// Whether a function of the patch is for a loaded object but names no symbol of it. Such a patch couldn't be applied
+/// as a whole. A function for an object that isn't loaded may lack its symbol. The symbol is then checked when the
+/// module is loaded (docs/DECISIONS.md, "Symbols of objects that aren't loaded").
 fn lacks_symbol(state: &ManagerState, found: &CatalogPatch) -> bool
     ensures { result ≡ list_any (λ (f : FunctionOf). slice_index_or state.now.modules.loaded f.object false
         && is_none f.site) found.now.functions }
@@ -54,8 +54,8 @@ fn lacks_symbol(state: &ManagerState, found: &CatalogPatch) -> bool
     false
 }
 
-/// Returns the reply for a patch whose pre-patch callback refused, with the object and the status. It is a reply and no
-/// refusal, since callbacks ran and were counted.
+/// Returns the reply for a patch whose pre-patch callback refused, with the object and the status. Callbacks ran and
+/// were counted, so the outcome is a reply and not a refusal.
 fn pre_failed(patch: PatchId, refused: &(ObjId, i32)) -> BriefReply
     ensures { result ≡ PreFailed patch refused.now.0 refused.now.1 }
 {
@@ -64,7 +64,7 @@ fn pre_failed(patch: PatchId, refused: &(ObjId, i32)) -> BriefReply
 }
 
 /// Enables a patch that isn't installed, and starts its transition to 1. Puts the patch last in the list, runs
-/// pre-patch object by object, and puts its entries on the sites of loaded objects. If a pre-patch refuses,
+/// pre-patch object by object, and puts the patch's entries on the sites of loaded objects. If a pre-patch refuses,
 /// post-unpatch runs for the objects before the refusing one. Then the patch is taken out of the list again, and the
 /// reply is `PreFailed`.
 pub fn enable(
@@ -82,14 +82,14 @@ pub fn enable(
     }
 }
 
-/// Returns the first reason why the patch can't be enabled, or `None`. Changes nothing, so that an event's refusal can
-/// be found out while the journal is full.
+/// Returns the first reason why the patch can't be enabled. Returns `None` if it can be enabled. Changes nothing, so
+/// this function can also be called while the journal is full.
 pub fn enable_refusal(state: &ManagerState, catalog: &Catalog, patch: PatchId) -> Option<Refusal>
     requires { Invariant state.now catalog.now }
     ensures refusal { result ≡ refused_in state.now catalog.now (Enable patch) }
     ensures records { records_of (may_run_in state.now catalog.now (Enable patch)) ≤ MAX_ENABLING_RECORDS }
 {
-    // Lack of room is the last refusal, but is computed first, since its proof bounds the records for every return
+    // Lack of room is the last reason, but is computed first, since its proof bounds the records for every return
     // (docs/DECISIONS.md, "Room computed before the refusals").
     let lacks_room = lacks_room_to_enable(state, catalog, patch);
     let Some(found) = catalog.get(patch) else {
@@ -102,7 +102,7 @@ pub fn enable_refusal(state: &ManagerState, catalog: &Catalog, patch: PatchId) -
     } else if state.pinned.is_pinned(patch) {
         Some(Refusal::Pinned)
     } else if !catalog.is_compatible(patch, state.world.installed()) {
-        // The patches that this one would replace count too, since it takes their states over.
+        // A cumulative patch takes over the states of the patches that it replaces. So these patches are checked too.
         Some(Refusal::Incompatible)
     } else if lacks_symbol(state, found) {
         Some(Refusal::NoSymbol)
@@ -113,14 +113,14 @@ pub fn enable_refusal(state: &ManagerState, catalog: &Catalog, patch: PatchId) -
     }
 }
 
-/// Whether there is no room for the variables that the callbacks may add. This is checked once, before any callback
+/// Whether there is no room for the variables that the callbacks may add. The room is checked once, before any callback
 /// runs, so that no callback fails for lack of room.
 fn lacks_room_to_enable(state: &ManagerState, catalog: &Catalog, patch: PatchId) -> bool
     requires { Invariant state.now catalog.now }
     ensures room { result ≡ lacks_room_in state.now catalog.now (Enable patch) }
     ensures records { records_of (may_run_in state.now catalog.now (Enable patch)) ≤ MAX_ENABLING_RECORDS }
 {
-    // The callbacks of both kinds count, whatever their statuses are, so that the sum is known before any of them runs
+    // The callbacks of both kinds count, whatever statuses they return. So the sum is known before any callback runs
     // (docs/DECISIONS.md, "Room for the callbacks that may run").
     let pre = allocs(catalog, &state.modules, patch, Which::Pre);
     let post_un = allocs(catalog, &state.modules, patch, Which::PostUn);
@@ -128,8 +128,8 @@ fn lacks_room_to_enable(state: &ManagerState, catalog: &Catalog, patch: PatchId)
 }
 
 /// Puts a patch last in the list, runs pre-patch, and starts the transition unless a pre-patch refuses. The caller has
-/// checked that nothing refuses the event. The patch is in the list before its callbacks run, so that they can set its
-/// states.
+/// checked that nothing refuses the event. The patch is in the list before its callbacks run, so that its callbacks can
+/// set its states.
 fn install(state: &mut ManagerState, catalog: &mut Catalog, patch: PatchId) -> BriefReply
     requires kept { Invariant state.old catalog.old }
     requires free { refused_in state.old catalog.old (Enable patch) ≡ None }
@@ -145,7 +145,7 @@ fn install(state: &mut ManagerState, catalog: &mut Catalog, patch: PatchId) -> B
     prove!(usize::from(catalog.patches()) <= MAX_PATCHES);
     prove!(state.sites.sites() <= MAX_SITES);
     put_last(state, catalog, patch);
-    // Pre-patch runs for all objects before the first site is hooked, since a refused patch must not touch the text
+    // A refused patch must not change the text, so pre-patch runs for all objects before the first site is hooked
     // (docs/DECISIONS.md, "Pre-patch before the first hook").
     match run_pre_patch(
         catalog,
@@ -165,8 +165,8 @@ fn install(state: &mut ManagerState, catalog: &mut Catalog, patch: PatchId) -> B
     }
 }
 
-/// Puts a patch last in the list of installed patches, with its system states at 0. First drops what was logged, since
-/// the event begins here.
+/// Begins the event by dropping all earlier records of the log that the journal doesn't have. Then puts a patch last in
+/// the list of installed patches, with its system states at 0.
 fn put_last(state: &mut ManagerState, catalog: &Catalog, patch: PatchId)
     requires fresh { is_among patch state.old.world.installed ≡ false }
     requires room { length state.old.world.installed < MAX_PATCHES }
@@ -187,8 +187,8 @@ fn put_last(state: &mut ManagerState, catalog: &Catalog, patch: PatchId)
     state.world.add_states(patch, &ids, &mut state.log);
 }
 
-/// Takes a patch out of the list after its pre-patch refused. Its states go with it, and the values that callbacks gave
-/// them.
+/// Takes a patch out of the list after its pre-patch refused. The patch's states are removed too, with the values that
+/// callbacks set.
 fn take_out(state: &mut ManagerState, patch: PatchId)
     requires { length state.old.log.logged + MAX_LIST_RECORDS ≤ state.old.log.room }
     ensures parts { state.new
@@ -201,8 +201,8 @@ fn take_out(state: &mut ManagerState, patch: PatchId)
     state.world.drop_states(patch, &mut state.log);
 }
 
-/// Starts the transition of an installed patch to 1. First puts its entries on the sites. No task has patch state 1 at
-/// that time, so every task skips these entries and still runs what it ran before.
+/// Starts the transition of an installed patch to 1. First puts the patch's entries on the sites. At that time no task
+/// has patch state 1. So every task skips these entries and runs the same versions as before.
 fn start(state: &mut ManagerState, catalog: &Catalog, patch: PatchId)
     requires number { patch < MAX_PATCHES }
     requires rests { state.old.moving ≡ None }
@@ -226,7 +226,7 @@ fn start(state: &mut ManagerState, catalog: &Catalog, patch: PatchId)
 {
     klp_tasks::laws::records_are_few();
     prove!(state.sites.sites() <= MAX_SITES);
-    // called for its contract, which bounds the patch's functions
+    // called for its contract, which says that the patch has few functions
     let _found = catalog.get(patch);
     patch_sites(&mut state.sites, catalog, patch, None, &mut state.log);
     prove!(state.sites.sites() <= MAX_SITES);

@@ -14,10 +14,10 @@ use klp_model::Refusal;
 use klp_tasks::target_state;
 use klp_types::{MAX_PATCHES, PatchId, Transition, is_in_transition};
 
-/// Switches every task to the target of the patch in transition, whatever functions the task is inside of. Pins the
-/// patches whose functions tasks may still be inside of: the patch itself if it is being disabled, and all other
-/// installed patches if it replaces them. The next poll completes the transition. The cost grows with the number of
-/// tasks.
+/// Switches every task to the target of the patch in transition, whatever functions the task is inside of. Then pins
+/// the patches whose functions tasks may still be inside of. If the patch is being disabled, the patch itself is
+/// pinned. If it is being enabled and is cumulative, all other installed patches are pinned. The next poll completes
+/// the transition. The cost grows with the number of tasks.
 pub fn force(
     state: &mut ManagerState,
     catalog: &Catalog,
@@ -43,8 +43,8 @@ pub fn force(
     Ok(BriefReply(Brief::Done))
 }
 
-/// Returns the first reason why a transition can't be forced, or `None`. Lack of room is never a reason, since no
-/// callback runs.
+/// Returns the first reason why a transition can't be forced. Returns `None` if it can be forced. Lack of room is never
+/// a reason, since no callback runs.
 pub fn force_refusal(state: &ManagerState, catalog: &Catalog, patch: PatchId) -> Option<Refusal>
     ensures { result ≡ refused_in state.now catalog.now (Force patch) }
 {
@@ -59,8 +59,8 @@ pub fn force_refusal(state: &ManagerState, catalog: &Catalog, patch: PatchId) ->
     }
 }
 
-/// Pins the patches whose functions tasks may still be inside of after a forced transition (the kernel's `forced` flag,
-/// which means that the patch's module is never freed).
+/// Pins the patches whose functions tasks may still be inside of after a forced transition. (In the kernel, the flag
+/// `forced` means that the patch's module is never freed.)
 fn pin(state: &mut ManagerState, catalog: &Catalog, moving: Transition)
     requires { length state.old.log.logged + MAX_PATCHES ≤ state.old.log.room }
     ensures parts { state.new ≡ record state.old {

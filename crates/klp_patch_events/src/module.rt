@@ -26,7 +26,7 @@ use klp_model::Refusal;
 use klp_patch::{allocs_of_coming, allocs_of_going, run_coming, run_going};
 use klp_types::{MAX_PATCHES, MAX_VARIABLES, ObjId, PatchId};
 
-/// Whether a function is for this object but names no symbol of it, and so has no site.
+/// Whether a function is for this object and has no site, because it names no symbol of the object.
 fn lacks_site(function: &CatalogFunction, object: ObjId) -> bool
     ensures { result ≡ (function.now.object == object && is_none function.now.site) }
 {
@@ -44,8 +44,8 @@ fn lacks_symbol(catalog: &Catalog, patch: PatchId, object: ObjId) -> bool
         .any(|function| lacks_site(function, object))
 }
 
-/// Whether one of these patches has a function for this object that names no symbol of it. Enabling a patch doesn't
-/// check this for a module that isn't loaded, so it is checked when the module is loaded.
+/// Whether one of these patches has a function for this object that names no symbol of it. When a patch is enabled, its
+/// functions for a module that isn't loaded aren't checked. So they are checked when the module is loaded.
 fn some_lacks_symbol(catalog: &Catalog, patches: &[PatchId], object: ObjId) -> bool
     ensures { result ≡ list_any (λ patch. list_any (λ (f : FunctionOf). f.object == object && is_none f.site)
         (catalog_functions catalog.now patch)) patches.now }
@@ -60,9 +60,9 @@ fn some_lacks_symbol(catalog: &Catalog, patches: &[PatchId], object: ObjId) -> b
 
 /// Loads a module (the kernel's `klp_module_coming`). For each installed patch that changes the module, pre-patch runs,
 /// and then post-patch unless the patch is in transition. After all callbacks, the entries are put on the module's
-/// sites. A kernel puts them on between a patch's two callbacks, but nobody can see the difference (see `come`). If a
-/// pre-patch refuses, the patches before the refusing one are cleaned up, the module isn't loaded, and the reply is
-/// `PreFailed`.
+/// sites. A kernel puts a patch's entries on between the patch's two callbacks, but nobody can see the difference (see
+/// `come`). If a pre-patch refuses, the patches before the refusing patch are cleaned up, the module isn't loaded, and
+/// the reply is `PreFailed`.
 pub fn coming(
     state: &mut ManagerState,
     catalog: &mut Catalog,
@@ -80,8 +80,8 @@ pub fn coming(
 
 /// Unloads a module (the kernel's `klp_module_going`). For each installed patch that changes the module, pre-unpatch
 /// runs unless the patch is in transition, and then post-unpatch. After all callbacks, the entries are taken out of the
-/// module's sites. A kernel takes them out between a patch's two callbacks, but nobody can see the difference (see
-/// `go`).
+/// module's sites. A kernel takes a patch's entries out between the patch's two callbacks, but nobody can see the
+/// difference (see `go`).
 pub fn going(
     state: &mut ManagerState,
     catalog: &mut Catalog,
@@ -97,8 +97,9 @@ pub fn going(
     }
 }
 
-/// Returns the first reason why a module can't be loaded, or `None`. Lack of room is computed before the other reasons,
-/// since its proof also bounds the records (docs/DECISIONS.md, "Room computed before the refusals").
+/// Returns the first reason why a module can't be loaded. Returns `None` if it can be loaded. Lack of room is computed
+/// before the other reasons, since its proof also bounds the records (docs/DECISIONS.md, "Room computed before the
+/// refusals").
 pub fn coming_refusal(state: &ManagerState, catalog: &Catalog, object: ObjId) -> Option<Refusal>
     requires { Invariant state.now catalog.now }
     ensures refusal { result ≡ refused_in state.now catalog.now (Coming object) }
@@ -120,8 +121,8 @@ pub fn coming_refusal(state: &ManagerState, catalog: &Catalog, object: ObjId) ->
     }
 }
 
-/// Returns the first reason why a module can't be unloaded, or `None`. One reason is a task inside of the module; a
-/// kernel counts the module's references instead.
+/// Returns the first reason why a module can't be unloaded. Returns `None` if it can be unloaded. One reason is a task
+/// inside of the module. A kernel counts the references to the module instead.
 pub fn going_refusal(state: &ManagerState, catalog: &Catalog, object: ObjId) -> Option<Refusal>
     requires { Invariant state.now catalog.now }
     ensures refusal { result ≡ refused_in state.now catalog.now (Going object) }
@@ -141,7 +142,7 @@ pub fn going_refusal(state: &ManagerState, catalog: &Catalog, object: ObjId) -> 
     }
 }
 
-/// Whether the image has this object and it isn't `vmlinux`, which is never loaded or unloaded.
+/// Whether the image has this object, and it isn't `vmlinux`. `vmlinux` is never loaded or unloaded.
 fn is_module(state: &ManagerState, object: ObjId) -> bool
     ensures { result ≡ (not (object == 0) && nat_lt object (length state.now.sites.image.objects)) }
 {
@@ -176,28 +177,29 @@ fn lacks_room_to_go(state: &ManagerState, catalog: &Catalog, object: ObjId) -> b
     added > MAX_VARIABLES - usize::from(state.world.count())
 }
 
-/// Returns a copy of the list of installed patches, oldest first. A copy is needed, since callbacks get the world by
-/// `&mut`, so the world's list can't be borrowed while they run.
+/// Returns a copy of the list of installed patches, oldest first. Callbacks get the world by `&mut`, so the world's own
+/// list can't be borrowed while they run.
 fn installed_patches(state: &ManagerState, catalog: &Catalog) -> ArrayVec<PatchId, MAX_PATCHES>
     requires { Invariant state.now catalog.now }
     ensures value { result.items ≡ installed_patches (state_in state.now catalog.now) }
     ensures few { length result.items ≤ MAX_PATCHES }
     ensures numbers { All (λ p. p < MAX_PATCHES) result.items }
     ensures replace { count_by (is_cumulative catalog.now) result.items ≤ 2 }
-    // the entries of all these patches fit, over all sites
+    // for all sites together, the entries of all these patches fit
     ensures fit { FindRoom (λ site. entries_from (setting_in state.now catalog.now) site
         (reverse (installed_patches (state_in state.now catalog.now)))) (length state.now.sites.stacks) }
 {
     klp_model::laws::at_most_two_patches_replace();
-    // called for their contracts, which bound the entries
+    // called for their contracts, from which the number of entries is bounded
     let _patches = catalog.patches();
     let _sites = state.sites.sites();
     state.world.installed_list()
 }
 
-/// Loads a module. The caller has checked that nothing refuses this. All callbacks run before the entries are put on
-/// the module's sites, so a refused module gets no entry. Nobody sees this order, since callbacks see no function
-/// stack, and an event is one step (docs/DECISIONS.md, "Callbacks of a module before its entries").
+/// Loads a module. The caller has checked that nothing refuses the event. All callbacks run before the entries are put
+/// on the module's sites, so a refused module gets no entry. Nobody can see that the entries are put on last, since
+/// callbacks see no function stack, and an event is one step (docs/DECISIONS.md, "Callbacks of a module before its
+/// entries").
 fn come(state: &mut ManagerState, catalog: &mut Catalog, object: ObjId) -> BriefReply
     requires kept { Invariant state.old catalog.old }
     requires free { refused_in state.old catalog.old (Coming object) ≡ None }
@@ -220,7 +222,8 @@ fn come(state: &mut ManagerState, catalog: &mut Catalog, object: ObjId) -> Brief
         Some((patch, status)) => BriefReply(Brief::PreFailed(patch, object, status)),
         None => {
             state.log.note(state.sites.load(object));
-            // only the sites log the loaded flag: undo restores both flags from that record
+            // only the sites log the loaded flag: from that one record, undo restores the flag of the sites and the
+            // flag of the names
             state.modules.set_loaded(object, true);
             patch_object(
                 &mut state.sites,
@@ -234,8 +237,8 @@ fn come(state: &mut ManagerState, catalog: &mut Catalog, object: ObjId) -> Brief
     }
 }
 
-/// Unloads a module. The caller has checked that nothing refuses this. As when a module is loaded, all callbacks run
-/// before the entries change. The loaded flag changes last, so that undo first restores the flag and then the entries.
+/// Unloads a module. The caller has checked that nothing refuses the event. As when a module is loaded, all callbacks
+/// run before the entries change. The loaded flag changes last, so that undo restores the flag before the entries.
 fn go(state: &mut ManagerState, catalog: &mut Catalog, object: ObjId) -> BriefReply
     requires kept { Invariant state.old catalog.old }
     requires free { refused_in state.old catalog.old (Going object) ≡ None }

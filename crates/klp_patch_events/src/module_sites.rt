@@ -1,5 +1,5 @@
-//! Putting the entries of all installed patches on the sites of a module, and taking them out. The proofs here also
-//! bound how many records these changes log.
+//! Putting the entries of all installed patches on the sites of a module, and taking them out. The proofs of this
+//! module also bound how many records these changes log.
 ghost use Rattle.std.specs.Prelude.{◌≡◌, ℕ, ◌+◌, ◌*◌, ◌∷◌, ◌<◌, ◌≤◌, true, [], length, reverse, Some, if◌then◌else◌};
 ghost use Rattle.std.specs.List.{All, count_by};
 ghost use Rattle.klp_types.specs.declared.limits.TheConstants.{MAX_FUNCTIONS, MAX_PATCHES, MAX_RECORDS, MAX_SITES};
@@ -23,7 +23,7 @@ use klp_patch::{patch_sites, unpatch_sites};
 use klp_sites::Sites;
 use klp_types::{MAX_PATCHES, ObjId, PatchId};
 
-/// Shows that there are at most `MAX_SITES` stacks, one for each site. Calls `sites` for its contract.
+/// Shows that there are at most `MAX_SITES` stacks, one for each site. `sites` is called for its contract.
 fn stacks_are_few(sites: &Sites)
     requires { site_count sites.now.image ≤ MAX_SITES }
     ensures stacks { length sites.now.stacks ≤ MAX_SITES }
@@ -33,8 +33,8 @@ fn stacks_are_few(sites: &Sites)
     let _sites = sites.sites();
 }
 
-/// Bounds the entries of a patch: a patch has few functions, and only a cumulative patch has nops. Calls `functions`
-/// for its contract.
+/// Bounds the number of a patch's entries: a patch has few functions, and only a cumulative patch has nops. `functions`
+/// is called for its contract.
 fn entries_are_few(sites: &Sites, catalog: &Catalog, patch: PatchId)
     requires { length sites.now.stacks ≤ MAX_SITES }
     ensures { most_entries catalog.now patch sites.now
@@ -44,7 +44,7 @@ fn entries_are_few(sites: &Sites, catalog: &Catalog, patch: PatchId)
 }
 
 /// Puts the entries of these patches on the sites of one object, which have no entries yet. Goes from the oldest patch
-/// to the newest, so that each stack has the order in which the patches were enabled.
+/// to the newest. So the entries of each stack are in the order in which the patches were enabled.
 pub(crate) fn patch_object(
     sites: &mut Sites,
     catalog: &Catalog,
@@ -80,7 +80,7 @@ pub(crate) fn patch_object(
     }
 }
 
-/// Takes the entries of these patches out of the sites of one object. The sites have entries of no other patch, so no
+/// Takes the entries of these patches out of the sites of one object. No other patch has entries at these sites, so no
 /// entry is left.
 pub(crate) fn unpatch_object(
     sites: &mut Sites,

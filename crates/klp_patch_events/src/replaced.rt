@@ -1,4 +1,4 @@
-//! What a cumulative patch replaces when its transition completes (cumulative-patches).
+//! The patches that a cumulative patch replaces when its transition completes (cumulative-patches).
 ghost use Rattle.std.specs.Prelude.{◌≡◌, ℕ, ◌+◌, ◌*◌, ◌≤◌, true, None, Some, not, ◌==◌, length, map, slice_get};
 ghost use Rattle.std.specs.Prelude.{if◌then◌else◌};
 ghost use Rattle.std.specs.List.{filter, count_by};
@@ -24,9 +24,9 @@ use klp_sites::Sites;
 use klp_types::{MAX_FUNCTIONS, MAX_SITES, PatchId};
 use klp_world::World;
 
-/// Returns the patches that are before this one in the list, or the whole list if this one isn't in it. If a cumulative
-/// patch was disabled and enabled again, there may be no patches before it, and newer ones after it, which stay
-/// (docs/DECISIONS.md, "Cumulative patches below newer ones").
+/// Returns the patches that are before `patch` in the list. If `patch` isn't in the list, returns the whole list. If a
+/// cumulative patch was disabled and enabled again, there may be no patches before it. In this case there may be newer
+/// patches after it, which stay (docs/DECISIONS.md, "Cumulative patches below newer ones").
 pub(crate) fn older_than(patch: PatchId, installed: &[PatchId]) -> &[PatchId]
     ensures { result.now ≡ installed_before patch installed.now }
 {
@@ -38,8 +38,8 @@ pub(crate) fn older_than(patch: PatchId, installed: &[PatchId]) -> &[PatchId]
     installed
 }
 
-/// Takes the entries of these patches out of the stacks of all loaded sites. The stacks that are left don't depend on
-/// the order of the patches; only the records do.
+/// Takes the entries of these patches out of the stacks of all loaded sites. The order of the patches affects only the
+/// records, and not the stacks that are left.
 pub(crate) fn unpatch_each(
     sites: &mut Sites,
     catalog: &Catalog,
@@ -70,16 +70,16 @@ pub(crate) fn unpatch_each(
     }
 }
 
-/// Returns the number of the oldest installed patch, or `None` if there is none. The number is a copy, since the caller
-/// changes the world next.
+/// Returns the number of the oldest installed patch. Returns `None` if no patch is installed. The number is a copy,
+/// since the caller changes the world next.
 fn oldest(world: &World) -> Option<PatchId>
     ensures { result ≡ slice_get (map (λ (i : Installed). i.patch) world.now.installed) 0 }
 {
     world.installed().first().copied()
 }
 
-/// Takes the patches before this one out of the list, oldest first. So the next patch to take out is always the first
-/// of the list.
+/// Takes the patches before `patch` out of the list, oldest first. So the next patch to take out is always the first of
+/// the list.
 pub(crate) fn drop_older(world: &mut World, patch: PatchId, log: &mut Records)
     requires records { length log.old.logged ≤ RECORDS_AFTER_CALLBACKS }
     requires log { log.old.room ≡ MAX_RECORDS }

@@ -5,11 +5,11 @@ ghost use Rattle.klp_sites.specs.Hooked.{bit_of, IsLowestFrom, IsNextSet};
 
 use klp_types::{MAX_SITES, Site};
 
-/// How many sites one word has bits for.
+/// How many bits a word has. Each bit stands for one site.
 const WORD: usize = u64::BITS as usize;
 
-/// The hooked sites, one bit each (the sites of the kernel's list `klp_ops`). A walk over them visits no other
-/// site.
+/// The hooked sites, one bit for each site (the sites of the kernel's list `klp_ops`). A walk over the set visits no
+/// site that isn't hooked.
 #[derive(Clone, Copy)]
 pub(crate) struct HookedSites {
     words: [u64; MAX_SITES / WORD],
@@ -45,7 +45,7 @@ impl HookedSites {
         self.words[number / WORD] &= !(1u64 << (number % WORD));
     }
 
-    /// Returns the lowest hooked site whose number is at least `from`. The cost is one step for each word of 64 sites
+    /// Returns the lowest hooked site whose number is at least `from`. The cost is one step for each word of 64 bits
     /// that the search skips.
     pub(crate) fn next(&self, from: usize) -> Option<Site>
         ensures some { IfSome result (λ site. IsNextSet self.now.words from site) }

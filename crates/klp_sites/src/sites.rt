@@ -22,13 +22,13 @@ use std::marker::Model;
 
 /// The image and the function stacks of its sites.
 ///
-/// [`Sites::new`] allocates all memory. Each change logs or returns an undo record for every row that it changes. These
-/// records, put back newest first, restore the table before the changes.
+/// [`Sites::new`] allocates all memory. Each change logs or returns an undo record for every row that it changes. If
+/// these records are put back newest first, the table is as it was before the changes.
 #[derive(Drop)]
 pub struct Sites {
     image: Image,
     stacks: Stacks,
-    /// The sites that have an entry. A walk over them costs nothing for the other sites.
+    /// The sites that have an entry. A walk over these sites costs nothing for sites without an entry.
     hooked: HookedSites,
 }
 
@@ -46,7 +46,7 @@ impl Model for Sites {
         × AreHooked s.hooked.words s.stacks };
 }
 
-/// Counts the sites of all objects of an image, loaded or not: each needs a stack from the start.
+/// Counts the sites of all objects of an image, loaded or not, since each site needs a stack from the start.
 fn count_sites(image: &Image) -> usize
     ensures value { result ≡ site_count image.now.image }
     ensures few { result ≤ MAX_SITES }
@@ -86,7 +86,7 @@ impl Sites {
         ensures changes { Changes self.old self.new log.old log.new (pushed self.old site entry)
             (rows_of_push self.old site entry) }
     {
-        // A nop counts as an entry too, because the handler has to run for it.
+        // An entry that is a nop hooks the site too, because the handler has to run for a nop.
         let Entry { patch, func: _ } = entry;
         let is_first = self.stacks.push(site, entry);
         log.note(Record::StackEntry {
@@ -103,7 +103,7 @@ impl Sites {
 
     /// Takes the entry of a patch out of a site's stack, if the patch has one there. Taking the last entry of a site
     /// also unhooks the site, so that a call of an unpatched function costs nothing extra. The cost is the number of
-    /// entries above the patch's.
+    /// entries above the patch's entry.
     #[inline(always)]
     pub fn take(&mut self, site: Site, patch: PatchId, log: &mut Records)
         requires records { length (rows_of_take self.old site patch) ≤ spare_of log.old }
@@ -123,7 +123,7 @@ impl Sites {
         }
     }
 
-    /// Does what `take` does, without logging. Undo shares this code.
+    /// Does the same as `take`, but logs nothing. Undo uses this function too.
     #[inline(always)]
     fn take_out(&mut self, site: Site, patch: PatchId) -> Option<Taken>
         ensures place { option_map (λ taken. taken.place) result
@@ -144,9 +144,9 @@ impl Sites {
         Some(taken)
     }
 
-    /// Marks an object as loaded, and returns the undo record, which says whether it was loaded before. The hooks of
-    /// its sites don't change: the caller puts the entries of a module on its sites by separate calls. The cost is
-    /// constant.
+    /// Marks an object as loaded, and returns the undo record, which says whether the object was loaded before. The
+    /// hooks of the object's sites don't change. The caller puts the entries of a module on its sites by separate
+    /// calls. The cost is constant.
     pub fn load(&mut self, object: ObjId) -> Record
         requires { object < length self.old.image.objects }
         ensures row { result ≡ Record.LoadedFlag object (slice_index_or self.old.loaded object false) }
@@ -156,8 +156,9 @@ impl Sites {
         self.set_loaded(object, true)
     }
 
-    /// Marks an object as not loaded, and returns the undo record, which says whether it was loaded before. The
-    /// hooks of its sites don't change: the caller takes the entries out itself. The cost is constant.
+    /// Marks an object as not loaded, and returns the undo record, which says whether the object was loaded before. The
+    /// hooks of the object's sites don't change. The caller takes the entries out by separate calls. The cost is
+    /// constant.
     pub fn unload(&mut self, object: ObjId) -> Record
         requires { object < length self.old.image.objects }
         ensures row { result ≡ Record.LoadedFlag object (slice_index_or self.old.loaded object false) }
@@ -167,10 +168,10 @@ impl Sites {
         self.set_loaded(object, false)
     }
 
-    /// Restores the one row that the record names: an entry, with its site's hook, or an object's loaded flag. Nothing
-    /// changes if there is no such site or object, or if the record is of another kind. The record of a hook changes
-    /// nothing either. The record of the site's entry is put back right after it, and restores the hook too
-    /// (docs/DECISIONS.md, "Hooks in undo"). The cost is at most the stack's height.
+    /// Restores the one row that the record names: an entry, with its site's hook, or an object's loaded flag. Does
+    /// nothing if there is no such site or object, or if the record is of another kind. The record of a hook changes
+    /// nothing either. The record of the site's entry is put back right after the hook's record, and restores the hook
+    /// too (docs/DECISIONS.md, "Hooks in undo"). The cost is at most the stack's height.
     pub fn put_back(&mut self, row: Record)
         requires due { is_due self.old row ≡ true }
         ensures { self.new ≡ put_back self.old row }
@@ -183,8 +184,8 @@ impl Sites {
     }
 
     /// Puts a patch's entry back at its place `was`, or takes the entry out if `was` is `None`. `put_back` of the
-    /// entry's record does the same. The hook is written only if the site gets its first entry or loses its last. The
-    /// cost is at most the stack's height.
+    /// entry's record has the same effect. The hook is written only if the site gets its first entry or loses its last
+    /// one. The cost is at most the stack's height.
     #[inline(always)]
     pub fn put_entry(&mut self, site: Site, patch: PatchId, was: Option<Place>)
         requires { is_some was ≡ true → 0 < spare_in self.old.stacks }
@@ -204,7 +205,7 @@ impl Sites {
         }
     }
 
-    /// Sets an object's loaded flag back. Nothing changes if there is no such object.
+    /// Sets an object's loaded flag back to `was`. Does nothing if there is no such object.
     fn put_loaded(&mut self, object: ObjId, was: bool)
         ensures { self.new ≡ put_loaded self.old object was }
     {
@@ -213,8 +214,8 @@ impl Sites {
         }
     }
 
-    /// Sets an object's loaded flag, and returns the undo record, which has the old flag. Changes and undo share this
-    /// code.
+    /// Sets an object's loaded flag, and returns the undo record, which has the old flag. Both changes and undo use
+    /// this function.
     fn set_loaded(&mut self, object: ObjId, loaded: bool) -> Record
         requires { object < length self.old.image.objects }
         ensures row { result ≡ Record.LoadedFlag object (slice_index_or self.old.loaded object false) }
@@ -231,7 +232,7 @@ impl Sites {
     }
 
     /// Borrows the image: its names, its addresses, and its bytes with the hooks. A caller can't change the image,
-    /// since a hook written from outside wouldn't match the stacks.
+    /// since a hook that a caller wrote wouldn't match the stacks.
     pub fn image(&self) -> &Image
         ensures value { result.now ≡ image_of self.now }
         ensures sites { length self.now.stacks ≡ site_count self.now.image }
@@ -247,7 +248,7 @@ impl Sites {
     }
 
     /// Returns the lowest site, numbered `from` or higher, that has an entry and so is hooked. A walk over all hooked
-    /// sites costs one step for each of them, and one for each 64 sites.
+    /// sites costs one step for each hooked site, and one step for each 64 sites.
     pub fn next_hooked(&self, from: usize) -> Option<Site>
         ensures { MatchOption result ((other : ℕ) → from ≤ other → is_hooked_at self.now.stacks other ≡ false)
             (λ site. IsNextHooked self.now.stacks from site) }
@@ -255,7 +256,7 @@ impl Sites {
         self.hooked.next(from)
     }
 
-    /// Returns how many sites there are, at a constant cost: one for each symbol of the image.
+    /// Returns how many sites there are, at a constant cost. There is one site for each symbol of the image.
     pub fn sites(&self) -> usize
         ensures value { result ≡ length self.now.stacks }
         ensures image { result ≡ site_count self.now.image }
@@ -263,8 +264,8 @@ impl Sites {
         self.stacks.sites()
     }
 
-    /// Borrows the function stacks: which entries a site has, and which version runs there. Like the image, they can't
-    /// be changed by a caller.
+    /// Borrows the function stacks: which entries a site has, and which version runs there. A caller can't change the
+    /// stacks, as it can't change the image.
     pub fn stacks(&self) -> &Stacks
         ensures { result.now ≡ self.now.stacks }
     {

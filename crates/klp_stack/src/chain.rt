@@ -1,4 +1,4 @@
-//! Reads the stack of one site. Its entries are slots of the pool, linked from newest to oldest.
+//! Reads the stack of one site. The entries of a stack are slots of the pool, linked from newest to oldest.
 ghost use Rattle.std.specs.Prelude.{◌≡◌, ◌+◌, ◌-◌, ◌<◌, ◌≤◌, ◌==◌, ◌&&◌, not, nat_lt, find, length, slice_get, is_some};
 ghost use Rattle.std.specs.Prelude.{option_map, IfSome};
 ghost use Rattle.std.specs.Option.{option_to_list};
@@ -14,11 +14,11 @@ use crate::slot::Slot;
 use arrayvec::ArrayVec;
 use klp_types::{Entry, MAX_PATCHES, PatchId, Place, Site, SiteWord, Transition, Version};
 
-/// The function stack of one site (the kernel's `func_stack`). Its entries are linked newest first. The newest is the
-/// entry of the patch that was enabled last, and hides the older ones.
+/// The function stack of one site (the kernel's `func_stack`). Its entries are linked newest first. The newest entry is
+/// that of the patch that was enabled last. The newest entry hides the older entries.
 #[derive(Clone, Copy)]
 pub(crate) struct Chain {
-    /// The number of the slot with the newest entry. It means nothing while `len` is 0.
+    /// The number of the slot with the newest entry. The field means nothing while `len` is 0.
     pub(crate) newest: u16,
     /// How many entries the stack has. A site with 0 entries isn't hooked.
     pub(crate) len: u16,
@@ -33,7 +33,7 @@ pub(crate) struct Lower {
 }
 
 impl Chain {
-    /// Returns the number of the slot that has `newer` entries above it. The cost is `newer` steps.
+    /// Returns the number of the slot that has `newer` entries above it. The cost is proportional to `newer`.
     pub(crate) fn slot(self, slots: &[Slot], newer: u16) -> u16
         requires linked { IsLinked slots.now self.len self.newest }
         requires within { newer < self.len }
@@ -60,9 +60,9 @@ impl Chain {
         }
     }
 
-    /// Returns the place of the patch's entry: its index counted from the oldest entry, and what the entry does.
-    /// Returns `None` if the patch has no entry here. A patch has at most one, so the first that is found is the only
-    /// one.
+    /// Returns the place of the patch's entry: its index counted from the oldest entry, and the function that the entry
+    /// has. Returns `None` if the patch has no entry on this stack. A patch has at most one entry on a stack, so the
+    /// search ends at the first entry that it finds.
     pub(crate) fn place(self, slots: &[Slot], patch: PatchId) -> Option<Place>
         requires linked { IsLinked slots.now self.len self.newest }
         requires few { self.len ≤ MAX_PATCHES }
@@ -82,8 +82,8 @@ impl Chain {
         None
     }
 
-    /// Returns the place of the patch's entry, and the slot above it. Returns `None` if the patch has no entry here, or
-    /// if its entry is the newest.
+    /// Returns the place of the patch's entry, and the slot above it. Returns `None` if the patch has no entry on this
+    /// stack, or if its entry is the newest.
     pub(crate) fn lower(self, slots: &[Slot], patch: PatchId) -> Option<Lower>
         requires linked { IsLinked slots.now self.len self.newest }
         requires some { 0 < self.len }
@@ -109,9 +109,9 @@ impl Chain {
         None
     }
 
-    /// Returns the slot below which an entry of the patch must be put to have the position `index`, counted from the
-    /// oldest. That slot has `index` older entries below it. Returns `None` if the stack has at most `index` entries,
-    /// or if the patch has an entry already.
+    /// Returns the slot just below which an entry of the patch must be put to have the position `index`, counted from
+    /// the oldest. The returned slot has `index` older entries below it. Returns `None` if the stack has at most
+    /// `index` entries, or if the patch has an entry already.
     pub(crate) fn above(self, slots: &[Slot], patch: PatchId, index: u8) -> Option<u16>
         requires linked { IsLinked slots.now self.len self.newest }
         requires few { self.len ≤ MAX_PATCHES }
@@ -154,7 +154,8 @@ impl Chain {
         entries
     }
 
-    /// Returns the entry of a patch, wherever it is on the stack. Returns `None` if the patch has none.
+    /// Returns the entry of a patch, wherever it is on the stack. Returns `None` if the patch has no entry on this
+    /// stack.
     pub(crate) fn entry(self, slots: &[Slot], patch: PatchId) -> Option<Entry>
         requires linked { IsLinked slots.now self.len self.newest }
         requires few { self.len ≤ MAX_PATCHES }
@@ -166,8 +167,9 @@ impl Chain {
         Some(Entry { patch, func })
     }
 
-    /// Returns the two newest entries, and whether the newest one's patch is in transition. An older entry's patch
-    /// isn't checked: even if it were in transition, every task would run the newest entry.
+    /// Returns the two newest entries, and whether the newest entry's patch is in transition. The patches of older
+    /// entries aren't checked. Even if an older entry's patch were in transition, every task would run the newest
+    /// entry.
     pub(crate) fn word(self, slots: &[Slot], moving: Option<PatchId>) -> SiteWord
         requires { IsLinked slots.now self.len self.newest }
         ensures { result ≡ word_of moving (entries_from slots.now self.len self.newest) }
@@ -185,8 +187,9 @@ impl Chain {
     }
 
     /// Returns the version that blocks a sleeper at this site (the kernel's `klp_check_stack_func`). While the patch is
-    /// being disabled, this is the patch's own version. While it is being enabled, this is the version below its entry:
-    /// that of the next older entry, or the original if there is none. Returns `None` if the patch has no entry here.
+    /// being disabled, its own version blocks a sleeper. While the patch is being enabled, the version below its entry
+    /// blocks a sleeper: the version of the next older entry, or the original if there is no older entry. Returns
+    /// `None` if the patch has no entry on this stack.
     pub(crate) fn blocked(self, slots: &[Slot], site: Site, moving: Transition) -> Option<Version>
         requires linked { IsLinked slots.now self.len self.newest }
         requires few { self.len ≤ MAX_PATCHES }

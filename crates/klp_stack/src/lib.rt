@@ -2,16 +2,16 @@
 //! version a task runs there (livepatch, Livepatch life-cycle).
 //!
 //! The model is a list of entries for each site, newest first (`specs/Stack`). `push` puts an entry on top, `take`
-//! takes out the entry of a patch, and `put` puts an entry back at its old place. Each looks the site up once. The
-//! result says whether the site got its first entry or lost its last one. `push` and `take` each have an undo record;
-//! putting this record back restores the stacks (`specs/Changes`, `specs/Undo`). `word` returns the two newest entries,
-//! and `blocked` the version that blocks a sleeper. A site that doesn't exist has no entries.
+//! takes out the entry of a patch, and `put` puts an entry back at its old place. Each of these calls looks the site up
+//! once. The result says whether the site got its first entry or lost its last one. `push` and `take` each have an undo
+//! record. Putting the undo record back restores the stacks (`specs/Changes`, `specs/Undo`). `word` returns the two
+//! newest entries, and `blocked` returns the version that blocks a sleeper. A site that doesn't exist has no entries.
 //!
 //! One pool has the entries of all sites (`specs/Pool`), at most [`MAX_ENTRIES`] together. From outside, only the
 //! number of free slots can be seen (`specs/Spare`).
 //!
-//! [`pick`] returns the version that the definition picks (`specs/Pick`), and needs only a site's word for this. `laws`
-//! says that the word is enough. `src/chain.rt` reads the stack of one site.
+//! [`pick`] returns the version that the definition picks (`specs/Pick`). It needs only the word of a site. `laws` says
+//! that the word is enough. `src/chain.rt` reads the stack of one site.
 #![tactic(auto)]
 
 mod chain;

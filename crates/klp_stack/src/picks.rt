@@ -1,5 +1,5 @@
-//! Which version a call at a site runs (the kernel's `klp_ftrace_handler`). It reads only the two newest entries, since
-//! the decision is made at every call.
+//! Which version a call at a site runs (the kernel's `klp_ftrace_handler`). A version is picked at every call, so only
+//! the two newest entries are read.
 
 ghost use Rattle.std.specs.Prelude.{◌≡◌};
 ghost use Rattle.std.specs.Option.{option_to_list};
@@ -22,8 +22,8 @@ pub fn pick(site: Site, word: SiteWord, state: i8) -> Version
     version_of(site, entry)
 }
 
-/// Returns the version that an entry runs: its new function, or the original if there is no entry. A nop runs the
-/// original too, since a cumulative patch uses nops to restore originals.
+/// Returns the version that an entry runs: the entry's new function, or the original if there is no entry. A nop runs
+/// the original too, since a cumulative patch uses nops to restore originals.
 pub fn version_of(site: Site, entry: Option<Entry>) -> Version
     ensures { result ≡ newest_version site (option_to_list entry) }
 {

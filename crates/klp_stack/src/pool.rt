@@ -1,4 +1,5 @@
-//! The pool of all entries. Its functions give slots to stacks, and take them back.
+//! The pool of all entries. Its functions put entries of stacks into free slots, and free slots when entries are taken
+//! out.
 ghost use Rattle.std.specs.Prelude.{◌≡◌, ◌+◌, ◌-◌, ◌<◌, ◌≤◌, ◌&&◌, not, nat_lt, length, is_some, option_map, IfSome};
 ghost use Rattle.std.specs.Prelude.{IfNone};
 ghost use Rattle.klp_stack.specs.Stack.{has_entry, place_of};
@@ -10,20 +11,20 @@ use crate::chain::{Chain, Lower};
 use crate::slot::{MAX_ENTRIES, Slot};
 use klp_types::{Entry, MAX_PATCHES, PatchId, Place};
 
-/// The slots of all stacks. The slots that no stack uses are linked into a free list.
+/// The slots of all stacks. The slots that aren't used by a stack are linked into a free list.
 #[derive(Drop)]
 pub(crate) struct Pool {
-    /// All slots, by number. There are [`MAX_ENTRIES`] from the start, so no later call takes memory.
+    /// All slots, by number. From the start there are [`MAX_ENTRIES`] slots, so no later call takes memory.
     pub(crate) slots: Vec<Slot>,
-    /// The number of the first free slot. It means nothing while `spare` is 0.
+    /// The number of the first free slot. The field means nothing while `spare` is 0.
     pub(crate) free: u16,
     /// How many slots are free.
     pub(crate) spare: u16,
 }
 
 impl Pool {
-    /// Puts an entry into the first slot of the free list, and links this slot to the slot `older`, which is below it.
-    /// Returns the number of the filled slot.
+    /// Puts an entry into the first slot of the free list, and links this slot to the slot `older`, which is below it
+    /// on the stack. Returns the number of the filled slot.
     #[inline(always)]
     fn fill(&mut self, entry: Entry, older: u16) -> u16
         requires spare { 0 < self.old.spare }
@@ -72,7 +73,7 @@ impl Pool {
         }
     }
 
-    /// Inserts an entry just below the slot `above`, on top of the entries that were below that slot.
+    /// Inserts an entry just below the slot `above`, on top of the entries that were below `above` before.
     fn put_below(&mut self, above: u16, entry: Entry)
         requires spare { 0 < self.old.spare }
         requires there { self.old.free < length self.old.slots.items }
@@ -108,7 +109,7 @@ impl Pool {
         }
     }
 
-    /// Takes out the entry just below the slot `above`, and links `above` to the entry below that one.
+    /// Takes out the entry just below the slot `above`, and links `above` to the next older entry.
     fn take_below(&mut self, above: u16)
         requires spare { self.old.spare < MAX_ENTRIES }
         requires above { above < length self.old.slots.items }
@@ -125,8 +126,9 @@ impl Pool {
         self.release(number);
     }
 
-    /// Takes the entry of a patch out of a stack. Returns the entry's place and the stack that is left, or `None` if
-    /// the patch has no entry there. It tries the newest entry first: most entries are taken out while they are on top.
+    /// Takes the entry of a patch out of a stack. Returns the entry's place and the stack that is left. Returns `None`
+    /// if the patch has no entry there. The newest entry is tried first, since most entries are on top when they are
+    /// taken out.
     #[inline(always)]
     pub(crate) fn take(&mut self, chain: Chain, patch: PatchId) -> Option<(Place, Chain)>
         requires linked { IsLinked self.old.slots.items chain.len chain.newest }
@@ -151,8 +153,8 @@ impl Pool {
         Some((place, self.pop(chain)))
     }
 
-    /// Does what `take` does when the newest entry is another patch's. The cost is the number of entries above the
-    /// patch's.
+    /// Does the same as `take`, for a stack whose newest entry is another patch's. The cost is the number of entries
+    /// above the patch's entry.
     #[cold]
     fn take_lower(&mut self, chain: Chain, patch: PatchId) -> Option<(Place, Chain)>
         requires linked { IsLinked self.old.slots.items chain.len chain.newest }
@@ -175,7 +177,7 @@ impl Pool {
 
     /// Inserts an entry into a stack with `index` older entries below it, and returns the changed stack. Returns `None`
     /// and changes nothing if the stack has fewer entries, if the patch has one already, or if the patch's number is
-    /// out of range. Undo never meets these cases; the checks keep the stack valid in any case.
+    /// out of range. In undo these cases never happen. The checks keep the stack valid for any other caller.
     #[inline(always)]
     pub(crate) fn put(&mut self, chain: Chain, index: u8, entry: Entry) -> Option<Chain>
         requires linked { IsLinked self.old.slots.items chain.len chain.newest }
@@ -198,7 +200,7 @@ impl Pool {
         Some(self.push(chain, entry))
     }
 
-    /// Does what `put` does when the entry doesn't go on top. The cost is the stack's height.
+    /// Does the same as `put`, for an entry that isn't put on top. The cost is the stack's height.
     #[cold]
     fn put_lower(&mut self, chain: Chain, index: u8, entry: Entry) -> Option<Chain>
         requires linked { IsLinked self.old.slots.items chain.len chain.newest }

@@ -24,8 +24,8 @@ use std::marker::Model;
 /// The function stacks of all sites (the kernel's `func_stack` of each `klp_ops`).
 ///
 /// [`Stacks::new`] allocates all memory, for [`MAX_ENTRIES`] entries of all sites together. Each change concerns one
-/// entry, and has a record of what that entry was. These records, put back newest first, restore the stacks before the
-/// changes.
+/// entry, and has a record of the entry before the change. If the records of several changes are put back newest first,
+/// the stacks are restored.
 #[derive(Drop)]
 pub struct Stacks {
     pool: Pool,
@@ -33,10 +33,10 @@ pub struct Stacks {
     chains: Vec<Chain>,
 }
 
-/// What `take` took out of a stack.
+/// The entry that `take` took out of a stack, and whether the stack is empty.
 #[derive(Clone, Copy)]
 pub struct Taken {
-    /// The place that the entry had, and what it does.
+    /// The place and the function that the entry had.
     pub place: Place,
     /// Whether the stack is empty now.
     pub is_last: bool,
@@ -73,8 +73,8 @@ fn free_pool(alloc: Global) -> Result<Pool, AllocError>
 }
 
 impl Stacks {
-    /// Creates an empty stack for each of `sites` sites, and the whole pool: no later call takes memory. Returns `Err`
-    /// if memory is refused.
+    /// Creates an empty stack for each of `sites` sites, and allocates the whole pool, so that no later call takes
+    /// memory. Returns `Err` if memory is refused.
     pub fn new(alloc: Global, sites: usize) -> Result<Self, AllocError>
         ensures { IfOk result (λ stacks. stacks ≡ replicate sites []) }
     {
@@ -86,15 +86,15 @@ impl Stacks {
         Ok(Self { pool, chains })
     }
 
-    /// Returns how many more entries fit: the number of free slots, at a constant cost.
+    /// Returns how many more entries fit. The result is the number of free slots, at a constant cost.
     pub fn spare(&self) -> u16
         ensures { result ≡ spare_in self.now }
     {
         self.pool.spare
     }
 
-    /// Puts an entry on top of a site's stack, at a constant cost. Returns whether it is now the only entry there. The
-    /// undo record of this says that the patch had no entry at the site.
+    /// Puts an entry on top of a site's stack, at a constant cost. Returns whether the entry is now the only entry
+    /// there. The undo record of this change says that the patch had no entry at the site.
     #[inline(always)]
     pub fn push(&mut self, site: Site, entry: Entry) -> bool
         requires there { site < length self.old }
@@ -111,8 +111,8 @@ impl Stacks {
         chain.len == 0
     }
 
-    /// Takes the entry of a patch out of a site's stack, even if there are newer entries above it. Returns `None` if
-    /// the patch has no entry there. The undo record has the entry's place, so that the entry can be put back below the
+    /// Takes the entry of a patch out of a site's stack, even if there are newer entries above. Returns `None` if the
+    /// patch has no entry there. The undo record has the entry's place, so that the entry can be put back below the
     /// newer ones. The cost is the number of newer entries.
     #[inline(always)]
     pub fn take(&mut self, site: Site, patch: PatchId) -> Option<Taken>
@@ -136,9 +136,9 @@ impl Stacks {
         })
     }
 
-    /// Puts an entry of the patch back at its place, counted from the oldest. Returns whether it is now the only entry
-    /// of the site. If the entry doesn't fit there, changes nothing and returns false; records that are put back newest
-    /// first always fit. The cost is at most the stack's height.
+    /// Puts an entry of the patch back at its place, counted from the oldest. Returns whether the entry is now the only
+    /// entry of the site. If the entry doesn't fit there, changes nothing and returns false. If records are put back
+    /// newest first, every entry fits. The cost is at most the stack's height.
     #[inline(always)]
     pub fn put(&mut self, site: Site, patch: PatchId, place: Place) -> bool
         requires { 0 < spare_in self.old }
@@ -175,8 +175,8 @@ impl Stacks {
         }
     }
 
-    /// Whether a site has entries, but none of the patch. Only then does a nop of the patch change what calls there
-    /// run. False for a site that doesn't exist. The cost is at most the stack's height.
+    /// Whether a site has entries, but none of the patch. Only then does a nop of the patch change what a call at the
+    /// site runs. False for a site that doesn't exist. The cost is at most the stack's height.
     pub fn has_only_others(&self, site: Site, patch: PatchId) -> bool
         ensures { result
             ≡ (not (is_empty (entries_at self.now site)) && not (has_entry patch (entries_at self.now site))) }
@@ -198,7 +198,7 @@ impl Stacks {
     /// number of newer entries.
     pub fn entry(&self, site: Site, patch: PatchId) -> Option<Entry>
         ensures value { result ≡ find (λ (e : AnyEntry). e.patch == patch) (entries_at self.now site) }
-        // This holds of every stack. It is stated so that callers needn't prove it.
+        // This clause holds of every stack. It is stated so that callers needn't prove it.
         ensures stack { IsStack (entries_at self.now site) }
     {
         match self.chains.get(usize::from(site.0)) {
@@ -207,8 +207,8 @@ impl Stacks {
         }
     }
 
-    /// Returns what a call at a site needs to know, at a constant cost. `moving` is the patch in transition, if
-    /// any: the stacks don't store it, since it is the same for all sites.
+    /// Returns what a call at a site needs to know, at a constant cost. `moving` is the patch in transition, if there
+    /// is one. The stacks don't store this patch, since it is the same for all sites.
     pub fn word(&self, site: Site, moving: Option<PatchId>) -> SiteWord
         ensures { result ≡ word_of moving (entries_at self.now site) }
     {
@@ -233,9 +233,9 @@ impl Stacks {
         }
     }
 
-    /// Returns the version at a site that blocks a task: a task inside of this version can't be switched (the kernel's
+    /// Returns the version at a site that blocks a task. A task inside of this version can't be switched (the kernel's
     /// `klp_check_stack_func` looks for such a version). Returns `None` if the patch in transition has no entry there.
-    /// The cost is the number of entries above the patch's.
+    /// The cost is the number of entries above the patch's entry.
     pub fn blocked(&self, site: Site, moving: Transition) -> Option<Version>
         ensures { option_to_list result ≡ blocked_among site moving (entries_at self.now site) }
     {

@@ -1,8 +1,9 @@
 //! The events that change shadow variables (shadow-vars, Implementation details).
 //!
-//! An accepted event first empties the log, and then logs each variable that it changes, as it was before. A refused
-//! event changes nothing. For each event that can be refused, a function `.._refusal` returns why it would be refused,
-//! or `None`. If the journal is full, this function is called, and the event isn't done.
+//! An accepted event first empties the log. Then it logs each variable that it changes, as the variable was before. A
+//! refused event changes nothing. For each event that can be refused, a function `.._refusal` returns the reason, or
+//! `None` if the event would be accepted. If the journal is full, only the function `.._refusal` is called, and the
+//! event isn't done.
 ghost use Rattle.std.specs.Prelude.{◌≡◌, ◌<◌, None, IfNone};
 ghost use Rattle.std.specs.FinMap as finite;
 ghost use Rattle.klp_types.specs.declared.limits.TheConstants.{MAX_VARIABLES};
@@ -22,8 +23,9 @@ use klp_model::{Refusal, Reply};
 use klp_types::{MAX_VARIABLES, ShadowKey, ShadowValue};
 use klp_world::NotAdded;
 
-/// Adds a shadow variable. If it exists already, the event is refused with `Exists`; the kernel warns instead and
-/// returns nothing (`klp_shadow_alloc`). If there is no room for another variable, the event is refused with `Full`.
+/// Adds a shadow variable. If the variable exists already, the event is refused with `Exists`. In this case the kernel
+/// warns and returns nothing (`klp_shadow_alloc`). If there is no room for another variable, the event is refused with
+/// `Full`.
 pub fn shadow_alloc(
     state: &mut ManagerState,
     catalog: &Catalog,
@@ -45,7 +47,8 @@ pub fn shadow_alloc(
     }
 }
 
-/// Returns why a variable can't be added, whatever its value, or `None`. `Exists` takes precedence over `Full`.
+/// Returns why a variable can't be added, whatever its value. Returns `None` if it can be added. If both `Exists` and
+/// `Full` apply, returns `Exists`.
 pub fn shadow_alloc_refusal(state: &ManagerState, key: ShadowKey) -> Option<Refusal>
     ensures refusal { (catalog : AnyCatalog) (value : AnyValue)
         → result ≡ refused_in state.now catalog (ShadowAlloc key value) }
@@ -61,7 +64,7 @@ pub fn shadow_alloc_refusal(state: &ManagerState, key: ShadowKey) -> Option<Refu
 }
 
 /// Returns the value of a variable. If the variable doesn't exist, first adds it with the given value
-/// (`klp_shadow_get_or_alloc`). If it exists, nothing changes, and the event is accepted all the same.
+/// (`klp_shadow_get_or_alloc`). If the variable exists, the event changes nothing, and is still accepted.
 pub fn shadow_get_or_alloc(
     state: &mut ManagerState,
     catalog: &Catalog,
@@ -84,8 +87,8 @@ pub fn shadow_get_or_alloc(
     Ok(Reply::Value(there))
 }
 
-/// Returns `Full` if the variable doesn't exist and there is no room for it, else `None`. An existing variable needs no
-/// room.
+/// Returns `Full` if the variable doesn't exist and there is no room for it. Otherwise returns `None`. An existing
+/// variable needs no room.
 pub fn shadow_get_or_alloc_refusal(state: &ManagerState, key: ShadowKey) -> Option<Refusal>
     ensures refusal { (catalog : AnyCatalog) (value : AnyValue)
         → result ≡ refused_in state.now catalog (ShadowGetOrAlloc key value) }
@@ -100,7 +103,7 @@ pub fn shadow_get_or_alloc_refusal(state: &ManagerState, key: ShadowKey) -> Opti
 }
 
 /// Removes a variable if it exists (`klp_shadow_free`). As in the kernel, removing a variable that doesn't exist is no
-/// fault. The reply says how many were removed: 0 or 1.
+/// error. The reply has the number of removed variables: 0 or 1.
 pub fn shadow_free(
     state: &mut ManagerState,
     catalog: &Catalog,
@@ -119,8 +122,8 @@ pub fn shadow_free(
     Ok(BriefReply(Brief::Freed(u16::from(was_there))))
 }
 
-/// Removes all variables of this id (`klp_shadow_free_all`), whatever their parent objects. The reply says how many
-/// were removed. The cost grows with the number of all variables.
+/// Removes all variables of this id (`klp_shadow_free_all`), whatever their parent objects. The reply has the number of
+/// removed variables. The cost grows with the number of all variables.
 pub fn shadow_free_all(
     state: &mut ManagerState,
     catalog: &Catalog,
@@ -140,7 +143,8 @@ pub fn shadow_free_all(
     Ok(BriefReply(Brief::Freed(freed)))
 }
 
-/// Whether no more shadow variables can be added. The limit is this project's own: in a kernel, memory is the limit.
+/// Whether no more shadow variables can be added. The limit is this project's own. In a kernel, only memory limits the
+/// number of variables.
 fn is_full(state: &ManagerState) -> bool
     ensures { result ≡ is_full state.now.world }
 {

@@ -1,8 +1,8 @@
-//! The events of tasks (livepatch, Consistency model). The cost of each doesn't depend on what is installed.
+//! The events of tasks (livepatch, Consistency model). The cost of each event doesn't depend on what is installed.
 //!
-//! An accepted event changes one task's row, and afterwards the log has only the old row. A refused event changes
-//! nothing. For each event a function `.._refusal` returns why it would be refused, or `None`. If the journal is full,
-//! this function is called, and the event isn't done.
+//! An accepted event changes one task's row. Afterwards the log has only the old row. A refused event changes nothing.
+//! For each event, a function `.._refusal` returns the reason why the event would be refused, or `None` if it would be
+//! accepted. If the journal is full, only the function `.._refusal` is called, and the event isn't done.
 ghost use Rattle.std.specs.Prelude.{◌≡◌, ◌<◌, not, true, false, ℕ, List, [], ◌∷◌, length, is_some, option_map, IfOk};
 ghost use Rattle.std.specs.Prelude.{IfNone};
 ghost use Rattle.std.specs.List.{list_any};
@@ -32,7 +32,8 @@ use klp_model::{Refusal, Reply};
 use klp_tasks::{Tasks, target_state};
 use klp_types::{Frames, MAX_TASKS, Mode, PatchState, TaskId, Transition, Version};
 
-/// Begins a task in user space. If there is a transition, the task is at its target, since it has run nothing yet.
+/// Begins a task in user space. If there is a transition, the new task is at its target, since the task has run nothing
+/// yet.
 pub fn new_task(state: &mut ManagerState, task: TaskId) -> Result<BriefReply, Refusal>
     requires room { state.old.log.room ≡ MAX_RECORDS }
     ensures taken { TakesEventAlone state.old state.new (NewTask task) result }
@@ -50,8 +51,8 @@ pub fn new_task(state: &mut ManagerState, task: TaskId) -> Result<BriefReply, Re
     Ok(BriefReply(Brief::Done))
 }
 
-/// Returns why a task can't begin, or `None`. The reasons are that the number is too large, or that a task with this
-/// number exists.
+/// Returns why a task can't begin, or `None` if it can. The reasons are that the number is too large, or that a task
+/// with this number exists.
 pub fn new_task_refusal(state: &ManagerState, task: TaskId) -> Option<Refusal>
     ensures refusal { (catalog : AnyCatalog) → result ≡ refused_in state.now catalog (NewTask task) }
     ensures number { IfNone result (task < MAX_TASKS) }
@@ -67,8 +68,8 @@ pub fn new_task_refusal(state: &ManagerState, task: TaskId) -> Option<Refusal>
     }
 }
 
-/// Makes a second task from one that is in the kernel, with the same patch state, since both are in the middle of the
-/// same functions (the kernel's `klp_copy_process`).
+/// Makes a second task from a task that is in the kernel. Both tasks are in the middle of the same functions, so the
+/// second gets the patch state of the first (the kernel's `klp_copy_process`).
 pub fn fork(state: &mut ManagerState, parent: TaskId, child: TaskId) -> Result<BriefReply, Refusal>
     requires room { state.old.log.room ≡ MAX_RECORDS }
     ensures taken { TakesEventAlone state.old state.new (Fork parent child) result }
@@ -86,7 +87,8 @@ pub fn fork(state: &mut ManagerState, parent: TaskId, child: TaskId) -> Result<B
     Ok(BriefReply(Brief::Done))
 }
 
-/// Returns why a task can't start another, or `None`. Both numbers are checked before the mode, as for other events.
+/// Returns why a task can't start another task, or `None` if it can. Both numbers are checked before the mode, as in
+/// other events.
 pub fn fork_refusal(state: &ManagerState, parent: TaskId, child: TaskId) -> Option<Refusal>
     ensures refusal { (catalog : AnyCatalog) → result ≡ refused_in state.now catalog (Fork parent child) }
     ensures there { IfNone result (is_some (task_at state.now.tasks parent) ≡ true) }
@@ -105,7 +107,7 @@ pub fn fork_refusal(state: &ManagerState, parent: TaskId, child: TaskId) -> Opti
     }
 }
 
-/// Ends a task that isn't asleep. A sleeper must wake up first, since it is inside of functions.
+/// Ends a task that isn't asleep. A sleeper is inside of functions, so it must wake up first.
 pub fn end_task(state: &mut ManagerState, task: TaskId) -> Result<BriefReply, Refusal>
     requires room { state.old.log.room ≡ MAX_RECORDS }
     ensures taken { TakesEventAlone state.old state.new (EndTask task) result }
@@ -123,7 +125,7 @@ pub fn end_task(state: &mut ManagerState, task: TaskId) -> Result<BriefReply, Re
     Ok(BriefReply(Brief::Done))
 }
 
-/// Returns why a task can't end, or `None`. The reasons are that it doesn't exist, or that it sleeps.
+/// Returns why a task can't end, or `None` if it can. The reasons are that the task doesn't exist, or that it sleeps.
 pub fn end_task_refusal(state: &ManagerState, task: TaskId) -> Option<Refusal>
     ensures refusal { (catalog : AnyCatalog) → result ≡ refused_in state.now catalog (EndTask task) }
     ensures there { IfNone result (is_some (task_at state.now.tasks task) ≡ true) }
@@ -137,7 +139,8 @@ pub fn end_task_refusal(state: &ManagerState, task: TaskId) -> Option<Refusal>
     }
 }
 
-/// Lets a task enter the kernel. Its patch state stays: the task switches when it leaves the kernel.
+/// Lets a task enter the kernel. The task's patch state doesn't change, since the task switches when it leaves the
+/// kernel.
 pub fn enter_kernel(state: &mut ManagerState, task: TaskId) -> Result<BriefReply, Refusal>
     requires room { state.old.log.room ≡ MAX_RECORDS }
     ensures taken { TakesEventAlone state.old state.new (EnterKernel task) result }
@@ -156,8 +159,8 @@ pub fn enter_kernel(state: &mut ManagerState, task: TaskId) -> Result<BriefReply
     Ok(BriefReply(Brief::Done))
 }
 
-/// Returns why a task can't enter the kernel, or `None`. The reasons are that it doesn't exist, or that it isn't in
-/// user space.
+/// Returns why a task can't enter the kernel, or `None` if it can. The reasons are that the task doesn't exist, or that
+/// it isn't in user space.
 pub fn enter_kernel_refusal(state: &ManagerState, task: TaskId) -> Option<Refusal>
     ensures refusal { (catalog : AnyCatalog) → result ≡ refused_in state.now catalog (EnterKernel task) }
     ensures there { IfNone result (is_some (task_at state.now.tasks task) ≡ true) }
@@ -166,7 +169,7 @@ pub fn enter_kernel_refusal(state: &ManagerState, task: TaskId) -> Option<Refusa
     refusal_unless_in(state, task, Mode::User)
 }
 
-/// Lets a task return to user space, and switches it to the target of the transition, if there is one, because it is
+/// Lets a task return to user space. If there is a transition, the task is switched to its target, because the task is
 /// inside of no function any more.
 pub fn exit_to_user(state: &mut ManagerState, task: TaskId) -> Result<BriefReply, Refusal>
     requires room { state.old.log.room ≡ MAX_RECORDS }
@@ -186,7 +189,7 @@ pub fn exit_to_user(state: &mut ManagerState, task: TaskId) -> Result<BriefReply
     Ok(BriefReply(Brief::Done))
 }
 
-/// Returns why a task can't return to user space, or `None`. A sleeper must wake up first.
+/// Returns why a task can't return to user space, or `None` if it can. A sleeper must wake up first.
 pub fn exit_to_user_refusal(state: &ManagerState, task: TaskId) -> Option<Refusal>
     ensures refusal { (catalog : AnyCatalog) → result ≡ refused_in state.now catalog (ExitToUser task) }
     ensures there { IfNone result (is_some (task_at state.now.tasks task) ≡ true) }
@@ -195,8 +198,8 @@ pub fn exit_to_user_refusal(state: &ManagerState, task: TaskId) -> Option<Refusa
     refusal_unless_in(state, task, Mode::Kernel)
 }
 
-/// Puts a task to sleep inside of these functions. Whether it really is inside of them isn't checked: that is a premise
-/// of the consistency laws. The cost grows with the number of frames.
+/// Puts a task to sleep inside of these functions. It isn't checked whether the task really is inside of these
+/// functions: this is a premise of the consistency laws. The cost grows with the number of frames.
 pub fn sleep(
     state: &mut ManagerState,
     catalog: &Catalog,
@@ -220,8 +223,8 @@ pub fn sleep(
     Ok(BriefReply(Brief::Done))
 }
 
-/// Returns why a task can't fall asleep inside of these functions, or `None`. The functions are checked last, since
-/// that costs most.
+/// Returns why a task can't fall asleep inside of these functions, or `None` if it can. The functions are checked last,
+/// since this check costs most.
 pub fn sleep_refusal(
     state: &ManagerState,
     catalog: &Catalog,
@@ -244,8 +247,8 @@ pub fn sleep_refusal(
     }
 }
 
-/// Wakes a task up in the kernel. The reply has the functions that it slept inside of, since they are removed from the
-/// task's row.
+/// Wakes a task up in the kernel. The reply has the functions inside of which the task slept, since they are removed
+/// from the task's row.
 pub fn wake(state: &mut ManagerState, task: TaskId) -> Result<Reply, Refusal>
     requires room { state.old.log.room ≡ MAX_RECORDS }
     ensures taken { TakesEventAlone state.old state.new (Wake task) result }
@@ -265,7 +268,8 @@ pub fn wake(state: &mut ManagerState, task: TaskId) -> Result<Reply, Refusal>
     Ok(Reply::Woken(frames))
 }
 
-/// Returns why a task can't wake up, or `None`. The reasons are that it doesn't exist, or that it doesn't sleep.
+/// Returns why a task can't wake up, or `None` if it can. The reasons are that the task doesn't exist, or that it
+/// doesn't sleep.
 pub fn wake_refusal(state: &ManagerState, task: TaskId) -> Option<Refusal>
     ensures refusal { (catalog : AnyCatalog) → result ≡ refused_in state.now catalog (Wake task) }
     ensures there { IfNone result (is_some (task_at state.now.tasks task) ≡ true) }
@@ -274,8 +278,8 @@ pub fn wake_refusal(state: &ManagerState, task: TaskId) -> Option<Refusal>
     refusal_unless_in(state, task, Mode::Asleep)
 }
 
-/// Returns `NoTask` if the task doesn't exist, and `WrongMode` if it exists in another mode. Returns `None` if it is in
-/// this mode.
+/// Returns `None` if the task is in this mode. Returns `NoTask` if the task doesn't exist, and `WrongMode` if it is in
+/// another mode.
 fn refusal_unless_in(state: &ManagerState, task: TaskId, mode: Mode) -> Option<Refusal>
     ensures refusal { result
         ≡ first_of ((not (is_some (task_at state.now.tasks task)), NoTask)
@@ -292,7 +296,8 @@ fn refusal_unless_in(state: &ManagerState, task: TaskId, mode: Mode) -> Option<R
     }
 }
 
-/// Empties the log, and logs the row of this task as it is before the event. So a task event logs exactly one record.
+/// Empties the log, and logs the row of this task as the row is before the event. So a task event logs exactly one
+/// record.
 fn log_alone(tasks: &Tasks, task: TaskId, log: &mut Records)
     requires { log.old.room ≡ MAX_RECORDS }
     ensures { log.new ≡ record log.old { logged = record_of task (task_at tasks.now task) ∷ [] } }
@@ -301,7 +306,8 @@ fn log_alone(tasks: &Tasks, task: TaskId, log: &mut Records)
     tasks.log_row(task, log);
 }
 
-/// Returns the patch state of a task that switches now: the target of the transition, or -1 without one.
+/// Returns the patch state to which a task switches now: that of the transition's target, or -1 if there is no
+/// transition.
 fn state_wanted(moving: Option<Transition>) -> PatchState
     ensures { result ≡ state_wanted moving }
 {
@@ -311,7 +317,7 @@ fn state_wanted(moving: Option<Transition>) -> PatchState
     }
 }
 
-/// Whether a task of this number exists.
+/// Whether a task with this number exists.
 fn is_there(state: &ManagerState, task: TaskId) -> bool
     ensures value { result ≡ is_some (task_at state.now.tasks task) }
     ensures limit { length state.now.tasks ≡ MAX_TASKS }
@@ -329,8 +335,8 @@ fn is_in(state: &ManagerState, task: TaskId, mode: Mode) -> bool
     }
 }
 
-/// Returns a copy of a task's frames. The copy is empty if the task doesn't exist. The caller makes it before the task
-/// wakes up.
+/// Returns a copy of a task's frames. The copy is empty if the task doesn't exist. The copy must be made before the
+/// task wakes up.
 fn frames_of(state: &ManagerState, task: TaskId) -> Frames
     ensures { result ≡ frames_of (task_at state.now.tasks task) }
 {
@@ -340,8 +346,8 @@ fn frames_of(state: &ManagerState, task: TaskId) -> Frames
     }
 }
 
-/// Whether a version doesn't exist: the image has no such site, or the catalog no such function. The version's object
-/// need not be loaded.
+/// Whether a version doesn't exist, because the image has no such site or the catalog has no such function. The
+/// version's object need not be loaded.
 fn is_bad(state: &ManagerState, catalog: &Catalog, version: Version) -> bool
     requires { Invariant state.now catalog.now }
     ensures { result ≡ is_bad (setting_in state.now catalog.now) version }

@@ -1,5 +1,5 @@
-//! What is proved of the definitions themselves. Each law is the contract of a function that does nothing; a crate
-//! above may rely on it.
+//! What is proved of the definitions themselves. Each law is the contract of a function that does nothing. A crate
+//! above may rely on the laws.
 ghost use Rattle.std.specs.Prelude.{◌≡◌, ℕ, ◌≤◌, List, length};
 ghost use Rattle.klp_types.specs.declared.task.Task.{Task as AnyTask};
 ghost use Rattle.klp_types.specs.declared.version.Version.{Version as AnyVersion};
@@ -10,7 +10,7 @@ ghost use Rattle.klp_tasks.specs.Changes.{changed, records_switched, HaveEffects
 ghost use Rattle.klp_tasks.specs.Members.{VersionFlags, IsSetOf};
 
 /// Changing one task's row in the table has the same effect as the step that the model defines for a task event. So the
-/// table always agrees with the model's events.
+/// table always agrees with the model.
 pub fn rows_change_as_the_step_says()
     ensures { (state : State) (number : ℕ) (f : AnyTask → AnyTask)
         → change state number f ≡ with_tasks state (changed state.tasks number f) }
@@ -22,14 +22,15 @@ pub fn records_are_few()
         → length (records_switched number before after) ≤ length before }
 {}
 
-/// A switch logs only tasks whose state it changes. So each of its records, put back in its turn, changes a task's row.
+/// A switch logs only tasks whose state it changes. So each of the switch's records changes the row of a task when it
+/// is put back in its turn.
 #[tactic(auto, using(crate::proofs::EffectLemmas::switched_effective))]
 pub fn switches_tell_what_they_change()
     ensures { (before : Tasks) (after : Tasks) → HaveEffects after (records_switched 0 before after) }
 {}
 
-/// For every set of versions there is a list with exactly the same versions. So a fact that is proved for the sets of
-/// all lists holds for every set.
+/// For every set of versions there is a list with exactly the same versions. So if a fact is proved for the set of each
+/// list, it holds for every set.
 pub fn every_set_is_that_of_a_list()
     ensures { (flags : VersionFlags) → (versions : List AnyVersion) × IsSetOf flags versions }
 {}

@@ -3,7 +3,7 @@ ghost use Rattle.std.specs.Int.{bit_at};
 ghost use Rattle.klp_types.specs.declared.limits.TheConstants.{MAX_TASKS};
 ghost use Rattle.klp_tasks.specs.Numbers.{IsLowest};
 
-/// The task numbers in use, one bit each. A walk over them visits no row without a task.
+/// The task numbers in use, one bit for each number. A walk over the numbers visits no row without a task.
 #[derive(Clone, Copy)]
 pub(crate) struct TaskNumbers {
     bits: u64,

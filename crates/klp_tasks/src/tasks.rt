@@ -27,16 +27,16 @@ use std::marker::Model;
 
 /// The tasks by their numbers, from 0 to [`MAX_TASKS`] - 1.
 ///
-/// [`Tasks::new`] allocates all memory. The time to change one task doesn't depend on the number of tasks. The caller
-/// must log the old row before the change, with [`Tasks::log_row`]. A walk over the tasks costs one step for each task
+/// [`Tasks::new`] allocates all memory. The time to change one task doesn't depend on the number of tasks. Before each
+/// change, the caller must log the old row with [`Tasks::log_row`]. A walk over the tasks costs one step for each task
 /// that exists. Only [`Tasks::states`] reads all rows.
 #[derive(Drop)]
 pub struct Tasks {
     rows: Vec<Option<Task>>,
-    /// For each number, the words of its task's frames. They are made when the task falls asleep, so that logging
-    /// the task and putting it back needn't make them again.
+    /// For each number, the words of its task's frames. The words are made when the task falls asleep. So they needn't
+    /// be made again when the task is logged or put back.
     frames: Vec<FrameWords>,
-    /// The numbers in use, so that a walk over all tasks visits only these.
+    /// The numbers in use. A walk over all tasks visits only these numbers.
     numbers: TaskNumbers,
 }
 
@@ -55,8 +55,8 @@ impl Model for Tasks {
         × (t.frames.items ≡ map frames_of t.rows.items) × AreTaken t.numbers.bits t.rows.items };
 }
 
-/// Whether a task isn't at the target yet. A number without a task never lags, so an empty table lets every
-/// transition complete.
+/// Whether a task exists and isn't at the target yet. A number without a task never lags, so in an empty table every
+/// transition can complete.
 fn lags(row: &Option<Task>, target: bool) -> bool
     ensures { result ≡ lags target row.now }
 {
@@ -66,8 +66,8 @@ fn lags(row: &Option<Task>, target: bool) -> bool
     }
 }
 
-/// Returns the patch state of a task that is at this target: 1 if the transition is to the patch, 0 if it is away from
-/// the patch. It is never -1, the state outside of a transition.
+/// Returns the patch state of a task that is at this target: 1 if the target is to run the patch, otherwise 0. The
+/// result is never -1, which is the state outside of a transition.
 pub fn target_state(target: bool) -> PatchState
     ensures { result ≡ at_target target }
 {
@@ -78,8 +78,8 @@ pub fn target_state(target: bool) -> PatchState
     }
 }
 
-/// Whether a task sleeps inside of one of the versions. It is false for a task that isn't asleep, which has no frames
-/// here.
+/// Whether a task sleeps inside of one of the versions. False for a task that isn't asleep, since the table stores no
+/// frames for it.
 fn sleeps_inside(row: &Option<Task>, versions: &VersionSet) -> bool
     ensures { result ≡ sleeps_where (has versions.now) row.now }
 {
@@ -89,8 +89,8 @@ fn sleeps_inside(row: &Option<Task>, versions: &VersionSet) -> bool
     }
 }
 
-/// Whether a task sleeps, and isn't inside of a blocked version. It is false for a task that isn't asleep, since what
-/// the task runs isn't known.
+/// Whether a task sleeps, and isn't inside of a blocked version. False for a task that isn't asleep, since it isn't
+/// known which functions the task is inside of.
 fn is_free(task: &Task, blocked: &VersionSet) -> bool
     ensures { result ≡ (is_mode task.now.mode Asleep && not (list_any (has blocked.now) task.now.frames)) }
 {
@@ -126,8 +126,8 @@ impl Tasks {
         })
     }
 
-    /// Returns the task with this number. Returns `None` if there is no such task; numbers from [`MAX_TASKS`] on never
-    /// have one.
+    /// Returns the task with this number. Returns `None` if there is no such task. No task has a number of
+    /// [`MAX_TASKS`] or more.
     pub fn get(&self, task: TaskId) -> Option<&Task>
         ensures task { option_copied result ≡ task_at self.now task }
         ensures limit { length self.now ≡ MAX_TASKS }
@@ -135,8 +135,8 @@ impl Tasks {
         self.rows.get(usize::from(task.0))?.as_ref()
     }
 
-    /// Returns for each task number the task's patch state, as `/proc/<pid>/patch_state` shows it. The element is
-    /// `None` if no task has the number. It reads all rows.
+    /// Returns for each task number the task's patch state, as `/proc/<pid>/patch_state` shows it. An element is `None`
+    /// if no task has the number. The call reads all rows.
     pub fn states(&self) -> ArrayVec<Option<i8>, MAX_TASKS>
         ensures { result.items ≡ map (option_map (λ (t : AnyTask). t.state)) self.now }
     {
@@ -150,8 +150,8 @@ impl Tasks {
         states
     }
 
-    /// Returns how many tasks aren't at the target. A transition completes when this is 0. It reads no row without
-    /// a task.
+    /// Returns how many tasks aren't at the target. A transition completes when this number is 0. The call reads no row
+    /// without a task.
     pub fn lagging(&self, target: bool) -> u8
         ensures { result ≡ count_by (lags target) self.now }
     {
@@ -165,8 +165,8 @@ impl Tasks {
         count
     }
 
-    /// Whether any task sleeps inside of one of the versions. This switches no task. It reads only the rows that have a
-    /// task, and only the frames of sleepers.
+    /// Whether any task sleeps inside of one of the versions. The call switches no task. It reads only the rows that
+    /// have a task, and only the frames of sleepers.
     pub fn sleeps_in(&self, versions: &VersionSet) -> bool
         ensures { (test : AnyVersion → Bool) → ArePassing versions.now test
             → result ≡ list_any (sleeps_where test) self.now }
@@ -174,8 +174,8 @@ impl Tasks {
         self.any_sleeps_in(versions)
     }
 
-    /// Logs the row of a task number before the row changes. The row may have no task. It is passed to the log by
-    /// reference, and the log encodes it without making a copy first.
+    /// Logs the row of a task number before the row changes. The row may have no task. The row is passed to the log by
+    /// reference, so no copy is made before it is encoded.
     #[inline(always)]
     pub fn log_row(&self, task: TaskId, log: &mut Records)
         requires { 0 < spare_of log.old }
@@ -187,8 +187,8 @@ impl Tasks {
         }
     }
 
-    /// Adds a task, which runs in user space. The caller chooses its patch state, since the table doesn't know the
-    /// transition.
+    /// Adds a task, which runs in user space. The caller chooses the task's patch state, since the table doesn't know
+    /// the transition.
     pub fn add(&mut self, task: TaskId, state: PatchState)
         requires number { task < MAX_TASKS }
         requires free { is_some (task_at self.old task) ≡ false }
@@ -206,7 +206,7 @@ impl Tasks {
     }
 
     /// Adds the task `child`, which the task `parent` starts. The child gets its parent's patch state (the kernel's
-    /// `klp_copy_process`). It runs in the kernel, in the middle of the same functions as its parent.
+    /// `klp_copy_process`). The child runs in the kernel, in the middle of the same functions as its parent.
     pub fn fork(&mut self, parent: TaskId, child: TaskId)
         requires there { is_some (task_at self.old parent) ≡ true }
         requires number { child < MAX_TASKS }
@@ -225,7 +225,7 @@ impl Tasks {
         );
     }
 
-    /// Removes a task. Another task can get its number.
+    /// Removes a task. From then on, another task can get its number.
     pub fn end(&mut self, task: TaskId)
         requires { is_some (task_at self.old task) ≡ true }
         ensures { Changes self.old self.new task (record_of task (task_at self.old task))
@@ -234,8 +234,8 @@ impl Tasks {
         self.replace(task, None);
     }
 
-    /// Moves a task into the kernel. Its patch state doesn't change: a task switches when it leaves the kernel, not
-    /// when it enters.
+    /// Moves a task into the kernel. The task's patch state doesn't change, since a task switches when it leaves the
+    /// kernel, not when it enters.
     #[inline(always)]
     pub fn enter(&mut self, task: TaskId)
         requires { is_some (task_at self.old task) ≡ true }
@@ -249,7 +249,7 @@ impl Tasks {
     }
 
     /// Moves a task to user space, and switches it to the target of the transition, if there is one (kernel exit
-    /// switching). Outside of the kernel it is inside of no function.
+    /// switching). In user space the task is inside of no function.
     #[inline(always)]
     pub fn leave(&mut self, task: TaskId, moving: Option<Transition>)
         requires { is_some (task_at self.old task) ≡ true }
@@ -265,7 +265,7 @@ impl Tasks {
         row.mode = Mode::User;
     }
 
-    /// Puts a task to sleep inside of these frames. While it sleeps, these frames alone decide whether it can be
+    /// Puts a task to sleep inside of these frames. While the task sleeps, only these frames decide whether it can be
     /// switched.
     #[inline(always)]
     pub fn sleep(&mut self, task: TaskId, frames: Frames)
@@ -281,7 +281,7 @@ impl Tasks {
         self.frames[usize::from(task.0)].set(&frames);
     }
 
-    /// Wakes a task, which then runs in the kernel. Its frames aren't known any more.
+    /// Wakes a task, which then runs in the kernel. From then on, the task's frames aren't known.
     #[inline(always)]
     pub fn wake(&mut self, task: TaskId)
         requires { is_some (task_at self.old task) ≡ true }
@@ -296,9 +296,9 @@ impl Tasks {
         self.frames[usize::from(task.0)].clear();
     }
 
-    /// Switches a sleeping task to the target if none of its frames is blocked (stack checking of sleeping tasks).
-    /// Nothing is logged if the task doesn't change, or if no task has the number. It reads only the task's frames,
-    /// and not even these if the task is at the target.
+    /// Switches a sleeping task to the target if none of its frames is blocked (stack checking of sleeping tasks). If
+    /// the task doesn't change, or if no task has the number, nothing is logged. The call reads only the task's frames.
+    /// If the task is at the target, it reads no frame.
     pub fn switch_if_clear(
         &mut self,
         task: TaskId,
@@ -315,7 +315,7 @@ impl Tasks {
         let Some(row) = self.get(task) else {
             return;
         };
-        // This check comes first, since it costs less than reading the frames.
+        // The patch state is checked first, since this costs less than reading the frames.
         if has_state(row, state) {
             return;
         }
@@ -326,8 +326,8 @@ impl Tasks {
     }
 
     /// Switches each sleeping task that isn't inside of a blocked version to the target (the kernel's
-    /// `klp_try_switch_task`, for sleepers). Logs each task that changes, in the order of their numbers. It reads only
-    /// the rows that have a task, and only the frames of sleepers that aren't at the target.
+    /// `klp_try_switch_task`, for sleepers). Logs each task that changes, in the order of the task numbers. The call
+    /// reads only the rows that have a task, and only the frames of sleepers that aren't at the target.
     pub fn try_all(&mut self, blocked: &VersionSet, target: bool, log: &mut Records)
         requires { length self.old ≤ spare_of log.old }
         ensures tasks { (versions : List AnyVersion) → IsSetOf blocked.now versions
@@ -341,9 +341,9 @@ impl Tasks {
         }
     }
 
-    /// Sets the patch state of every task, whatever the task is inside of. This is done when a transition starts, when
-    /// it ends, and when it is forced. Logs each task whose state changes, in the order of their numbers. It reads only
-    /// the rows that have a task.
+    /// Sets the patch state of every task, whatever the task is inside of. The states are set when a transition starts,
+    /// when it ends, and when it is forced. Logs each task whose state changes, in the order of the task numbers. The
+    /// call reads only the rows that have a task.
     pub fn set_all(&mut self, state: PatchState, log: &mut Records)
         requires { length (records_switched 0 self.old (all_in state self.old)) ≤ spare_of log.old }
         ensures tasks { self.new ≡ all_in state self.old }
@@ -358,7 +358,7 @@ impl Tasks {
     }
 
     /// Restores the one row that the record names. A record of a number that no task can have changes nothing. A record
-    /// of another part of the state changes nothing either, so every record can be passed to every part.
+    /// of another part of the state changes nothing either. So every record can be passed to every part.
     pub fn put_back(&mut self, row: Record)
         ensures { self.new ≡ put_back self.old row }
     {
@@ -369,8 +369,8 @@ impl Tasks {
         }
     }
 
-    /// Puts a task that is inside of nothing into the row of this number. This is what `put_back` of the task's record
-    /// does. A number that no task can have changes nothing. If the task in the row is already inside of nothing, its
+    /// Puts a task that is inside of nothing into the row of this number. `put_back` of the task's record has the same
+    /// effect. A number that no task can have changes nothing. If the task in the row is already inside of nothing, its
     /// frames aren't written again.
     #[inline(always)]
     pub fn put_without_frames(&mut self, task: TaskId, state: PatchState, mode: Mode)
@@ -388,7 +388,7 @@ impl Tasks {
         self.put(task, Some(was));
     }
 
-    /// Whether a task has this number and is inside of nothing.
+    /// Whether there is a task with this number that is inside of nothing.
     #[inline(always)]
     fn has_no_frames(&self, task: TaskId) -> bool
         ensures { result ≡ true → (now : AnyTask) × ((task_at self.now task ≡ Some now) × (now.frames ≡ [])) }
@@ -400,8 +400,8 @@ impl Tasks {
     }
 
     /// Removes the newest record from the log if it is of a task whose frames still have the same words as in the
-    /// record. Returns what `put_switched` needs of that record. If it returns `None`, the log is unchanged, and may
-    /// still end with such a record.
+    /// record. Returns the facts of that record that `put_switched` needs. If the call returns `None`, the log is
+    /// unchanged, even if it ends with such a record.
     #[inline(always)]
     pub fn take_switched(&self, log: &mut Records) -> Option<SwitchedTask>
         ensures newest { IfSome result (λ was. (now : AnyTask) × ((task_at self.now was.task ≡ Some now)
@@ -411,8 +411,8 @@ impl Tasks {
         log.take_switched(&self.rows, &self.frames)
     }
 
-    /// Restores the patch state and the mode of an existing task. This is what `put_back` of its record does if the
-    /// frames didn't change.
+    /// Restores the patch state and the mode of an existing task. If the frames didn't change, `put_back` of the task's
+    /// record has the same effect.
     #[inline(always)]
     pub fn put_switched(&mut self, task: TaskId, state: PatchState, mode: Mode)
         requires { is_some (task_at self.old task) ≡ true }
@@ -425,8 +425,8 @@ impl Tasks {
         row.mode = mode;
     }
 
-    /// Whether any task sleeps inside of a version of the set. The contract here says this of the set itself. The
-    /// contract of `sleeps_in` says it of any test of versions that agrees with the set.
+    /// Whether any task sleeps inside of a version of the set. This contract is about the set itself. The contract of
+    /// `sleeps_in` is about any test of versions that agrees with the set.
     fn any_sleeps_in(&self, versions: &VersionSet) -> bool
         ensures { result ≡ list_any (sleeps_where (has versions.now)) self.now }
     {
@@ -439,7 +439,8 @@ impl Tasks {
         false
     }
 
-    /// Returns a copy of a task that exists. By the precondition, the arm for a missing task is never reached.
+    /// Returns a copy of a task. The precondition requires that the task exists, so the arm for a missing task is never
+    /// reached.
     fn there(&self, task: TaskId) -> Task
         requires { is_some (task_at self.now task) ≡ true }
         ensures { task_at self.now task ≡ Some result }
@@ -459,7 +460,7 @@ impl Tasks {
         &self.frames[usize::from(task.0)]
     }
 
-    /// Replaces the row of a number. A number that no task can have has no row, and nothing changes.
+    /// Replaces the row of a number. Does nothing if no task can have the number, since the number has no row.
     fn put(&mut self, task: TaskId, row: Option<Task>)
         ensures { self.new ≡ with_task self.old task row }
     {
@@ -471,7 +472,7 @@ impl Tasks {
         }
     }
 
-    /// Replaces a row, as `put` does. The contract also says that the record of the old row undoes the change.
+    /// Replaces a row, as `put` does. In addition, the contract says that the record of the old row undoes the change.
     fn replace(&mut self, task: TaskId, row: Option<Task>)
         ensures { Changes self.old self.new task (record_of task (task_at self.old task))
             (with_task self.old task row) }
@@ -479,9 +480,9 @@ impl Tasks {
         self.put(task, row);
     }
 
-    /// Sets a task's patch state, if the task exists. If this changes the state, logs the old row; an unchanged row has
-    /// no record. The row is passed to the log by reference, and the log encodes it without making a copy first.
-    /// `set_all` calls this for every task, and most tasks have the state already.
+    /// Sets a task's patch state, if the task exists. Logs the old row if the state changes, since an unchanged row has
+    /// no record. The row is passed to the log by reference, so no copy is made before it is encoded. `set_all` calls
+    /// this function for every task, and most tasks have the state already.
     #[inline(always)]
     fn set_state(&mut self, task: TaskId, state: PatchState, log: &mut Records)
         requires { is_some (record_if_switched task (task_at self.old task)

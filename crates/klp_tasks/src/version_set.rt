@@ -7,15 +7,15 @@ ghost use Rattle.klp_tasks.specs.Members.{has, IsSetOf, IsWithin};
 use klp_types::{Frames, MAX_FUNCTIONS, MAX_PATCHES, MAX_SITES, Version};
 use std::marker::Model;
 
-/// A set of versions, for example of those that block a sleeping task. It is not a list but has a flag for each
-/// possible version. So the time of a look-up doesn't depend on the number of versions in the set. No call takes
+/// A set of versions, for example of the versions that block a sleeping task. The set has a flag for each possible
+/// version, and no list. So the time of a look-up doesn't depend on the number of versions in the set. No call takes
 /// memory: the flags are 1,280 bytes, which `new` and `clear` write.
 #[derive(Drop)]
 pub struct VersionSet {
-    /// By site, whether its original is in the set. Every possible site has a flag, so no look-up is needed.
+    /// By site, whether the site's original is in the set. Every possible site has a flag, so no look-up is needed.
     originals: [bool; MAX_SITES],
-    /// By patch and function, whether that new function is in the set. Every possible function has a flag, whether the
-    /// catalog has the function or not.
+    /// By patch and function, whether the new function is in the set. Every possible function has a flag, even if the
+    /// catalog doesn't have the function.
     functions: [[bool; MAX_FUNCTIONS]; MAX_PATCHES],
 }
 
@@ -27,14 +27,14 @@ impl Model for VersionSet {
     ghost view = { λ s. record { originals = s.originals; functions = s.functions } };
 }
 
-/// Returns the flag of a number, or false if the number is out of range. So frames with any numbers can be checked.
+/// Returns the flag of a number, or false if the number is out of range. So frames with any numbers can be looked up.
 fn is_set(flags: &[bool], number: u16) -> bool
     ensures { result ≡ slice_index_or flags.now number false }
 {
     flags.get(usize::from(number)).copied().unwrap_or(false)
 }
 
-/// Sets the flag of a number. The number must be in range, as every number from the catalog is.
+/// Sets the flag of a number. The number must be in range. Every number from the catalog is in range.
 fn set(flags: &mut [bool], number: u16)
     requires { number < length flags.old }
     ensures { (other : ℕ) → slice_index_or flags.new other false ≡ (slice_index_or flags.old other false
@@ -54,7 +54,7 @@ impl VersionSet {
         }
     }
 
-    /// Puts a version into the set. The version may be in the set already, so callers needn't check first.
+    /// Puts a version into the set. The version may be in the set already, so callers needn't check this first.
     pub fn insert(&mut self, version: Version)
         requires { IsWithin version }
         ensures version { (other : AnyVersion) → has self.new other ≡ (has self.old other || is_version other version) }
@@ -69,15 +69,15 @@ impl VersionSet {
         }
     }
 
-    /// Removes all versions. It writes all flags, since the set doesn't know which are set.
+    /// Removes all versions. All flags are written, since the set doesn't know which flags are set.
     pub fn clear(&mut self)
         ensures { IsSetOf self.new [] }
     {
         *self = Self::new();
     }
 
-    /// Whether a version is in the set. False for a site, patch or function that can't exist, so frames needn't be
-    /// checked first.
+    /// Whether a version is in the set. False for a site, patch or function that can't exist. So frames needn't be
+    /// checked before they are looked up.
     pub fn contains(&self, version: Version) -> bool
         ensures { result ≡ has self.now version }
     {
@@ -93,7 +93,7 @@ impl VersionSet {
     }
 
     /// Whether one of the frames is in the set. The innermost frame is checked first, since a sleeper mostly waits in a
-    /// function that it called last. The cost is one look-up for each frame up to the first that is in the set.
+    /// function that it called last. The cost is one look-up for each frame, up to the first frame that is in the set.
     pub(crate) fn holds(&self, frames: &Frames) -> bool
         ensures { result ≡ list_any (has self.now) frames.now }
     {

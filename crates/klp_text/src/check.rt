@@ -10,8 +10,8 @@ use klp_types::{ENTRY_SITE_LEN, MAX_BODY, MAX_OBJECTS, MAX_SITES, ObjectText, Sy
 /// The name of the first object, which is the kernel itself. All other objects are modules.
 const KERNEL: &str = "vmlinux";
 
-/// Returns the first fault that prevents an image of these objects. Returns `None` if there is no fault. The limits are
-/// checked first, since they bound the cost of the other checks.
+/// Returns the first fault because of which no image can be made of these objects. Returns `None` if there is no fault.
+/// The limits are checked first, since they bound the cost of the other checks.
 pub fn image_fault(handler: u64, objects: &[ObjectText]) -> Option<ImageFault>
     ensures { result ≡ faults.image_fault handler objects.now }
 {
@@ -33,7 +33,7 @@ fn is_too_many(objects: &[ObjectText]) -> bool
     objects.len() > MAX_OBJECTS || has_too_many_sites(objects) || has_long_body(objects)
 }
 
-/// Whether the objects have more symbols together than an image may have sites.
+/// Whether all objects together have more symbols than an image may have sites.
 fn has_too_many_sites(objects: &[ObjectText]) -> bool
     ensures { result ≡ nat_lt 256 (length (symbols_of objects.now)) }
 {
@@ -108,8 +108,8 @@ fn symbols_fault(handler: u64, objects: &[ObjectText]) -> Option<ImageFault>
     None
 }
 
-/// Returns the fault of an object's first faulty symbol. `earlier` are the objects before this object, since a symbol
-/// may share an address with one of their symbols.
+/// Returns the fault of an object's first faulty symbol. `earlier` are the objects before this object. They are needed
+/// because a symbol may share an address with a symbol of an earlier object.
 fn object_fault(handler: u64, earlier: &[ObjectText], symbols: &[SymbolText]) -> Option<ImageFault>
     ensures { result ≡ faults.first_fault (faults.symbols_tests handler (symbols_of earlier.now) symbols.now) }
 {
@@ -121,8 +121,8 @@ fn object_fault(handler: u64, earlier: &[ObjectText], symbols: &[SymbolText]) ->
     None
 }
 
-/// Returns the fault of `symbol`, if it has one. `objects` are the objects before its object, and `symbols` are the
-/// symbols before it in its object: it may share an address with any of them.
+/// Returns the fault of `symbol`, if it has one. `objects` are the objects before the symbol's object, and `symbols`
+/// are the symbols before it in its own object. The symbol may share an address with a symbol of either.
 fn symbol_fault(
     handler: u64,
     objects: &[ObjectText],
@@ -144,15 +144,15 @@ fn symbol_fault(
     }
 }
 
-/// Whether a symbol ends beyond the last address, or shares an address with one of the earlier symbols.
+/// Whether a symbol ends beyond the last address, or shares an address with an earlier symbol.
 ///
-/// Each symbol is compared with all symbols before it: at most 256 * 255 / 2 comparisons for an image. The symbols
-/// aren't sorted by address, since sorting takes memory, and their order in the image would be lost (docs/DECISIONS.md,
+/// Each symbol is compared with all symbols before it. An image has at most 256 * 255 / 2 such comparisons. The symbols
+/// aren't sorted by address, since sorting takes memory and would lose their order in the image (docs/DECISIONS.md,
 /// "Overlaps by pairs").
 fn is_in_the_way(objects: &[ObjectText], symbols: &[SymbolText], symbol: &SymbolText) -> bool
     ensures { result ≡ faults.is_in_the_way (symbols_of objects.now ++ symbols.now) symbol.now }
 {
-    // A symbol that ends exactly at 2^64 is refused too, since the address after it doesn't fit in 64 bits
+    // The address after a symbol must fit in 64 bits. So a symbol that ends exactly at 2^64 is refused too
     // (docs/DECISIONS.md, "The last address").
     end_of(symbol) > u128::from(u64::MAX)
         || lies_on_objects(objects, symbol)
@@ -185,7 +185,7 @@ fn share_address(a: &SymbolText, b: &SymbolText) -> bool
     u128::from(a.address) < end_of(b) && u128::from(b.address) < end_of(a)
 }
 
-/// Returns the address after a symbol, in 128 bits, because it may not fit in 64.
+/// Returns the address after a symbol. It may not fit in 64 bits, so the result has 128 bits.
 fn end_of(symbol: &SymbolText) -> u128
     ensures { result ≡ symbol.now.address + length symbol.now.body }
 {

@@ -5,15 +5,15 @@ ghost use Rattle.klp_types.specs.Bytes.{can_reach};
 
 use klp_types::ENTRY_SITE_LEN;
 
-/// The bytes of an entry site that isn't hooked: `nopl 0x0(%rax,%rax,1)`. It is one instruction of five bytes, so no
+/// The bytes of an entry site that isn't hooked: `nopl 0x0(%rax,%rax,1)`. The five bytes are one instruction. So no
 /// task can be in the middle of the bytes that a call overwrites.
 pub const NOP: [u8; ENTRY_SITE_LEN] = [0x0f, 0x1f, 0x44, 0x00, 0x00];
 
-/// The opcode of a near call. Its displacement follows.
+/// The opcode of a near call. The call's displacement follows the opcode.
 const CALL: u8 = 0xe8;
 
 /// ENDBR64, the first instruction of a function that may be called through a pointer while the processor tracks such
-/// calls. It has to stay the first instruction, so a hook is written after it.
+/// calls. ENDBR64 has to stay the first instruction, so a hook is written after it.
 const ENDBR64: [u8; 4] = [0xf3, 0x0f, 0x1e, 0xfa];
 
 /// Returns the offset in a body at which its entry site begins.
@@ -28,8 +28,8 @@ pub fn entry_offset(body: &[u8]) -> usize
     }
 }
 
-/// Returns the displacement of a call at this address: the distance from the instruction after the call to the handler,
-/// as the processor counts it. 128 bits are enough for any two addresses.
+/// Returns the displacement of a call at this address. The displacement is the distance to the handler, counted from
+/// the instruction after the call, as the processor does. 128 bits are enough for any two addresses.
 pub fn displacement(handler: u64, address: u128) -> i128
     requires { address < 2 ^ 65 }
     ensures { result ≡ bytes.displacement handler address }

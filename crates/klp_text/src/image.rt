@@ -16,21 +16,21 @@ use klp_types::{ObjId, ObjectText, Site};
 use std::alloc::{AllocError, Global};
 use std::marker::Model;
 
-/// The text of all objects, loaded or not: their names and symbols, and the bytes of each body at this moment.
+/// The text of all objects, loaded or not: their names and symbols, and the present bytes of each body.
 ///
-/// Sites are numbered over all objects in order. The objects never change; only the loaded flags and the hooks do. Only
-/// `new` takes memory. The cost of every other call is independent of the number of sites.
+/// Sites are numbered over all objects in order. The objects never change. Only the loaded flags and the hooks change.
+/// Only `new` takes memory. The cost of every other call is independent of the number of sites.
 #[derive(Drop)]
 pub struct Image {
     handler: u64,
     /// The objects as the caller passed them. Contracts describe the image by these objects (docs/DECISIONS.md, "Bodies
     /// as they were given").
     objects: Vec<ObjectText>,
-    /// By object, whether it is loaded. `bytes` returns `None` for an object that isn't loaded.
+    /// By object, whether the object is loaded. `bytes` returns `None` for an object that isn't loaded.
     loaded: Vec<bool>,
     /// By object, the site of its first symbol, so that a symbol's site is found without counting.
     first_sites: Vec<u16>,
-    /// By site, the symbol with the bytes that it has now.
+    /// By site, the symbol with its present bytes.
     sites: Vec<StoredSymbol>,
 }
 
@@ -50,12 +50,12 @@ impl Model for Image {
 }
 
 impl Image {
-    /// Makes an image of these objects. Its hooked sites call this handler. At first only object 0 is loaded and
-    /// nothing is hooked: each entry site has the NOP, whatever bytes the given body has there.
+    /// Makes an image of these objects. `handler` is the address that hooked sites call. At first only object 0 is
+    /// loaded and no site is hooked. So each entry site has the NOP, whatever bytes the given body has there.
     ///
     /// Faults are checked in this order: `TooMany`, `NoKernel`, `DuplicateObject`, and then, symbol by symbol,
-    /// `ShortSymbol`, `Displacement` and `Overlap`. `NoMemory` may be reported in place of any of them. The objects are
-    /// dropped on a fault.
+    /// `ShortSymbol`, `Displacement` and `Overlap`. `NoMemory` may be reported in place of any other fault. If there is
+    /// a fault, the objects are dropped.
     ///
     /// Each symbol is compared with all symbols before it, and each body is copied.
     pub fn new(alloc: Global, objects: Vec<ObjectText>, handler: u64) -> Result<Image, ImageFault>
@@ -90,8 +90,8 @@ impl Image {
         self.set_hooked(site, true);
     }
 
-    /// Writes the NOP to an entry site, in one write of five bytes. Then a call runs the original again. Unhooking a
-    /// site that isn't hooked is allowed.
+    /// Writes the NOP to an entry site, in one write of five bytes. From then on, a call runs the original again.
+    /// Unhooking a site that isn't hooked is allowed.
     pub fn unhook(&mut self, site: Site)
         requires { site < site_count self.old.image }
         ensures { self.new ≡ record self.old { hooked = slice_set self.old.hooked site false } }
@@ -107,9 +107,9 @@ impl Image {
         self.sites[usize::from(site.0)].set_hooked(hooked);
     }
 
-    /// Marks an object as loaded: from now on `bytes` returns the bodies of its symbols. The hooks of its sites don't
-    /// change, because hooks follow entries and not modules. The call writes one flag, however many symbols the object
-    /// has. Loading a loaded object is allowed.
+    /// Marks an object as loaded. From now on, `bytes` returns the bodies of its symbols. The hooks of its sites don't
+    /// change, because hooks depend on entries and not on modules. The call writes one flag, however many symbols the
+    /// object has. Loading a loaded object is allowed.
     pub fn load(&mut self, object: ObjId)
         requires { object < length self.old.image.objects }
         ensures { self.new ≡ record self.old { loaded = slice_set self.old.loaded object true } }
@@ -117,8 +117,8 @@ impl Image {
         self.loaded[usize::from(object.0)] = true;
     }
 
-    /// Marks an object as not loaded: from now on `bytes` returns `None` for its symbols. Like loading, this doesn't
-    /// change the hooks of its sites, so the caller unhooks them first. The call writes one flag, whatever the object
+    /// Marks an object as not loaded. From now on, `bytes` returns `None` for its symbols. The hooks of its sites don't
+    /// change, so the caller must unhook the sites first. The call writes one flag, however many symbols the object
     /// has. Unloading an object that isn't loaded is allowed. The caller must not unload `vmlinux`.
     pub fn unload(&mut self, object: ObjId)
         requires { object < length self.old.image.objects }
@@ -127,8 +127,8 @@ impl Image {
         self.loaded[usize::from(object.0)] = false;
     }
 
-    /// Whether an object is loaded. False if there is no such object, so that every number has an answer
-    /// (docs/DECISIONS.md, "Numbers out of range").
+    /// Whether an object is loaded. False if there is no such object, so that the function has a result for every
+    /// number (docs/DECISIONS.md, "Numbers out of range").
     pub fn is_loaded(&self, object: ObjId) -> bool
         ensures { result ≡ slice_index_or self.now.loaded object false }
     {
@@ -155,13 +155,13 @@ impl Image {
         Some(self.sites[site].body.as_slice())
     }
 
-    /// Returns the address of an entry site: its symbol's address, or four bytes more if the body begins with
-    /// ENDBR64.
+    /// Returns the address of an entry site. It is the symbol's address, or the address four bytes further if the body
+    /// begins with ENDBR64.
     pub fn address(&self, site: Site) -> u64
         requires { site < site_count self.now.image }
         ensures value { option_map entry_address (symbol_of self.now.image site) ≡ Some result }
-        // The entry site is within 64 bits, and there is an address after it, to which the handler can jump to run
-        // the original.
+        // The entry site is within 64 bits. The address after the entry site is within 64 bits too, so the handler can
+        // jump there to run the original.
         ensures end { result + ENTRY_SITE_LEN < 2 ^ 64 }
     {
         self.sites[usize::from(site.0)].address
@@ -170,7 +170,7 @@ impl Image {
     /// Returns how many objects there are, loaded or not. Loading or unloading an object doesn't change its number.
     pub fn objects(&self) -> u8
         ensures count { result ≡ length self.now.image.objects }
-        // Every image is within these limits, so tables of crates above needn't check them.
+        // Every image is within these limits. So code that builds tables in crates above needn't check the limits.
         ensures limits { IsWithinLimits self.now.image.objects }
     {
         self.objects.len() as u8
@@ -196,8 +196,9 @@ impl Image {
         Some(object.name.as_str())
     }
 
-    /// Returns the name and the address of a symbol, whether its object is loaded or not. `number` counts the symbols
-    /// of the object, from 0, since several may have the same name. Returns `None` if there is no such symbol.
+    /// Returns the name and the address of a symbol, whether the symbol's object is loaded or not. `number` counts the
+    /// symbols of the object, from 0. A name isn't enough to find a symbol, since several symbols may have the same
+    /// name. Returns `None` if there is no such symbol.
     pub fn symbol(&self, object: ObjId, number: u16) -> Option<(&str, u64)>
         ensures name { option_map (λ found. found.0.now) result
             ≡ option_map (λ (s : Symbol). s.name) (given_symbol self.now.image object number) }
@@ -240,8 +241,8 @@ fn symbol_count(objects: &[ObjectText]) -> usize
     count
 }
 
-/// Makes a list of all symbols, by site. Each has a NOP at its entry site, whatever bytes the given body has there.
-/// Each also has the bytes of its call of the handler.
+/// Makes a list of all symbols, by site. At its entry site, each symbol has a NOP, whatever bytes the given body has
+/// there. Each symbol also stores the bytes of its call of the handler.
 fn stored_symbols(
     alloc: Global,
     objects: &[ObjectText],

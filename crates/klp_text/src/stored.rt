@@ -9,11 +9,12 @@ use klp_types::{ENTRY_SITE_LEN, SymbolText};
 use smallvec::SmallVec;
 use std::alloc::{AllocError, Global};
 
-/// The greatest length of a body that is stored inside of its symbol. A longer body takes memory of its own.
+/// The greatest length of a body that is stored inside of its symbol. A longer body is stored in a separate piece of
+/// memory.
 const SHORT_BODY: usize = 32;
 
-/// A symbol with its present bytes. The offset of its entry site and the bytes of the call are computed once. To hook
-/// the site, these bytes are written at this offset.
+/// A symbol with its present bytes. The offset of the entry site and the bytes of the call are computed only once. To
+/// hook the site, the bytes of the call are written at this offset.
 #[derive(Drop)]
 pub struct StoredSymbol {
     /// The address of the entry site.
@@ -52,7 +53,7 @@ impl StoredSymbol {
         })
     }
 
-    /// Writes either a call of the handler or the NOP to the entry site, and sets the flag accordingly. So the bytes
+    /// Writes either a call of the handler or the NOP to the entry site, and sets the flag to `hooked`. So the bytes
     /// and the flag always agree.
     pub fn set_hooked(&mut self, hooked: bool)
         requires { self.old.offset + 5 ≤ length self.old.body.items }
@@ -77,8 +78,8 @@ fn write_entry(body: &mut [u8], offset: usize, entry: &[u8; ENTRY_SITE_LEN])
     write_site(&mut body[offset..offset + ENTRY_SITE_LEN], entry);
 }
 
-/// Writes all five bytes of an entry site in one step, so that no task runs half of them. They are assigned as one
-/// array: a copy from slice to slice would write them one by one.
+/// Writes all five bytes of an entry site in one step, so that no task runs bytes of which only some are written. The
+/// bytes are assigned as one array, since a copy from slice to slice would write them one by one.
 fn write_site(site: &mut [u8], entry: &[u8; ENTRY_SITE_LEN])
     requires { length site.old ≡ 5 }
     ensures { site.new ≡ entry.now }

@@ -1,28 +1,29 @@
-//! The course of a transition: the line from which on it has had its target, and whether it was forced.
+//! The course of a transition: the line since which the transition has had its target, and whether it was forced.
 ghost use Rattle.std.specs.Prelude.{◌≡◌};
 ghost use Rattle.klp_timeline.specs.Course.{after_said, course_of};
 
 use crate::moment::{Fact, Said, Sentence};
 
-/// The line from which on a transition has had its present target.
+/// The line since which a transition has had its present target.
 #[derive(Clone, Copy)]
 pub enum Since {
-    /// The transition started with this line, or was reversed by it.
+    /// The transition started with this line, or this line reversed it.
     Turned(u64),
     /// This line undid events. The transition has had its present target at least since this line.
     Undone(u64),
 }
 
-/// The course of the transition at the end of a run. If there is no transition then, the course of the last one.
+/// The course of the transition at the end of a run. If there is no transition at the end, the course is that of the
+/// last transition.
 #[derive(Clone, Copy)]
 pub struct Course {
-    /// Since when the transition has had its target. `None` if it had this target already before the run.
+    /// The line since which the transition has had its target. `None` if it had this target already before the run.
     pub since: Option<Since>,
-    /// Whether the transition was forced and the force wasn't undone.
+    /// Whether the transition was forced, and the force wasn't undone afterwards.
     pub is_forced: bool,
 }
 
-/// Returns the course after one more sentence. Only a fact about the transition changes it.
+/// Returns the course after one more sentence. Only a fact about the transition changes the course.
 fn after_said(course: Course, sentence: &Sentence) -> Course
     ensures { result ≡ after_said course sentence.now.line sentence.now.said }
 {

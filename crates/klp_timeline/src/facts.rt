@@ -1,4 +1,4 @@
-//! The facts of a line: what it did.
+//! The facts of a line, which are what the line did.
 ghost use Rattle.std.specs.Prelude.{◌≡◌, ◌++◌, ◌==◌, map, OnOk, ◌∷◌, []};
 ghost use Rattle.std.specs.List.{list_any, count_by, flat_map};
 ghost use Rattle.std.specs.Option.{option_to_list};
@@ -10,7 +10,7 @@ use crate::stays::is_transition;
 use klp_types::{PatchId, Transition};
 use std::alloc::AllocError;
 
-/// Returns how many tasks sleep inside of code that they wouldn't call now.
+/// Returns how many tasks sleep inside of code that their calls wouldn't run now.
 pub fn outdated(stays: &[Option<Stay>]) -> usize
     ensures { result ≡ count_by is_outdated stays.now }
 {
@@ -23,8 +23,8 @@ pub fn outdated(stays: &[Option<Stay>]) -> usize
     count
 }
 
-/// Returns what happened to the transition between two views: it started, completed, or was reversed. Returns `None` if
-/// the transition didn't change.
+/// Returns the change of the transition between two views. The transition may have started, completed, or been
+/// reversed. Returns `None` if the transition didn't change.
 fn turn(before: &View, after: &View) -> Option<Fact>
     ensures { result ≡ turn before.now.moving after.now.moving after.now.stays }
 {
@@ -37,7 +37,7 @@ fn turn(before: &View, after: &View) -> Option<Fact>
     }
 }
 
-/// Whether the patch is the one in transition.
+/// Whether the patch is in transition.
 fn is_moving_patch(moving: &Option<Transition>, patch: PatchId) -> bool
     ensures { result ≡ is_moving_patch moving.now patch }
 {
@@ -59,8 +59,8 @@ fn is_among(patch: PatchId, patches: &[PatchId]) -> bool
     false
 }
 
-/// Returns the fact that a patch left. Returns `None` if the patch is still installed. Returns `None` too if it was the
-/// one in transition, since its completion is a separate fact.
+/// Returns the fact that a patch was replaced. Returns `None` if the patch is still installed. Also returns `None` if
+/// the patch was in transition, since its completion is a separate fact.
 fn leave_of(patch: PatchId, moved: &Option<Transition>, installed: &[PatchId]) -> Option<Fact>
     ensures { option_to_list result ≡ leave_of moved.now installed.now patch }
 {
@@ -71,7 +71,7 @@ fn leave_of(patch: PatchId, moved: &Option<Transition>, installed: &[PatchId]) -
     }
 }
 
-/// If there is a fact, appends the sentence that the line did this.
+/// If there is a fact, appends a sentence with this fact and this line.
 fn add_fact(sentences: &mut Vec<Sentence>, fact: Option<Fact>, line: u64) -> Result<(), AllocError>
     ensures { OnOk result (sentences.new.items
         ≡ sentences.old.items ++ map (did line) (option_to_list fact)) }
@@ -83,7 +83,7 @@ fn add_fact(sentences: &mut Vec<Sentence>, fact: Option<Fact>, line: u64) -> Res
     Ok(())
 }
 
-/// Appends a sentence for each patch of the list `before` that left.
+/// Appends a sentence for each patch of the list `before` that was replaced.
 fn add_leaving(
     sentences: &mut Vec<Sentence>,
     moved: &Option<Transition>,
@@ -100,7 +100,7 @@ fn add_leaving(
     Ok(())
 }
 
-/// Appends a sentence for each fact of a line. If the line undid events, that is its only fact.
+/// Appends a sentence for each fact of a line. If the line undid events, the undoing is its only fact.
 pub(crate) fn add_facts(
     sentences: &mut Vec<Sentence>,
     before: &View,

@@ -52,7 +52,7 @@ impl Laggards {
     }
 }
 
-/// Whether a task lags in this mode. `wait` is the task's mode if it lags without blocking the transition.
+/// Whether a task lags in this mode. If the task lags without blocking the transition, `wait` is its mode.
 fn is_in(mode: Mode, wait: &Option<Mode>) -> bool
     ensures { result ≡ is_in mode wait.now }
 {
@@ -64,8 +64,8 @@ fn is_in(mode: Mode, wait: &Option<Mode>) -> bool
     }
 }
 
-/// Returns the tasks that lag in this mode without blocking the transition. `waits` has, for each task that lags
-/// without blocking, its mode.
+/// Returns the tasks that lag in this mode without blocking the transition. For each task that lags without blocking
+/// the transition, `waits` has the task's mode.
 pub fn lagging(mode: Mode, waits: &[Option<Mode>; MAX_TASKS]) -> Laggards
     ensures { result ≡ lagging mode waits.now }
 {

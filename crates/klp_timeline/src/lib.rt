@@ -1,11 +1,11 @@
-//! What a page says of a run: what each line did, which sleepers blocked the transition or slept inside of replaced
-//! code, and from which line to which line they did so.
+//! The sentences that a page has about a run: what each line did, and which sleepers blocked the transition or slept
+//! inside of replaced code. For each sleeper the page says from which line to which line it slept so.
 //!
-//! A run is a list of moments, one for each line ([`Moment`]): what the line did, and what the manager shows after it.
-//! The page has a list of sentences on the run, in the order of the lines where they begin ([`sentences`],
-//! `specs/Sentences`). No stay of a task is missing, none is made up, and each fact is true (`laws`, `specs/Telling`).
-//! If there are too many sentences, the oldest are left out, but none that still lasts at the end (`shown`,
-//! `specs/Shown`).
+//! A run is a list of moments, one for each line ([`Moment`]). A moment says what the line did, and what the manager
+//! shows after the line. The page has a list of sentences on the run, in the order of the lines where the sentences
+//! begin ([`sentences`], `specs/Sentences`). No stay of a task is missing, no stay is invented, and each fact is true
+//! (`laws`, `specs/Telling`). If there are too many sentences, the oldest are left out. No sentence that lasts until
+//! the end of the run is left out (`shown`, `specs/Shown`).
 #![tactic(auto)]
 
 mod course;

@@ -2,17 +2,19 @@ use crate::task_list::TaskList;
 use arrayvec::ArrayVec;
 use klp_types::{MAX_PATCHES, MAX_TASKS, Mode, ObjId, PatchId, TaskId, Transition, Version};
 
-/// A stay of a task: what it sleeps inside of, and why that matters.
+/// A stay of a task: the version inside of which the task sleeps, and why this matters.
 #[derive(Clone, Copy)]
 pub enum Stay {
-    /// The version is blocked and the task isn't at the target, so the transition can't complete.
+    /// The task sleeps in this version, which the transition blocks, and isn't at the target. So the transition can't
+    /// complete.
     Holds(Transition, Version),
-    /// The task sleeps in this version, but a call now would run another one. Either the version was replaced while the
-    /// task slept, which only a force does, or the task was put to sleep in a version that no call runs yet.
+    /// The task sleeps in this version, but its calls would run another version now. There are two possible reasons.
+    /// The version was replaced while the task slept, which only a force does. Or the task was put to sleep in a
+    /// version that its calls don't run yet.
     Outdated(Version),
 }
 
-/// What the manager shows after a line. The arrays have an element for each task number.
+/// The state that the manager shows after a line. The arrays have an element for each task number.
 #[derive(Drop)]
 pub struct View {
     pub moving: Option<Transition>,
@@ -28,57 +30,57 @@ pub struct View {
 pub enum Fact {
     /// The transition was forced.
     Forces(Transition),
-    /// The pre-patch callback of this patch for this object returned this status, so the event had no other effect.
+    /// The pre-patch callback of this patch for this object returned this status. So the event had no other effect.
     PreFailed(PatchId, ObjId, i32),
     /// The module was loaded.
     Comes(ObjId),
     /// The module was unloaded.
     Goes(ObjId),
-    /// Events were undone. The first number is how many events the journal had before, the second how many it has
-    /// after.
+    /// Events were undone. The first number is how many events the journal had before, and the second is how many it
+    /// has afterwards.
     Undoes(u32, u32),
     Starts(Transition),
-    /// The transition was reversed. This is the transition after that.
+    /// The transition was reversed. The field is the reversed transition.
     Reverses(Transition),
-    /// The transition completed, and this many tasks still sleep inside of code that they wouldn't call now.
+    /// The transition completed. Afterwards this many tasks still sleep inside of code that their calls wouldn't run.
     Completes(Transition, usize),
-    /// The patch left, since a cumulative one replaced it.
+    /// The patch isn't installed any more, since a cumulative patch replaced it.
     Leaves(PatchId),
 }
 
 /// A line of a run.
 #[derive(Drop)]
 pub struct Moment {
-    /// What the line did, if that can't be seen from the views before and after.
+    /// The effect of the line, if the views before and after don't show it.
     pub act: Option<Fact>,
     pub view: View,
 }
 
-/// A task that begins a stay with a line.
+/// A task whose stay begins with a line.
 #[derive(Clone, Copy)]
 pub(crate) struct Sleep {
     pub task: TaskId,
     pub stay: Stay,
-    /// The last line of the stay. `None` if it lasts until the end of the run.
+    /// The last line of the stay. `None` if the stay lasts until the end of the run.
     pub to: Option<u64>,
 }
 
-/// Tasks that begin the same stay with the same line, and end it with the same line.
+/// Tasks with the same stay, which begins with the same line and ends with the same line for all of them.
 #[derive(Drop)]
 pub struct Sleepers {
     pub stay: Stay,
-    /// The tasks, at least one.
+    /// The tasks. There is at least one.
     pub tasks: TaskList,
-    /// The last line of the stay. `None` if it lasts until the end of the run.
+    /// The last line of the stay. `None` if the stay lasts until the end of the run.
     pub to: Option<u64>,
 }
 
-/// What a sentence says.
+/// The content of a sentence.
 #[derive(Drop)]
 pub enum Said {
-    /// What the line did.
+    /// A fact of the line.
     Did(Fact),
-    /// These tasks begin a stay with this line.
+    /// Tasks whose stay begins with this line.
     Slept(Sleepers),
 }
 

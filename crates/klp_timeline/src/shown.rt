@@ -4,7 +4,7 @@ ghost use Rattle.klp_timeline.specs.Shown.{is_lasting, is_left_out, excess, left
 
 use crate::moment::{Said, Sentence};
 
-/// How many sentences are shown, unless more of them last until the end of the run.
+/// How many sentences are shown. If more sentences than this last until the end of the run, all of these are shown.
 pub const MAX_SENTENCES: usize = 100;
 
 /// Whether a sentence is about a stay that lasts until the end of the run.
@@ -17,14 +17,14 @@ pub fn is_lasting(sentence: &Sentence) -> bool
     }
 }
 
-/// Returns how many sentences there are above the limit.
+/// Returns by how many sentences the list exceeds the limit, or 0 if it doesn't.
 pub fn excess(sentences: &[Sentence]) -> usize
     ensures { result ≡ excess sentences.now }
 {
     sentences.len().saturating_sub(MAX_SENTENCES)
 }
 
-/// Whether the first sentence of a list is left out, if the list has `excess` sentences too many.
+/// Whether the first sentence of a list is left out, if the list must lose `excess` sentences.
 pub fn is_left_out(excess: usize, sentence: &Sentence) -> bool
     ensures { result ≡ is_left_out excess sentence.now }
 {

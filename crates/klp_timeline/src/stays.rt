@@ -40,7 +40,7 @@ pub(crate) fn is_stay(own: &Stay, other: &Stay) -> bool
     }
 }
 
-/// Whether `other` is this stay. False if it is `None`.
+/// Whether `other` is the stay `stay`. False if `other` is `None`.
 pub(crate) fn is_seen(stay: &Stay, other: &Option<Stay>) -> bool
     ensures { result ≡ is_seen stay.now other.now }
 {
@@ -50,8 +50,8 @@ pub(crate) fn is_seen(stay: &Stay, other: &Option<Stay>) -> bool
     }
 }
 
-/// Returns the last line of a stay that a task is in after `line`. The lines in `rest` follow that line. Returns `None`
-/// if the stay lasts until the end. The cost grows with the length of the stay.
+/// Returns the last line of a stay that a task is in after `line`. `rest` has the lines after `line`. Returns `None` if
+/// the stay lasts until the end. The cost grows with the length of the stay.
 fn until(task: usize, stay: &Stay, line: u64, rest: &[Moment]) -> Option<u64>
     requires task { task < MAX_TASKS }
     requires lines { line + length rest.now < 2 ^ 64 }
@@ -67,7 +67,7 @@ fn until(task: usize, stay: &Stay, line: u64, rest: &[Moment]) -> Option<u64>
     None
 }
 
-/// Adds the stay that a task begins with a line. Adds nothing if the task begins none.
+/// Adds the stay of a task that begins with a line. Does nothing if no stay of the task begins with the line.
 fn add_sleep(
     sleeps: &mut Vec<Sleep>,
     task: usize,
@@ -94,8 +94,8 @@ fn add_sleep(
     Ok(())
 }
 
-/// Returns the stays that begin with a line. `before` has the stay of each task before the line, and `stays` after it.
-/// A stay in `stays` begins if the same task doesn't have it in `before`.
+/// Returns the stays that begin with a line. `before` has the stay of each task before the line, and `stays` has the
+/// stay of each task after it. A stay in `stays` begins with the line if the same task wasn't in this stay before.
 pub(crate) fn sleeps_begun(
     alloc: Global,
     before: &[Option<Stay>],

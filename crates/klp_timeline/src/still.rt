@@ -1,4 +1,4 @@
-//! Lines of which there is nothing to say.
+//! Lines about which there is nothing to say.
 ghost use Rattle.std.specs.Prelude.{◌≡◌, ◌<◌};
 ghost use Rattle.klp_timeline.specs.Still.{is_same_move, is_same_stay, are_same, are_equal, is_still};
 
@@ -53,8 +53,8 @@ fn are_equal(before: &[PatchId], after: &[PatchId]) -> bool
     }
 }
 
-/// Whether there is nothing to say of a line. It did nothing except what views show, and its view shows the same
-/// transition, patches and stays as the view before.
+/// Whether there is nothing to say about a line. The line must have no effect that views don't show. Its view must show
+/// the same transition, patches and stays as the view before.
 pub fn is_still(before: &View, moment: &Moment) -> bool
     ensures { result ≡ is_still before.now moment.now }
 {

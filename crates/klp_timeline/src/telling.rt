@@ -20,7 +20,8 @@ fn is_end(own: &Option<u64>, other: &Option<u64>) -> bool
     }
 }
 
-/// Whether two stays that begin with the same line are alike: they are the same, and end with the same line.
+/// Whether two stays that begin with the same line are alike. Alike stays are the same stay, and end with the same
+/// line.
 fn is_alike(own: &Sleep, other: &Sleep) -> bool
     ensures { result ≡ is_alike own.now other.now }
 {
@@ -89,7 +90,7 @@ fn add_slept(
     Ok(())
 }
 
-/// Appends the sentences of a line: its facts, and then the stays that begin with it.
+/// Appends the sentences of a line: first its facts, and then the stays that begin with the line.
 fn add_line(
     sentences: &mut Vec<Sentence>,
     alloc: Global,
@@ -107,9 +108,9 @@ fn add_line(
     add_slept(sentences, alloc, &sleeps, line)
 }
 
-/// Returns all sentences on a run that begins with the view `opening`: for each line in order its facts, and then the
-/// stays that begin with it. Stays that are alike share a sentence. The cost of a line grows with the length of its
-/// stays. An error means that memory ran out.
+/// Returns all sentences on a run that begins with the view `opening`. Each line has first its facts, and then the
+/// stays that begin with it, in the order of the lines. Stays that are alike share a sentence. The cost of a line grows
+/// with the length of the line's stays. An error means that memory ran out.
 pub fn sentences(alloc: Global, opening: &View, run: &[Moment]) -> Result<Vec<Sentence>, AllocError>
     ensures { IfOk result (λ sentences. sentences.items ≡ sentences_of opening.now run.now) }
 {

@@ -1,25 +1,25 @@
 use crate::shadow::{ShadowKey, ShadowValue};
 
-/// One step of a script. It acts for the patch whose callback runs the script. A kernel has no edits: its callbacks are
-/// code, and edits stand for what such code does to shadow variables and system states.
+/// One step of a script. An edit is made for the patch whose callback runs the script. A kernel has no edits, since its
+/// callbacks are code. Edits stand for what such code does to shadow variables and system states.
 #[derive(Clone, Copy, PartialEq, Eq)]
 pub enum Edit {
-    /// Adds a shadow variable with this value. Nothing happens if it exists.
+    /// Adds a shadow variable with this value. Does nothing if the variable exists.
     Alloc(ShadowKey, ShadowValue),
-    /// Removes a shadow variable. Nothing happens if it doesn't exist, as with `klp_shadow_free`.
+    /// Removes a shadow variable. Does nothing if the variable doesn't exist, as `klp_shadow_free`.
     Free(ShadowKey),
     /// Removes the shadow variables of this id, whatever their parent objects.
     FreeAll(u64),
-    /// Sets the patch's system state with this id to the value. If the patch doesn't name the state, nothing happens:
+    /// Sets the patch's system state with this id to the value. Does nothing if the patch doesn't name the state, since
     /// scripts aren't checked against their patches.
     SetData(u64, u64),
-    /// Sets the patch's system state with this id to the value that the state has in an older patch: the newest of
-    /// those that name the state. If there is none, nothing happens.
+    /// Sets the patch's system state with this id to the state's value in the newest older patch that names it. Does
+    /// nothing if no older patch names the state.
     TakePrev(u64),
 }
 
-/// Returns a removal of the variable (0, 0). This value fills the unused elements of an array of edits, which are never
-/// read.
+/// Returns an edit that removes the variable with parent object 0 and id 0. The unused elements of an array of edits
+/// have this value, and are never read.
 impl Default for Edit {
     fn default() -> Self {
         Edit::Free(ShadowKey::default())

@@ -1,5 +1,5 @@
-//! Worked examples of the definitions. A function here does nothing: its contract is the example, and it is proved
-//! by computing the definition.
+//! Worked examples of the definitions. A function of this module does nothing. The function's contract is the example,
+//! which is proved by computing the definition.
 ghost use Rattle.std.specs.Prelude.{◌≡◌, ℕ, pos, negsuc, Bool, true, false, List, [], ◌∷◌, ◌++◌, Some, None, Ok, Err};
 ghost use Rattle.std.specs.declared.cmp.Ordering.TheVariants.{Less, Greater};
 ghost use Rattle.klp_types.specs.declared.callback.Which.TheVariants.{Pre, Post, PreUn, PostUn};
@@ -29,8 +29,9 @@ ghost use Rattle.klp_types.specs.Examples.{state_of, naming_kernel};
 
 use crate::task::PatchState;
 
-/// A cumulative patch puts a nop on a site if an older patch has a function for it and the cumulative one has none. The
-/// nop takes the older patch's function back. Where no older patch has a function, there is no nop.
+/// A cumulative patch puts a nop on a site if an older patch has a function for the site and the cumulative patch has
+/// none. The nop makes calls run the original again. If no older patch has a function for the site, the cumulative
+/// patch puts no nop there.
 pub fn a_nop_stands_over_an_older_patch()
     ensures nop { entries_from patched_kernel 1 (1 ∷ 0 ∷ [])
         ≡ record { patch = 1; func = None } ∷ record { patch = 0; func = Some 1 } ∷ [] }
@@ -41,7 +42,7 @@ pub fn a_nop_stands_over_an_older_patch()
 {}
 
 /// A task that isn't switched to the patch in transition skips that patch's entry. Any other task runs the entry. If
-/// the entry is a nop, it runs the original.
+/// the entry is a nop, the task runs the original.
 pub fn tasks_pass_over_the_moving_entry()
     ensures older { newest_version 0
         (entries_for (Some (record { patch = 1; target = true })) (pos 0) (entries_from patched_kernel 0 (1 ∷ 0 ∷ [])))
@@ -66,8 +67,8 @@ pub fn tasks_pass_over_the_moving_entry()
     ensures no_entry { newest_version 1 [] ≡ Original 1 }
 {}
 
-/// A new function begins at its own address. An original begins after its entry site, so that it doesn't call the
-/// handler again. A version that doesn't exist has no address.
+/// A new function begins at its own address. An original begins after its entry site, so that a jump to the original
+/// doesn't call the handler again. A version that doesn't exist has no address.
 pub fn versions_begin_where_their_code_does()
     ensures new { target_of patched_kernel (New 0 1)
         ≡ Some (record { version = New 0 1; address = 0xffff_ffff_c000_1100 }) }
@@ -77,9 +78,9 @@ pub fn versions_begin_where_their_code_does()
     ensures no_function { target_of patched_kernel (New 0 3) ≡ None }
 {}
 
-/// An ENDBR64 stays the first instruction of a function, hooked or not. The entry site begins after the ENDBR64: the
-/// call's displacement is counted accordingly, and the original begins after the call. With any other beginning, the
-/// entry site is the first five bytes.
+/// An ENDBR64 stays the first instruction of a function, hooked or not. The entry site begins after the ENDBR64. The
+/// call's displacement is counted from the end of the entry site, where the original begins. If a function doesn't
+/// begin with ENDBR64, the entry site is the first five bytes.
 pub fn entry_sites_are_behind_endbr64()
     ensures resting { (resting tracked).body
         ≡ 0xf3 ∷ 0x0f ∷ 0x1e ∷ 0xfa ∷ 0x0f ∷ 0x1f ∷ 0x44 ∷ 0x00 ∷ 0x00 ∷ 0x90 ∷ 0xc3 ∷ [] }
@@ -88,12 +89,12 @@ pub fn entry_sites_are_behind_endbr64()
     ensures original { target_of tracked_kernel (Original 0)
         ≡ Some (record { version = Original 0; address = 0xffff_ffff_8100_5009 }) }
     ensures cut_short { entry_offset (0xf3 ∷ 0x0f ∷ 0x1e ∷ []) ≡ 0 }
-    // ENDBR32 is another instruction.
+    // ENDBR32 isn't ENDBR64, so the entry site doesn't begin after it.
     ensures other { entry_offset (0xf3 ∷ 0x0f ∷ 0x1e ∷ 0xfb ∷ 0xe8 ∷ []) ≡ 0 }
 {}
 
-/// Enabling runs pre-patch in the order of the patch's objects, up to the first that refuses; then post-unpatch
-/// runs for the objects before it.
+/// Enabling runs pre-patch for the patch's objects in order, up to the first object that refuses. Then post-unpatch
+/// runs for the objects before that one.
 pub fn enabling_stops_at_the_object_that_refuses()
     ensures first { ran (enable_calls 0 (objects_refusing_in 2)) ≡ (0, Pre) ∷ [] }
     ensures last { ran (enable_calls 0 (objects_refusing_in 1))
@@ -101,16 +102,16 @@ pub fn enabling_stops_at_the_object_that_refuses()
     ensures none { ran (enable_calls 0 (objects_refusing_in 3)) ≡ (0, Pre) ∷ (1, Pre) ∷ (2, Pre) ∷ [] }
 {}
 
-/// A transition to target 1 ends with post-patch, one to target 0 with post-unpatch, in the order of the patch's
-/// objects.
+/// A transition to target 1 ends with post-patch. A transition to target 0 ends with post-unpatch. Both run for the
+/// patch's objects in order.
 pub fn transitions_end_with_the_callbacks_of_their_target()
     ensures patched { ran (calls_of 0 (end_of true) (objects_refusing_in 3)) ≡ (0, Post) ∷ (1, Post) ∷ (2, Post) ∷ [] }
     ensures withdrawn { ran (calls_of 0 (end_of false) (objects_refusing_in 3))
         ≡ (0, PostUn) ∷ (1, PostUn) ∷ (2, PostUn) ∷ [] }
 {}
 
-/// For each object, the callback of the kind runs, if the object has one. An object without pre-patch refuses nothing.
-/// Only the status of pre-patch counts: any status other than 0 refuses, whatever its sign.
+/// For each object, the callback of a kind runs if the object has one. An object without a pre-patch callback refuses
+/// nothing. Only the status of pre-patch counts: any status other than 0 refuses, whatever its sign.
 pub fn callbacks_run_where_they_are()
     ensures pre_unpatch { ran (calls_of 0 PreUn (objects_refusing_in 3)) ≡ (0, PreUn) ∷ (1, PreUn) ∷ (2, PreUn) ∷ [] }
     ensures of_the_patch { calls_of 6 Post ((2, object_calling Post (pos 0)) ∷ [])
@@ -124,8 +125,8 @@ pub fn callbacks_run_where_they_are()
     ensures other_kind { refuses (0, object_calling Post (negsuc 15)) ≡ false }
 {}
 
-/// Callbacks change the world one after another, each for its own patch. There must be room for what all of them
-/// add.
+/// Callbacks change the world one after another, each for its own patch. There must be room for all variables that the
+/// callbacks add.
 pub fn callbacks_run_one_after_another()
     ensures last { (after_calls four_installed (call_by 3 (SetData 7 1 ∷ []) ∷ call_by 3 (SetData 7 2 ∷ []) ∷ [])).installed
         ≡ patch_4 ∷ patch_5 ∷ patch_6 ∷ patch_3 2 ∷ [] }
@@ -136,8 +137,8 @@ pub fn callbacks_run_one_after_another()
         ∷ call_by 3 (Alloc (key_of 1 2) [] ∷ []) ∷ []) ≡ 3 }
 {}
 
-/// A call reaches 2^31 - 1 bytes forward and 2^31 bytes back, counted from the instruction after it, and no byte
-/// further: its displacement is a signed number of 32 bits.
+/// A call reaches 2^31 - 1 bytes forward and 2^31 bytes back, counted from the instruction after it. It reaches no byte
+/// further, since its displacement is a signed number of 32 bits.
 pub fn calls_reach_32_bits_far()
     ensures forward { can_reach 0xffff_ffff_8100_0000 0xffff_ffff_00ff_fffc ≡ true }
     ensures farthest { call 0xffff_ffff_8100_0000 0xffff_ffff_00ff_fffc ≡ 0xe8 ∷ 0xff ∷ 0xff ∷ 0xff ∷ 0x7f ∷ [] }
@@ -147,8 +148,8 @@ pub fn calls_reach_32_bits_far()
     ensures too_far_back { can_reach 0x1000 0x8000_0ffc ≡ false }
 {}
 
-/// A patch is compatible if it names each state of each installed patch with the same or a higher version. It may
-/// leave a state out, unless it is cumulative.
+/// A patch is compatible if it names each state of each installed patch with the same or a higher version. A patch that
+/// isn't cumulative may leave out states of installed patches.
 pub fn patches_are_compatible_by_their_states()
     ensures same { is_compatible true (state_of 7 2 ∷ []) ((state_of 7 2 ∷ []) ∷ []) ≡ true }
     ensures higher { is_compatible false (state_of 7 3 ∷ []) ((state_of 7 2 ∷ []) ∷ []) ≡ true }
@@ -159,8 +160,8 @@ pub fn patches_are_compatible_by_their_states()
     ensures each_state { is_compatible false (state_of 7 2 ∷ state_of 8 1 ∷ []) ((state_of 7 2 ∷ state_of 8 2 ∷ []) ∷ []) ≡ false }
 {}
 
-/// The previous state of a patch is that of the newest patch which was installed before it and names the state. It is
-/// never the patch's own state, nor that of a patch installed later.
+/// For a patch and a state, the previous state is that of the newest patch which was installed earlier and names the
+/// state. The previous state never belongs to the patch itself, nor to a patch that was installed later.
 pub fn the_previous_state_is_of_the_newest_patch_before()
     ensures newest { previous_value four_installed 3 7 ≡ Some 50 }
     ensures behind { previous_value four_installed 5 7 ≡ Some 40 }
@@ -173,8 +174,8 @@ pub fn the_previous_state_is_of_the_newest_patch_before()
     ensures no_patch { state_value four_installed 2 7 ≡ None }
 {}
 
-/// A patch is added as the newest, with its states at 0. When it is removed, its states are removed too. All other
-/// patches stay, also newer ones.
+/// A patch is added as the newest, with all its states at 0. When the patch is removed, its states are removed too. All
+/// other patches stay, also newer ones.
 pub fn states_come_at_0_and_go_with_their_patch()
     ensures last { (with_patch (world_of (patch_4 ∷ [])) 2 (7 ∷ 9 ∷ [])).installed
         ≡ patch_4 ∷ record { patch = 2; values = (7, 0) ∷ (9, 0) ∷ [] } ∷ [] }
@@ -197,8 +198,9 @@ pub fn scripts_set_states_of_their_patch()
     ensures refused { (effect 3 four_installed (refusing (SetData 7 1 ∷ []))).installed ≡ four_installed.installed }
 {}
 
-/// An edit adds a shadow variable only if it doesn't exist, and removes only the variables that it names. Room must be
-/// there for all variables that edits add, even if other edits remove some. A script that refuses makes no edit.
+/// An edit adds a shadow variable only if the variable doesn't exist, and removes only variables that the edit names.
+/// There must be room for all variables that edits add, even if other edits remove some. A script that refuses makes no
+/// edit.
 pub fn scripts_change_the_variables_that_they_name()
     ensures added { edited_at (key_of 1 2) None (Alloc (key_of 1 2) (5 ∷ [])) ≡ Some (5 ∷ []) }
     ensures kept { edited_at (key_of 1 2) (Some (4 ∷ [])) (Alloc (key_of 1 2) (5 ∷ [])) ≡ Some (4 ∷ []) }
@@ -223,7 +225,7 @@ pub fn keys_go_by_their_parent_first()
     ensures nine { number_of (1 ∷ 0 ∷ 0 ∷ 0 ∷ 0 ∷ 0 ∷ 0 ∷ 0 ∷ 0 ∷ []) ≡ None }
 {}
 
-/// Sites are counted over all objects in order, and each belongs to the object of its symbol. A function whose symbol
+/// Sites are counted over all objects in order. Each site belongs to the object of its symbol. A function whose symbol
 /// isn't found has no site.
 pub fn sites_lie_in_their_objects()
     ensures last_of_the_kernel { object_of kernel.objects 1 ≡ Some 0 }
@@ -242,8 +244,8 @@ pub fn the_first_reason_decides()
     ensures done { unless {A = ℕ} {R = ℕ} None 2 ≡ Ok 2 }
 {}
 
-/// One script undoes another if both together leave each variable that either of them touches as it was. So freeing a
-/// variable undoes adding it only if the variable didn't exist before.
+/// One script undoes another if, after both have run, each variable that either script touches is as it was before. So
+/// freeing a variable undoes adding it only if the variable didn't exist before.
 pub fn a_script_undoes_another_where_all_is_as_before()
     ensures undone { Undoes 0 (editing (Free (key_of 1 2) ∷ [])) (editing (Alloc (key_of 1 2) [] ∷ [])) (world_of []) }
     ensures there_before { Undoes 0 (editing (Free (key_of 1 2) ∷ [])) (editing (Alloc (key_of 1 2) [] ∷ []))
@@ -253,16 +255,16 @@ pub fn a_script_undoes_another_where_all_is_as_before()
         (with_variable (world_of []) (key_of 1 2) (5 ∷ [])) → ⊥ }
 {}
 
-/// If a search finds a number, that number has the property, and no other number has it. If it finds nothing, no number
-/// has the property.
+/// If a search finds a number, that number has the property, and no other number has it. If the search finds nothing,
+/// no number has the property.
 pub fn what_is_found_is_all_there_is()
     ensures has { (has : ℕ → Bool) (x : ℕ) → Finds (λ n. has n ≡ true) (Some x) → has x ≡ true }
     ensures alone { (has : ℕ → Bool) (x y : ℕ) → Finds (λ n. has n ≡ true) (Some x) → has y ≡ true → y ≡ x }
     ensures none { (has : ℕ → Bool) (y : ℕ) → Finds (λ n. has n ≡ true) None → has y ≡ true → ⊥ }
 {}
 
-/// Which system states a patch of the catalog names, and whether it replaces older patches. A patch that doesn't exist
-/// names nothing and replaces nothing.
+/// The catalog says which system states a patch names, and whether the patch replaces older patches. A patch that
+/// doesn't exist names nothing and replaces nothing.
 pub fn patches_are_what_the_catalog_tells()
     ensures states { named_states naming_kernel 1 ≡ state_of 7 1 ∷ state_of 9 2 ∷ [] }
     ensures ids { state_ids naming_kernel 1 ≡ 7 ∷ 9 ∷ [] }
@@ -272,7 +274,7 @@ pub fn patches_are_what_the_catalog_tells()
     ensures no_patch { replaces naming_kernel 2 ≡ false }
 {}
 
-/// A patch state is -1, 0 or 1. A task number that no task has is inside of no function.
+/// A patch state is -1, 0 or 1. If no task has a number, the task of that number is inside of no function.
 pub fn tasks_have_one_of_three_states()
     ensures at_rest { IsPatchState (negsuc 0) }
     ensures unpatched { IsPatchState (pos 0) }
@@ -284,8 +286,8 @@ pub fn tasks_have_one_of_three_states()
     ensures nobody { frames_of None ≡ [] }
 {}
 
-/// Returns the three patch states. They have the kernel's numbers: -1 for no transition, 0 for a task that doesn't
-/// run the patch, 1 for a task that does.
+/// Returns the three patch states. They have the kernel's numbers: -1 if there is no transition, 0 for a task that
+/// doesn't run the patch, 1 for a task that does.
 pub fn states_are_numbered_as_the_kernel_does() -> (PatchState, PatchState, PatchState)
     ensures nothing_moves { result.0 ≡ negsuc 0 }
     ensures unpatched { result.1 ≡ pos 0 }
@@ -298,7 +300,7 @@ pub fn states_are_numbered_as_the_kernel_does() -> (PatchState, PatchState, Patc
     )
 }
 
-/// Only the records of the current event use up an event's room. The records of earlier events don't.
+/// Only the records of the current event use up the event's room. The records of earlier events don't use it up.
 pub fn records_of_one_event_take_room()
     ensures { spare_of (record { logged = NothingMoving ∷ NothingMoving ∷ []; room = 5; older = NothingMoving ∷ [] }) ≡ 3 }
 {}

@@ -1,5 +1,5 @@
 //! What is proved of the definitions themselves. Each law is the contract of a function that does nothing. The laws
-//! show that the definitions mean what they should. Crates above may rely on them.
+//! show that the definitions mean what they should. Crates above may rely on the laws.
 ghost use Rattle.std.specs.Prelude.{◌≡◌, ℕ, ◌+◌, ◌-◌, ◌^◌, ◌<◌, ◌≤◌, Bool, ◌==◌, ◌&&◌, ◌||◌, true, false, not, List};
 ghost use Rattle.std.specs.Prelude.{[], ◌∷◌, ◌++◌, length, map, take, drop, get_or, slice_get, Option, Some, is_some};
 ghost use Rattle.std.specs.Prelude.{option_map, IfSome};
@@ -39,7 +39,7 @@ pub fn text_is_as_built_but_for_entry_sites()
         (given_symbol image object number) }
 {}
 
-/// A function whose site isn't hooked reads as it was built, with the NOP at its entry site. So a function that no
+/// A function whose site isn't hooked reads as it was built, but with the NOP at its entry site. So a function that no
 /// patch changes runs its own body.
 pub fn text_has_a_nop_where_not_hooked()
     ensures { (image : Image) (hooked : ℕ → Bool) (object : ℕ) (number : ℕ)
@@ -48,7 +48,7 @@ pub fn text_has_a_nop_where_not_hooked()
 {}
 
 /// The keys of shadow variables are in a total order, and keys that compare as equal are equal. Finite maps need such
-/// an order, since a map's value mustn't depend on the order of insertions.
+/// an order, since the value of a map mustn't depend on the order of insertions.
 pub fn keys_are_in_order()
     ensures total { IsTotalOrder key_cmp }
     ensures antisymmetric { finite.IsAntisymmetric key_cmp }
@@ -56,7 +56,7 @@ pub fn keys_are_in_order()
     ensures one { (own key : ShadowKey) → is_key own key ≡ true → own ≡ key }
 {}
 
-/// Removing shadow variables never increases their number. So a removal never lacks room.
+/// Removing shadow variables never increases the number of variables. So a removal never lacks room.
 pub fn no_more_variables_are_left()
     ensures { (shadow : Shadow) (keep : ShadowKey → Bool)
         → finite.len (finite.retain_keys shadow keep) ≤ finite.len shadow }
@@ -71,8 +71,8 @@ pub fn edits_go_key_by_key()
         → variable (edited_by patch world edits) key ≡ made_of key (variable world key) edits }
 {}
 
-/// An edit doesn't change a shadow variable that it doesn't touch, and neither does a script. So scripts show which
-/// variables a patch's callbacks can have changed.
+/// An edit or a script doesn't change a shadow variable that it doesn't touch. So the scripts of a patch show which
+/// variables the patch's callbacks can have changed.
 pub fn untouched_variables_stay()
     ensures edits { (edits : List Edit) (key : ShadowKey) (was : Option ShadowValue)
         → list_any (edit_touches key) edits ≡ false → made_of key was edits ≡ was }
@@ -87,7 +87,7 @@ pub fn scripts_apart_commute()
         → (effect q (effect p world a) b).shadow ≡ (effect p (effect q world b) a).shadow }
 {}
 
-/// A script doesn't change the states of other patches: no edit names another patch.
+/// A script doesn't change the states of other patches, since no edit names another patch.
 pub fn states_of_others_stay()
     ensures { (patch other : ℕ) (world : World) (script : Script) → (other ≡ patch → ⊥)
         → states_of other (effect patch world script).installed ≡ states_of other world.installed }
@@ -101,30 +101,30 @@ pub fn installed_patches_stay()
         ≡ map (λ (i : Installed). i.patch) world.installed }
 {}
 
-/// If there is room for the shadow variables that some edits add, there is still room after the first of these edits
-/// for the variables that the others add. So one check of the room before the first edit is enough.
+/// If there is room for all shadow variables that a list of edits adds, there is still room after the first edit for
+/// the variables that the remaining edits add. So it is enough to check the room once, before the first edit.
 pub fn edits_keep_to_their_room()
     ensures { (patch : ℕ) (world : World) (edit : Edit) (edits : List Edit)
         → finite.len (edited patch world edit).shadow + alloc_count edits ≤ finite.len world.shadow + alloc_count (edit
         ∷ edits) }
 {}
 
-/// A script adds at most as many shadow variables as it has edits that add one. It adds fewer if a variable exists
-/// already, or if a later edit removes it.
+/// A script adds at most as many shadow variables as it has edits that add one. The script adds fewer if a variable
+/// exists already, or if a later edit removes a variable.
 pub fn variables_are_few()
     ensures { (patch : ℕ) (world : World) (script : Script)
         → finite.len (effect patch world script).shadow ≤ finite.len world.shadow + alloc_count script.edits }
 {}
 
-/// At most as many shadow variables are added as there are edits. A script makes only its own edits, and none if its
-/// status isn't 0.
+/// A script has at least as many edits as it has edits that add a shadow variable. So its number of edits bounds how
+/// many variables it adds. A script whose status isn't 0 makes no edit.
 pub fn allocs_are_edits()
     ensures each { (edits : List Edit) → alloc_count edits ≤ length edits }
     ensures made { (script : Script) → alloc_count (edits_made script) ≤ alloc_count script.edits }
 {}
 
-/// Which shadow variables callbacks leave depends only on the shadow variables before, and on nothing else of the
-/// world. `TakePrev` changes a system state, and no shadow variable.
+/// Which shadow variables callbacks leave depends only on the shadow variables before the callbacks run. Nothing else
+/// of the world matters. `TakePrev` changes a system state, and no shadow variable.
 pub fn variables_go_by_variables_alone()
     ensures taken { (world : World) (patch id : ℕ) (value : Option ℕ)
         → (value_taken world patch id value).shadow ≡ world.shadow }
@@ -142,7 +142,8 @@ pub fn sites_go_object_by_object()
         → symbols_of (drop index objects) ≡ (get_or objects index at).symbols ++ symbols_of (drop (index + 1) objects) }
 {}
 
-/// The sites of an object are consecutive, from its first site on. So a walk over them just counts up.
+/// The sites of an object are consecutive, beginning with its first site. So a walk over an object's sites just counts
+/// up.
 pub fn sites_of_an_object_stand_together()
     ensures symbols { (objects : List Object) (index place : ℕ) (object : Object)
         → slice_get objects index ≡ Some object → place < length object.symbols
@@ -151,19 +152,21 @@ pub fn sites_of_an_object_stand_together()
         → first_site objects index + length object.symbols ≤ length (symbols_of objects) }
 {}
 
-/// Reading the eight bytes of a number returns the number. So a variable shows the number to which it was set.
+/// If a value is made of a number, reading the value's eight bytes returns that number. So a variable shows the number
+/// to which it was set.
 pub fn numbers_are_read_as_written()
     ensures { (number : ℕ) → number < 2 ^ 64 → number_of (to_le_bytes w64 number) ≡ Some number }
 {}
 
-/// Patches put an entry on a site exactly when one of them has a function for it. So nops alone never hook a site.
+/// Patches put an entry on a site exactly when one of the patches has a function for the site. So nops alone never hook
+/// a site.
 pub fn entries_stand_where_functions_are()
     ensures { (setting : Setting) (site : ℕ) (patches : List ℕ)
         → not (is_empty (entries_from setting site patches)) ≡ list_any (patches_site setting site) patches }
 {}
 
-/// The newest patch has its entry on top of those of the older patches: its function, or a nop if it is cumulative
-/// and there is an entry below.
+/// The newest patch has its entry on top of the entries of older patches. This entry is the patch's function for the
+/// site. If the patch has no function for the site, but is cumulative and there is an entry below, its entry is a nop.
 pub fn the_newest_entry_is_on_top()
     ensures { (setting : Setting) (site patch : ℕ) (older : List ℕ)
         → entries_from setting site (patch ∷ older)
@@ -172,8 +175,8 @@ pub fn the_newest_entry_is_on_top()
         ++ entries_from setting site older }
 {}
 
-/// Each entry belongs to one of the patches. This patch has a function for the site or is cumulative. If the entry
-/// isn't a nop, it names a function that the patch has.
+/// Each entry belongs to one of the patches. The patch of an entry has a function for the site or is cumulative. If the
+/// entry isn't a nop, it names a function that its patch has.
 pub fn entries_are_of_their_patches()
     ensures installed { (setting : Setting) (site patch : ℕ) (patches : List ℕ)
         → list_any (λ (e : Entry). e.patch == patch) (entries_from setting site patches) ≡ true

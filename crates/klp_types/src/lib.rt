@@ -4,24 +4,25 @@
 //! scripts of callbacks and the world that they change, the entries that patches put on a site, the version of the
 //! newest entry, and the bytes of the text. Begin with `specs/Setting`, then read `World`, `Script`, `Entries` and
 //! `Bytes`. The state of the whole machine and its events are defined in `klp_model`, a crate above. So the crates of
-//! the image, the world and the catalog don't depend on these (docs/DECISIONS.md, "Definitions without a state").
+//! the image, the world and the catalog don't depend on the machine's state and events (docs/DECISIONS.md, "Definitions
+//! without a state").
 //!
 //! `laws` has what is proved of the definitions themselves:
-//! - of entries: when patches put an entry on a site, and whose entry it is;
-//! - of the text: which bytes a function has, given which sites are hooked, and that sites are counted object by
+//! - of entries: when patches put an entry on a site, and to which patch an entry belongs;
+//! - of the text: which bytes a function has, depending on which sites are hooked, and that sites are counted object by
 //!   object;
 //! - of scripts: that an edit changes each shadow variable independently, which variables, system states and patches a
-//!   script doesn't change, how few variables it adds, and which scripts may run in either order;
+//!   script doesn't change, how few variables a script adds, and which scripts may run in either order;
 //! - the value of each limit.
 //!
 //! `examples` computes the definitions for a small kernel: nops, the version of the newest entry, where versions begin
-//! and how far a call reaches; which callbacks run, what they do to states and variables, and which status refuses; the
-//! previous state, and which patches are compatible. A function's body and its clause use the same definition. So only
-//! these examples show independently what the definition means.
+//! and how far a call reaches; which callbacks run, what callbacks do to states and variables, and which status
+//! refuses; the previous state, and which patches are compatible. A function's body and its clause use the same
+//! definition. So only these examples show independently what the definition means.
 //!
-//! There is little code. [`Frames`] has at most 32 versions; `push` appends one, or changes nothing if the list is
-//! full. [`ShadowValue`] has 0 to 64 bytes. [`Script`] is defined here, below the crate of the world that scripts
-//! change, so that the catalog's text can have scripts without that crate.
+//! There is little code. [`Frames`] has at most 32 versions; `push` appends one version, or changes nothing if the list
+//! is full. [`ShadowValue`] has 0 to 64 bytes. [`Script`] is defined in this crate, below the crate of the world that
+//! scripts change. So the catalog's text can have scripts without that crate.
 #![tactic(auto)]
 
 mod callback;

@@ -1,7 +1,8 @@
 use std::marker::Model;
 
-/// An object, by its index in the image, from 0. Object 0 is `vmlinux`, the others are modules. Contracts see just the
-/// number, so that definitions use plain numbers (docs/DECISIONS.md, "Numbers of objects, sites and patches").
+/// An object, by its index in the image, from 0. Object 0 is `vmlinux`, and the other objects are modules. In contracts
+/// the value is just the number, so that definitions use plain numbers (docs/DECISIONS.md, "Numbers of objects, sites
+/// and patches").
 #[derive(Clone, Copy, Debug, Default, PartialEq, Eq)]
 pub struct ObjId(pub u8);
 
@@ -15,8 +16,8 @@ impl Model for ObjId {
     ghost inverse = { λ n. record { 0 = n } };
 }
 
-/// A site: one symbol of one object. Sites are numbered from 0 over the symbols of all objects, loaded or not, in the
-/// image's order. So a site keeps its number when modules are loaded and unloaded.
+/// A site: one symbol of one object. Sites are numbered from 0 over the symbols of all objects in the image's order.
+/// Objects that aren't loaded count too, so a site keeps its number when modules are loaded and unloaded.
 #[derive(Clone, Copy, Debug, Default, PartialEq, Eq)]
 pub struct Site(pub u16);
 

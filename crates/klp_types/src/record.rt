@@ -4,7 +4,7 @@ use crate::task::{Task, TaskId};
 use crate::version::Transition;
 
 /// What one row of the state was before a change. Putting the record back undoes the change of that row. If the row
-/// didn't exist, the record has `None` or is of a separate kind, and putting it back removes the row.
+/// didn't exist, the record has `None` or is of a separate kind. Putting such a record back removes the row.
 #[derive(Clone, Copy)]
 pub enum Record {
     /// A shadow variable that existed.
@@ -12,12 +12,13 @@ pub enum Record {
         key: ShadowKey,
         was: ShadowValue,
     },
-    /// A shadow variable that didn't exist. Putting this record back removes the variable. `TaskRow` has the reason why
-    /// this and `ShadowVariable` are two kinds.
+    /// A shadow variable that didn't exist. Putting this record back removes the variable. The reason why
+    /// `ShadowVariable` and this are two kinds is explained at `TaskRow`.
     NoShadowVariable {
         key: ShadowKey,
     },
-    /// The value of a system state of an installed patch. The row existed and stays, so there is no `None`.
+    /// The value of a system state of an installed patch. Such a change neither adds nor removes the row, so the record
+    /// has no `None`.
     StateValue {
         patch: PatchId,
         id: u64,
@@ -35,26 +36,27 @@ pub enum Record {
         patch: PatchId,
         place: Option<u8>,
     },
-    /// Whether an object was loaded. Both the image and the names have this flag, and each restores its own.
+    /// Whether an object was loaded. The image and the names each have such a flag. Both restore their own flag from
+    /// this record.
     LoadedFlag {
         object: ObjId,
         was: bool,
     },
-    /// The entry of a patch on the function stack of a site. `None` if the patch had none there.
+    /// The entry of a patch on the function stack of a site. `None` if the patch had no entry there.
     StackEntry {
         site: Site,
         patch: PatchId,
         was: Option<Place>,
     },
-    /// Whether a site was hooked. This is logged like every row, but putting the record back changes nothing. A site's
-    /// hook follows its entries, so the record of the entry restores the hook.
+    /// Whether a site was hooked. A change of the hook is logged like that of any row, but putting the record back
+    /// changes nothing. A site is hooked exactly while it has entries. So the record of the entry restores the hook.
     HookFlag {
         site: Site,
         was: bool,
     },
-    /// A task that existed. `TaskRow` and `NoTaskRow` are two kinds because a value of an enum that contains an option
-    /// of such a struct can't be passed on (docs/DECISIONS.md, "Two kinds of record for a row that may be missing").
-    /// The same holds of the kinds for a shadow variable and for the transition.
+    /// A task that existed. `TaskRow` and `NoTaskRow` are two kinds because a value of an enum can't be passed on if
+    /// the enum contains an option of such a struct (docs/DECISIONS.md, "Two kinds of record for a row that may be
+    /// missing"). For the same reason there are two kinds for a shadow variable, and two for the transition.
     TaskRow {
         task: TaskId,
         was: Task,
@@ -76,13 +78,13 @@ pub enum Record {
     },
 }
 
-/// The position of an entry on a function stack, and what the entry did. The record that contains this names the patch
-/// and the site.
+/// The position of an entry on a function stack, and the function that the entry has. The record that contains a
+/// `Place` names the patch and the site.
 #[derive(Clone, Copy)]
 pub struct Place {
-    /// The entry's index, counted from the oldest entry, from 0. Entries above may be gone when the entry is put back,
-    /// so counting from the newest wouldn't work.
+    /// The entry's index, counted from the oldest entry, from 0. The index isn't counted from the newest entry, since
+    /// the number of newer entries may have changed when the entry is put back.
     pub index: u8,
-    /// The patch's function. `None` is a nop, which is put back as a nop.
+    /// The patch's function. `None` is a nop, and the entry is put back as a nop.
     pub func: Option<u16>,
 }

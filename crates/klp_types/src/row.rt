@@ -1,12 +1,12 @@
 use crate::version::Entry;
 
-/// What a call at a site needs to know: the site's two newest entries, and whether the newest one's patch is in
+/// What a call at a site needs to know: the site's two newest entries, and whether the newest entry's patch is in
 /// transition. Two entries are enough, since a task can skip only the newest one (`klp_stack::laws`).
 #[derive(Clone, Copy, PartialEq, Eq)]
 pub struct SiteWord {
     pub top: Option<Entry>,
     /// The entry below the newest. If the newest entry's patch is in transition, a task with patch state 0 runs this
-    /// one.
+    /// older entry.
     pub below: Option<Entry>,
     pub moves: bool,
 }
@@ -16,7 +16,7 @@ pub struct SiteWord {
 #[derive(Clone, Copy, PartialEq, Eq)]
 pub struct SiteRow {
     pub word: SiteWord,
-    /// The address after the entry site. There the original continues after the handler.
+    /// The address after the entry site, at which the original continues after the handler.
     pub original: u64,
     pub top: u64,
     pub below: u64,

@@ -5,9 +5,9 @@ use crate::limits::MAX_EDITS;
 use arrayvec::ArrayVec;
 use std::marker::Model;
 
-/// What a callback does: it makes edits of the world in order, and returns a status. If the status isn't 0, the script
-/// makes no edit. So a pre-patch callback that refuses leaves nothing to undo. (Scripts are this project's own, since a
-/// kernel's callback is code.)
+/// What a callback does: a script makes edits of the world in order, and returns a status. If the status isn't 0, the
+/// script makes no edit. So a pre-patch callback that refuses leaves nothing to undo. (Scripts are this project's own,
+/// since a kernel's callback is code.)
 #[derive(Drop)]
 pub struct Script {
     pub edits: ArrayVec<Edit, MAX_EDITS>,
@@ -27,7 +27,7 @@ impl Model for Script {
 }
 
 impl Script {
-    /// Returns a copy with the same edits and status. Such a call is needed because an array of edits isn't `Copy`.
+    /// Returns a copy with the same edits and status. This function is needed because an array of edits isn't `Copy`.
     pub fn copy(&self) -> Script
         ensures { result ≡ self.now }
     {

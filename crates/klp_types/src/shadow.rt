@@ -40,8 +40,8 @@ impl Model for ShadowValue {
 }
 
 impl ShadowValue {
-    /// Returns a value of these bytes. Returns `None` if there are more than [`MAX_VALUE_BYTES`]. The unused bytes are
-    /// 0, so that equal values are equal in every byte.
+    /// Returns a value of these bytes. Returns `None` if there are more than [`MAX_VALUE_BYTES`] bytes. The unused
+    /// bytes are 0, so that equal values are equal in every byte.
     pub fn new(bytes: &[u8]) -> Option<Self>
         ensures { result ≡ (if nat_le (length bytes.now) MAX_VALUE_BYTES then Some bytes.now else None) }
     {
@@ -91,7 +91,7 @@ impl ShadowValue {
         &self.bytes
     }
 
-    /// Returns a value of the first `count` bytes. Returns `None` if any other byte isn't 0.
+    /// Returns a value of the first `count` bytes. Returns `None` if a byte after the first `count` isn't 0.
     pub fn unpadded(bytes: [u8; MAX_VALUE_BYTES], count: u8) -> Option<Self>
         requires { count ≤ MAX_VALUE_BYTES }
         ensures { Finds (λ value. (length value ≡ count) × (padded MAX_VALUE_BYTES 0 value ≡ bytes)) result }
@@ -103,8 +103,8 @@ impl ShadowValue {
         }
     }
 
-    /// Returns the number whose eight bytes these are, the lowest first. Returns `None` if the value has another
-    /// length.
+    /// Returns the number that the value's eight bytes make, the lowest first. Returns `None` if the value doesn't have
+    /// eight bytes.
     pub fn number(&self) -> Option<u64>
         ensures { result ≡ number_of self.now }
     {

@@ -21,7 +21,7 @@ impl Model for TaskId {
 }
 
 /// The patch state of a task, as `/proc/<pid>/patch_state` shows it: -1, 0 or 1. The type excludes any other number, so
-/// the definitions of states don't have to.
+/// the definitions of states don't have to exclude them.
 #[derive(Clone, Copy, PartialEq, Eq)]
 pub struct PatchState(i8);
 
@@ -57,8 +57,9 @@ impl PatchState {
     }
 }
 
-/// Where a task is. There are three modes because a transition switches each of them at another time: a sleeper while
-/// it sleeps, by its frames; a task in the kernel when it leaves; a task in user space when it next enters and leaves.
+/// Where a task is. There are three modes because a transition switches tasks of each mode at another time. A sleeper
+/// is switched while it sleeps, depending on its frames. A task in the kernel is switched when it leaves the kernel. A
+/// task in user space is switched when it has entered the kernel and leaves it again.
 #[derive(Clone, Copy, PartialEq, Eq)]
 pub enum Mode {
     /// In user space: the task runs no function of the kernel. It is switched when it next leaves the kernel.
@@ -69,8 +70,8 @@ pub enum Mode {
     Asleep,
 }
 
-/// The functions that a sleeping task is inside of, innermost last. The type has room for at most 32, so the definition
-/// of an allowed state doesn't need that limit (docs/DECISIONS.md, "Frames in allowed states").
+/// The functions that a sleeping task is inside of, innermost last. The type has room for at most 32 functions. So the
+/// definition of an allowed state doesn't need that limit (docs/DECISIONS.md, "Frames in allowed states").
 #[derive(Clone, Copy, Debug, PartialEq, Eq)]
 pub struct Frames {
     versions: [Version; MAX_FRAMES],
@@ -98,7 +99,7 @@ impl Model for Frames {
 }
 
 impl Frames {
-    /// Returns an empty list of frames. The unused elements are the original of site 0, so that equal frames are equal
+    /// Returns an empty list of frames. Each unused element is the original of site 0, so that equal frames are equal
     /// values.
     pub fn new() -> Self
         ensures { result ≡ [] }
@@ -109,7 +110,7 @@ impl Frames {
         }
     }
 
-    /// Returns how many frames there are, at most [`MAX_FRAMES`]. It is 0 for a task that doesn't sleep.
+    /// Returns how many frames there are, at most [`MAX_FRAMES`]. The number is 0 for a task that doesn't sleep.
     pub fn len(&self) -> u8
         ensures { result ≡ length self.now }
     {
@@ -133,8 +134,8 @@ impl Frames {
         &versions[..self.count as usize]
     }
 
-    /// Appends a frame as the innermost, and returns true. If there is no room, returns false and changes nothing. The
-    /// caller decides which fault to report then.
+    /// Appends a frame as the innermost, and returns true. If there is no room, returns false and changes nothing. In
+    /// that case the caller decides which fault to report.
     pub fn push(&mut self, version: Version) -> bool
         ensures full { result ≡ nat_lt (length self.old) MAX_FRAMES }
         ensures pushed { result ≡ true → self.new ≡ self.old ++ version ∷ [] }
@@ -160,13 +161,14 @@ impl Frames {
     }
 }
 
-/// A task: its patch state, its mode, and the functions that it is inside of. It is one row of the state, and its
-/// undo record is a copy of it.
+/// A task: its patch state, its mode, and the functions that it is inside of. A task is one row of the state. The undo
+/// record of the row is a copy of the task.
 #[derive(Clone, Copy)]
 pub struct Task {
     /// -1 if there is no transition. Otherwise 1 if the task runs the patch in transition, and 0 if it doesn't.
     pub state: PatchState,
     pub mode: Mode,
-    /// The frames of a sleeping task. A task that doesn't sleep has none here, since its frames change all the time.
+    /// The frames of a sleeping task. If a task doesn't sleep, this list is empty, since the frames of a running task
+    /// change all the time.
     pub frames: Frames,
 }

@@ -1,8 +1,8 @@
 use std::marker::Model;
 
 /// A symbol of an object: its name, the address of its first byte, and the bytes of its body. The fields are plain, and
-/// contracts see a record of lists. So whoever takes a symbol apart gets what it was made of (docs/DECISIONS.md, "Texts
-/// as records of lists").
+/// in contracts the symbol is a record of lists. So a caller that takes a symbol apart gets the parts from which it was
+/// made (docs/DECISIONS.md, "Texts as records of lists").
 #[derive(Drop)]
 pub struct SymbolText {
     pub name: String,

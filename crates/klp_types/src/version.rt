@@ -3,26 +3,27 @@ ghost use Rattle.klp_types.specs.Pick.{moves};
 
 use crate::number::{PatchId, Site};
 
-/// The code that a call of a function runs. A version names code and not an entry: the version of a nop is the
+/// The code that a call of a function runs. A version names code and not an entry, so the version of a nop is the
 /// original.
 #[derive(Clone, Copy, Debug, PartialEq, Eq)]
 pub enum Version {
-    /// The function that the site was built with. The version names its site, so a frame shows where the call was.
+    /// The function that the site was built with. The version names its site, so a frame shows at which site the call
+    /// was.
     Original(Site),
     /// A new function of a patch, by its index among all functions of the patch, from 0.
     New(PatchId, u16),
 }
 
-/// A version with the address to which a call jumps. This is what a handler needs.
+/// A version with the address to which a call jumps. A handler needs exactly these two.
 #[derive(Clone, Copy, PartialEq, Eq)]
 pub struct Target {
     pub version: Version,
-    /// The address of a new function. For an original it is the address after the entry site, so that the jump doesn't
-    /// call the handler again.
+    /// The address of a new function, or the address after the entry site of an original. The jump to an original skips
+    /// the entry site so that it doesn't call the handler again.
     pub address: u64,
 }
 
-/// An entry of a function stack: what one installed patch does at a site.
+/// An entry of a function stack. It says what one installed patch does at a site.
 #[derive(Clone, Copy, Default, PartialEq, Eq)]
 pub struct Entry {
     pub patch: PatchId,

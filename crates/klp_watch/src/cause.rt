@@ -1,32 +1,32 @@
 use thiserror::Error;
 
-/// Why an item can't be done: it breaks this premise of the consistency model, or the watcher has no room left for it.
-/// The numbers are this project's own, and won't change.
+/// Why an item can't be done. Either the item breaks this premise of the consistency model, or the watcher has no room
+/// left for it. The numbers are this project's own, and never change.
 #[derive(Clone, Copy, Debug, PartialEq, Eq, Error)]
 pub enum Cause {
-    /// A task existed at the start, so it isn't known what the task is inside of.
+    /// A task existed at the start. So it isn't known which functions the task is inside of.
     #[error("NotOpening")]
     NotOpening = 1,
-    /// A task fell asleep, but the frames of the event aren't those that the task is inside of.
+    /// A task fell asleep, but the frames of the event aren't the versions that the task is inside of.
     #[error("Frames")]
     Frames = 2,
     /// A task left the kernel or ended while it was inside of a function.
     #[error("FramesLeft")]
     FramesLeft = 3,
-    /// A module was unloaded while a task was inside of one of its functions.
+    /// A module was unloaded while a task was inside of one of the module's functions.
     #[error("ModuleInUse")]
     ModuleInUse = 4,
     /// A transition was forced.
     #[error("Forced")]
     Forced = 5,
-    /// A call by a task that isn't in the kernel, or at a site of no loaded object.
+    /// A task called a function, but it isn't in the kernel, or the site isn't in a loaded object.
     #[error("NoCall")]
     NoCall = 6,
-    /// A return by a task that is inside of nothing, or isn't in the kernel.
+    /// A task returned, but it is inside of no function or isn't in the kernel.
     #[error("NoReturn")]
     NoReturn = 7,
-    /// A call by a task that is already inside of [`klp_types::MAX_FRAMES`] functions, the most that the watcher can
-    /// store.
+    /// A task called a function, but it is already inside of [`klp_types::MAX_FRAMES`] functions, the most that the
+    /// watcher can store.
     #[error("Deep")]
     Deep = 8,
 }
@@ -35,7 +35,7 @@ pub enum Cause {
 #[derive(Clone, Copy, Debug, PartialEq, Eq, Error)]
 #[error("item {item}: {cause}")]
 pub struct NotHonest {
-    /// The number of the item, counted from 1. 0 if the run couldn't begin.
+    /// The number of the item, counted from 1. The number is 0 if the run couldn't begin.
     pub item: usize,
     pub cause: Cause,
 }

@@ -1,4 +1,5 @@
-//! Comparing a kernel with the rules: its events are done, and its answers and sights compared with what the rules say.
+//! Comparing a kernel with the rules. The events are done on a manager, and the kernel's answers and sights are
+//! compared with the manager's.
 ghost use Rattle.std.specs.Prelude.{◌≡◌, List, IfOk, IfErr};
 ghost use Rattle.klp_model.specs.declared.seen.Seen.{Seen as AnyItem};
 ghost use Rattle.klp_model.specs.Observed.{Stacks, HasNoTask, IsHonestRun};
@@ -18,16 +19,16 @@ use crate::watching::{functions_are_in_objects, has_task, watch_item};
 use klp_core::Manager;
 
 /// Does the events, calls and returns of the items, as [`watch`](crate::watch) does, on a manager without tasks.
-/// Compares the kernel's answers with those of the rules, and what the kernel showed with the manager's state at that
-/// point. Returns the first item at which they differ, or which breaks a premise. If an event does both, returns the
-/// premise.
+/// Compares the kernel's answers with those of the rules. Compares what the kernel showed with the manager's state at
+/// that moment. Returns the first item that differs from the rules or breaks a premise. If an event does both, returns
+/// the premise.
 ///
-/// The returned item changes nothing: an event is taken back by its own records, though its callbacks have run. All
-/// items before it are done, and agree with the rules. Allocates nothing. An item costs as much as its event or its
-/// look-up.
+/// The returned item changes nothing. If it is an event, it is taken back by its own records, but its callbacks have
+/// run. All items before it are done, and agree with the rules. The call allocates nothing. An item costs as much as
+/// its event or its look-up.
 pub fn compare(manager: &mut Manager, items: &[Observed]) -> Result<(), Differs>
     ensures compared { IfOk result (λ _. AreCompared manager.old manager.new items.now) }
-    // what is compared is consistent at every moment
+    // the compared run is consistent at every moment
     ensures consistent { (run : List AnyItem)
         → IsHonestRun (setting_of manager.old.managed) manager.old.managed.state run
         → IsConsistent (setting_of manager.old.managed) manager.old.managed.state run }
@@ -50,7 +51,7 @@ pub fn compare(manager: &mut Manager, items: &[Observed]) -> Result<(), Differs>
     compare_all(manager, items)
 }
 
-/// Compares the items in order. There is no task at first.
+/// Compares the items in order. At first there is no task.
 fn compare_all(manager: &mut Manager, items: &[Observed]) -> Result<(), Differs>
     ensures compared { IfOk result
         (λ _. HasNoTask manager.old.managed.state → AreCompared manager.old manager.new items.now) }
@@ -75,7 +76,7 @@ fn compare_all(manager: &mut Manager, items: &[Observed]) -> Result<(), Differs>
     Ok(())
 }
 
-/// Compares one item. `inside` has what the tasks are inside of.
+/// Compares one item. `inside` has the versions that each task is inside of.
 pub(crate) fn compare_item(
     manager: &mut Manager,
     inside: &mut Inside,

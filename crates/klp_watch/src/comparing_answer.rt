@@ -1,4 +1,4 @@
-//! Events whose answers were observed.
+//! Events with the answers that were observed.
 ghost use Rattle.std.specs.Prelude.{◌≡◌, ◌↔◌, IsTrue, IfOk, IfErr, IfSome, IfNone};
 ghost use Rattle.klp_model.specs.declared.seen.Seen.TheVariants.{Event as Happens};
 ghost use Rattle.klp_model.specs.Observed.{Stacks, IsHonestEvent};
@@ -15,9 +15,9 @@ use klp_core::Manager;
 use klp_model::{Event, Refusal, Reply};
 use klp_types::{Frames, ShadowValue};
 
-/// Passes an event to the manager. If the manager refuses it, this is no fault if the kernel refused it for the same
-/// reason. If the manager accepts it, but it breaks a premise or was answered otherwise, takes it back by its own
-/// records.
+/// Passes an event to the manager. If the manager refuses the event, the kernel must have refused it for the same
+/// reason. If the manager accepts the event, but the event breaks a premise or the kernel gave another answer, takes
+/// the event back by its own records.
 pub(crate) fn take_answered(
     manager: &mut Manager,
     inside: &mut Inside,
@@ -50,8 +50,9 @@ pub(crate) fn take_answered(
     Ok(())
 }
 
-/// Returns how an accepted event differs from the rules, or `None` if it doesn't. If it breaks a premise, returns the
-/// premise. Otherwise returns `Answer` if the kernel's answer isn't that of the rules.
+/// Returns how an accepted event differs from the rules. If the event breaks a premise, returns the premise. Otherwise
+/// returns `Answer` if the kernel's answer isn't that of the rules. Returns `None` if nothing differs. `is_so` says
+/// whether the answers agree.
 fn difference(manager: &Manager, inside: &Inside, event: &Event, is_so: bool) -> Option<Difference>
     ensures found { IfSome result (λ difference. (stacks : Stacks) → AreInside inside.now.rows stacks
         → IsFound (setting_of manager.now.managed) stacks event.now is_so difference) }

@@ -13,7 +13,8 @@ use crate::observed::{PatchFiles, Sight};
 use klp_core::Manager;
 use klp_types::{PatchId, PatchState, Site, TaskId, Version};
 
-/// Whether the state shows what was seen. Costs a look-up, and for a patch a look at the installed patches.
+/// Whether the state shows what was seen. The cost is a look-up. For a patch, the list of installed patches is searched
+/// too.
 pub(crate) fn is_shown(manager: &Manager, sight: &Sight) -> bool
     ensures { IsTrue result ↔ Shows (setting_of manager.now.managed) manager.now.managed.state sight.now }
 {
@@ -25,7 +26,7 @@ pub(crate) fn is_shown(manager: &Manager, sight: &Sight) -> bool
     }
 }
 
-/// Returns how the kernel differs if the state doesn't show this.
+/// Returns the difference to report if the state doesn't show this sight.
 pub(crate) fn other_than(sight: &Sight) -> Difference
     ensures { result ≡ other_than sight.now }
 {
@@ -37,7 +38,7 @@ pub(crate) fn other_than(sight: &Sight) -> Difference
     }
 }
 
-/// Whether a task has this patch state. If `state` is `None`, whether there is no such task.
+/// Whether a task has this patch state. If `state` is `None`, returns whether there is no such task.
 fn is_in_state(manager: &Manager, task: TaskId, state: Option<PatchState>) -> bool
     ensures { IsTrue result
         ↔ (option_map (λ (t : AnyTask). t.state) (task_at manager.now.managed.state.tasks task) ≡ state) }
@@ -49,7 +50,7 @@ fn is_in_state(manager: &Manager, task: TaskId, state: Option<PatchState>) -> bo
     }
 }
 
-/// Whether the files of a patch read as in `files`. If `files` is `None`, whether the patch has no files.
+/// Whether the files of a patch read as in `files`. If `files` is `None`, returns whether the patch has no files.
 fn is_reading(manager: &Manager, patch: PatchId, files: Option<PatchFiles>) -> bool
     ensures { IsTrue result ↔ (files_of manager.now.managed.state patch ≡ files) }
 {
@@ -74,7 +75,7 @@ fn is_running(manager: &Manager, task: TaskId, site: Site, version: Version) -> 
     }
 }
 
-/// Whether a site's object is loaded, and the site is hooked or not as `hooked` says.
+/// Whether a site's object is loaded, and the site is hooked if `hooked` is true, and not hooked if `hooked` is false.
 fn is_text(manager: &Manager, site: Site, hooked: bool) -> bool
     ensures { IsTrue result
         ↔ ((is_site_loaded (setting_of manager.now.managed) manager.now.managed.state site ≡ true)

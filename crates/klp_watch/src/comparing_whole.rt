@@ -1,4 +1,4 @@
-//! Comparing a kernel with the rules over a trace of any length: the journal is sealed whenever it is full.
+//! Comparing a kernel with the rules for a trace of any length. The journal is sealed whenever it is full.
 ghost use Rattle.std.specs.Prelude.{◌≡◌, IfOk, IfErr};
 ghost use Rattle.klp_model.specs.Observed.{HasNoTask};
 ghost use Rattle.klp_manager_state.specs.Managed.{setting_of};
@@ -17,11 +17,11 @@ use crate::watching_whole::make_room;
 use klp_core::Manager;
 
 /// Does the same as [`compare`](crate::compare) for any number of items. Seals the journal whenever it has no room for
-/// one more event. So the answers and the result are what the rules say of the whole list. It isn't promised which
-/// events can be taken back afterwards.
+/// one more event. So the answers and the result are those that the rules give for the whole list. It isn't promised
+/// which events can be taken back afterwards.
 pub fn compare_whole(manager: &mut Manager, items: &[Observed]) -> Result<(), Differs>
     ensures compared { IfOk result (λ _. AreAllSo manager.old.managed manager.new.managed items.now) }
-    // what is compared is consistent at every moment
+    // the compared run is consistent at every moment
     ensures consistent { IfOk result
         (λ _. IsConsistent (setting_of manager.old.managed) manager.old.managed.state (taken_from items.now)) }
     ensures differs { IfErr result (λ differs.
@@ -43,7 +43,7 @@ pub fn compare_whole(manager: &mut Manager, items: &[Observed]) -> Result<(), Di
     compare_each(manager, items)
 }
 
-/// Compares the items in order. There is no task at first.
+/// Compares the items in order. At first there is no task.
 fn compare_each(manager: &mut Manager, items: &[Observed]) -> Result<(), Differs>
     ensures compared { IfOk result (λ _. HasNoTask manager.old.managed.state
         → AreAllSo manager.old.managed manager.new.managed items.now) }

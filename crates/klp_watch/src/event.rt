@@ -1,4 +1,4 @@
-//! The events of a trace. Each is done, and taken back if it breaks a premise.
+//! The events of a trace. Each event is done. If it breaks a premise, it is taken back.
 ghost use Rattle.std.specs.Prelude.{◌≡◌, IfOk, IfErr, IfSome, IfNone};
 ghost use Rattle.klp_model.specs.declared.seen.Seen.TheVariants.{Event as Happens};
 ghost use Rattle.klp_model.specs.Observed.{Stacks, begun, IsHonestEvent};
@@ -13,7 +13,8 @@ use klp_core::Manager;
 use klp_model::Event;
 use klp_types::Frames;
 
-/// Returns the premise that an accepted event breaks, if it breaks one. What the tasks are inside of decides this.
+/// Returns the premise that an accepted event breaks. Returns `None` if it breaks no premise. The versions that the
+/// tasks are inside of decide this.
 pub(crate) fn against(manager: &Manager, inside: &Inside, event: &Event) -> Option<Cause>
     ensures found { IfSome result (λ cause. (stacks : Stacks) → AreInside inside.now.rows stacks
         → IsAgainst (setting_of manager.now.managed) stacks event.now cause) }
@@ -31,7 +32,7 @@ pub(crate) fn against(manager: &Manager, inside: &Inside, event: &Event) -> Opti
     }
 }
 
-/// A new task is inside of nothing, whatever an earlier task with its number was inside of.
+/// Stores that a new task is inside of nothing, whatever an earlier task with its number was inside of.
 pub(crate) fn begin(inside: &mut Inside, event: &Event)
     ensures { (stacks : Stacks) → AreInside inside.old.rows stacks
         → AreInside inside.new.rows (begun event.now stacks) }
@@ -42,9 +43,9 @@ pub(crate) fn begin(inside: &mut Inside, event: &Event)
     }
 }
 
-/// Passes an event to the manager. A refusal is no fault. If an accepted event breaks a premise, takes it back by its
-/// own records, so no later item sees it. Since the manager is well formed, it is known to which state these records
-/// lead back.
+/// Passes an event to the manager. A refusal is no fault. If an accepted event breaks a premise, the event is taken
+/// back by its own records, so that no later item sees its effect. The manager is well formed, so it is known to which
+/// state these records lead back.
 pub(crate) fn happen(manager: &mut Manager, inside: &mut Inside, event: &Event) -> Result<(), Cause>
     requires { IsWellFormed manager.old }
     ensures done { IfOk result (λ _. (stacks : Stacks) → AreInside inside.old.rows stacks

@@ -9,8 +9,8 @@ ghost use Rattle.klp_watch.specs.Inside.{frames_at, are_in};
 use klp_core::Manager;
 use klp_types::{Frames, MAX_TASKS, ObjId, TaskId, Version};
 
-/// What each task is inside of: the versions that it called and hasn't returned from, by the number of the task. Its
-/// size is fixed, so watching allocates nothing.
+/// The versions that each task is inside of, by the task's number. These are the versions that the task called and from
+/// which it hasn't returned. The size is fixed, so watching allocates nothing.
 #[derive(Drop)]
 pub(crate) struct Inside {
     rows: [Frames; MAX_TASKS],
@@ -26,7 +26,8 @@ impl Inside {
         }
     }
 
-    /// Returns the versions that a task is inside of, innermost last. Empty for a number that no task can have.
+    /// Returns the versions that a task is inside of, innermost last. The result is empty for a number that no task can
+    /// have.
     pub(crate) fn frames(&self, task: TaskId) -> Frames
         ensures { result ≡ frames_at self.now.rows task }
     {
@@ -46,7 +47,7 @@ impl Inside {
         }
     }
 
-    /// Whether any task is inside of the object, in any of its frames. It looks at all versions of all tasks.
+    /// Whether any task is inside of the object, in any of its frames. The call checks all versions of all tasks.
     pub(crate) fn is_entered(&self, manager: &Manager, object: ObjId) -> bool
         ensures { result ≡ list_any (are_in (setting_of manager.now.managed) object) self.now.rows }
     {

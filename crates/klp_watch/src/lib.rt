@@ -1,12 +1,12 @@
 //! Watching a kernel: a trace of what tasks do, checked against the consistency model.
 //!
 //! A trace is a list of events, calls and returns ([`klp_model::Seen`]). [`watch`] does the items of the list on a
-//! manager, and stores what each task is inside of. If no item is at fault, the list is an honest observed run
-//! (`specs/Watching`). So at every moment each task ran one version of each function, and no task was in code that had
-//! left (`klp_model::consistency`). If an item breaks a premise, [`watch`] returns the first such item with its
-//! [`Cause`]; this item changes nothing. [`watch_whole`] does the same for a trace of any length. [`compare`] also
-//! compares what the kernel answered and showed with the rules (`specs/Compared`), and [`compare_whole`] does so for a
-//! trace of any length (`specs/ComparedWhole`).
+//! manager, and stores which versions each task is inside of. If no item is at fault, the list is an honest observed
+//! run (`specs/Watching`). So at every moment each task ran one version of each function, and no task was inside of
+//! code that had left the function stacks (`klp_model::consistency`). If an item breaks a premise, [`watch`] returns
+//! the first such item with its [`Cause`]. This item changes nothing. [`watch_whole`] does the same for a trace of any
+//! length. [`compare`] also compares the kernel's answers and sights with the rules (`specs/Compared`), and
+//! [`compare_whole`] does so for a trace of any length (`specs/ComparedWhole`).
 #![tactic(auto)]
 
 mod cause;

@@ -1,4 +1,4 @@
-//! What tasks do between events: they call and return. What each task is inside of is stored.
+//! The calls and returns of tasks between events. The versions that each task is inside of are stored.
 ghost use Rattle.std.specs.Prelude.{◌≡◌, true, length, IfOk, IfErr};
 ghost use Rattle.klp_types.specs.declared.limits.TheConstants.{MAX_TASKS};
 ghost use Rattle.klp_types.specs.declared.task.Mode.TheVariants.{Kernel};
@@ -14,7 +14,7 @@ use crate::inside::Inside;
 use klp_core::Manager;
 use klp_types::{Mode, Site, TaskId};
 
-/// Whether a task runs in the kernel. Only there can it call and return.
+/// Whether a task runs in the kernel. Only a task in the kernel can call and return.
 fn is_in_kernel(manager: &Manager, task: TaskId) -> bool
     ensures mode { result ≡ is_in Kernel (task_at manager.now.managed.state.tasks task) }
     ensures rows { length manager.now.managed.state.tasks ≡ MAX_TASKS }
@@ -25,7 +25,7 @@ fn is_in_kernel(manager: &Manager, task: TaskId) -> bool
     }
 }
 
-/// A task calls a site's function, and is then inside of the version that the call runs.
+/// A task calls a site's function, and is afterwards inside of the version that the call runs.
 pub(crate) fn call(
     manager: &Manager,
     inside: &mut Inside,

@@ -16,16 +16,16 @@ use klp_core::Manager;
 use klp_model::Seen;
 use klp_types::{MAX_TASKS, TaskId};
 
-/// Does the items of a trace in order, on a manager without tasks. Returns the first item that isn't honest: it breaks
-/// a premise of the consistency model, or there is no room for it. If several [`Cause`]s hold, returns the first. A
-/// refused event counts as done. Allocates nothing. An item costs as much as its event or its look-up. Unloading a
-/// module also costs a look at all that tasks are inside of.
+/// Does the items of a trace in order, on a manager without tasks. Returns the first item that isn't honest. Such an
+/// item breaks a premise of the consistency model, or there is no room for it. If several [`Cause`]s apply, returns the
+/// first. A refused event counts as done. The call allocates nothing. An item costs as much as its event or its
+/// look-up. When a module is unloaded, all versions that tasks are inside of are checked too.
 ///
-/// All items before the returned one are done. The returned one changes nothing: an event's records are put back,
-/// though its callbacks have run.
+/// All items before the returned item are done. The returned item changes nothing. If it is an event, its records are
+/// put back, but its callbacks have run.
 pub fn watch(manager: &mut Manager, items: &[Seen]) -> Result<(), NotHonest>
     ensures watched { IfOk result (λ _. AreWatched manager.old manager.new items.now) }
-    // what is watched is consistent at every moment
+    // the watched run is consistent at every moment
     ensures consistent { (run : List AnyItem)
         → IsHonestRun (setting_of manager.old.managed) manager.old.managed.state run
         → IsConsistent (setting_of manager.old.managed) manager.old.managed.state run }
@@ -47,7 +47,7 @@ pub fn watch(manager: &mut Manager, items: &[Seen]) -> Result<(), NotHonest>
     watch_all(manager, items)
 }
 
-/// Each function of the catalog is in the object whose function it replaces.
+/// Shows that each function of the catalog is in the object of the function that it replaces.
 pub(crate) fn functions_are_in_objects(manager: &Manager)
     ensures { IsInPlace (setting_of manager.now.managed) }
 {
@@ -55,7 +55,7 @@ pub(crate) fn functions_are_in_objects(manager: &Manager)
     let _named = manager.catalog();
 }
 
-/// Watches the items in order. There is no task at first.
+/// Watches the items in order. At first there is no task.
 fn watch_all(manager: &mut Manager, items: &[Seen]) -> Result<(), NotHonest>
     ensures watched { IfOk result
         (λ _. HasNoTask manager.old.managed.state → AreWatched manager.old manager.new items.now) }
@@ -93,7 +93,7 @@ pub(crate) fn has_task(manager: &Manager) -> bool
     false
 }
 
-/// Watches one item. `inside` has what the tasks are inside of.
+/// Watches one item. `inside` has the versions that each task is inside of.
 pub(crate) fn watch_item(
     manager: &mut Manager,
     inside: &mut Inside,

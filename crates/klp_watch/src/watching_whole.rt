@@ -1,5 +1,5 @@
 //! Watching a trace of any length. The journal is sealed whenever it is full, so no event is refused for lack of room
-//! in it.
+//! in the journal.
 ghost use Rattle.std.specs.Prelude.{◌≡◌, true, IfOk, IfErr};
 ghost use Rattle.klp_journal.specs.Journal.{has_room};
 ghost use Rattle.klp_model.specs.Observed.{HasNoTask};
@@ -16,11 +16,11 @@ use klp_model::Seen;
 use klp_types::{MAX_GROUPS, MAX_RECORDS};
 
 /// Does the same as [`watch`](crate::watch) for any number of items. Seals the journal whenever it has no room for one
-/// more event. So what is accepted or refused, and the result, are what the rules say of the whole list. It isn't
-/// promised which events can be taken back afterwards.
+/// more event. So the rules for the whole list decide which events are accepted or refused, and what the result is. It
+/// isn't promised which events can be taken back afterwards.
 pub fn watch_whole(manager: &mut Manager, items: &[Seen]) -> Result<(), NotHonest>
     ensures watched { IfOk result (λ _. LeadHonestly manager.old.managed manager.new.managed items.now) }
-    // what is watched is consistent at every moment
+    // the watched run is consistent at every moment
     ensures consistent { IfOk result
         (λ _. IsConsistent (setting_of manager.old.managed) manager.old.managed.state items.now) }
     ensures fault { IfErr result (λ fault.
@@ -42,7 +42,7 @@ pub fn watch_whole(manager: &mut Manager, items: &[Seen]) -> Result<(), NotHones
     watch_each(manager, items)
 }
 
-/// Watches the items in order. There is no task at first.
+/// Watches the items in order. At first there is no task.
 fn watch_each(manager: &mut Manager, items: &[Seen]) -> Result<(), NotHonest>
     ensures watched { IfOk result (λ _. HasNoTask manager.old.managed.state
         → LeadHonestly manager.old.managed manager.new.managed items.now) }

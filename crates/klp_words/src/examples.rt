@@ -1,5 +1,5 @@
-//! Worked examples of the definitions. A function here does nothing: its contract is the example, and it is proved
-//! by computing the definition.
+//! Worked examples of the definitions. A function of this module does nothing. The function's contract is the example,
+//! which is proved by computing the definition.
 ghost use Rattle.std.specs.Prelude.{◌≡◌, ◌^◌, pos, negsuc, true, false, [], ◌∷◌, replicate, codes, Some, None};
 ghost use Rattle.klp_words.specs.declared.split.Separators.TheVariants.{Spaces, SpacesAndTabs};
 ghost use Rattle.klp_words.specs.Seconds.{seconds_of};
@@ -75,8 +75,9 @@ pub fn a_status_has_a_minus_or_none()
     ensures plus { status_of (codes "+1") ≡ None }
 {}
 
-/// A value is spelled as a number, which means its eight bytes, the lowest first, or as `x` and two digits for each
-/// of up to 64 bytes. A value of eight bytes is written as a number, any other with `x`.
+/// The value of a shadow variable is spelled either as a number or as bytes. A number means its eight bytes, the lowest
+/// first. Bytes are spelled as `x` and two digits for each of up to 64 bytes. A value of eight bytes is written as a
+/// number, and any other value with `x`.
 pub fn values_are_numbers_or_bytes()
     ensures number { shadow_value_of (codes "513") ≡ Some (1 ∷ 2 ∷ 0 ∷ 0 ∷ 0 ∷ 0 ∷ 0 ∷ 0 ∷ []) }
     ensures too_great { shadow_value_of (codes "18446744073709551616") ≡ None }

@@ -1,4 +1,4 @@
-//! Searches bytes, sixteen at a time.
+//! Searches bytes, sixteen bytes at a time.
 
 ghost use Rattle.std.specs.Prelude.{◌≡◌, map, not};
 ghost use Rattle.std.specs.Char.{is_ascii};
@@ -31,7 +31,7 @@ pub(crate) fn first_of(bytes: &[u8], one: u8, other: u8) -> usize
         }
         at += LANES;
     }
-    // Too few bytes are left to fill all lanes.
+    // The remaining bytes are too few to fill all lanes.
     let mut last = at;
     while last < bytes.len() && bytes[last] != one && bytes[last] != other {
         last += 1;
@@ -47,7 +47,8 @@ fn lanes_beyond_ascii(lanes: u8x16) -> u64
     lanes.simd_ge(u8x16::splat(0x80)).to_bitmask()
 }
 
-/// Whether the bytes are ASCII, tested one by one. It is used for the last bytes if they don't fill all lanes.
+/// Whether the bytes are ASCII, tested one by one. The function is used for the last bytes, if they don't fill all
+/// lanes.
 fn are_each_ascii(bytes: &[u8]) -> bool
     ensures { result ≡ list_all is_ascii bytes.now }
 {

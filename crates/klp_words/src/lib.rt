@@ -4,8 +4,8 @@
 //! text at the first occurrence of a byte. [`number64`] and similar functions read numbers. [`shadow_value`] reads the
 //! value of a shadow variable, [`spelling_of`] a symbol as a `func` line spells it (`specs/Words`), and
 //! [`microseconds`] the time of a log (`specs/Seconds`). [`is_ascii`] tests whether a line is ASCII. None of these
-//! functions takes memory. They report only that a word is wrong; the caller decides which fault that is. `examples`
-//! shows how words of each kind are read, and which words are refused.
+//! functions takes memory. A function reports only that a word is wrong, and the caller decides which fault to report.
+//! `examples` shows how words of each kind are read, and which words are refused.
 #![tactic(auto)]
 
 pub mod examples;

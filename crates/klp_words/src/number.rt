@@ -1,5 +1,5 @@
-//! Reads numbers in decimal and hexadecimal digits. The standard library also accepts a leading plus; the functions
-//! here don't.
+//! Reads numbers in decimal and hexadecimal digits. The standard library also accepts a leading plus. The functions of
+//! this module don't accept a plus.
 
 ghost use Rattle.std.specs.Prelude.{◌≡◌, ◌||◌, ◌==◌, ◌^◌, if◌then◌else◌, Some, None};
 ghost use Rattle.std.specs.Char.{is_ascii_digit, is_ascii_hexdigit, digit_value};
@@ -9,7 +9,7 @@ ghost use Rattle.klp_words.specs.Words.{decimal_of, hexadecimal_of, status_of};
 use crate::spelling::text;
 use klp_types::MAX_ADDRESS_DIGITS;
 
-/// Whether the word has only digits and minus signs. This check refuses a plus, which the standard library would
+/// Whether the word has only digits and minus signs. This check excludes a plus, which the standard library would
 /// accept.
 fn has_only_digits_and_minus(word: &[u8]) -> bool
     ensures { result ≡ list_all (λ b. is_ascii_digit b || b == 45) word.now }
@@ -17,7 +17,8 @@ fn has_only_digits_and_minus(word: &[u8]) -> bool
     word.iter().all(|b| b.is_ascii_digit() || *b == b'-')
 }
 
-/// Reads a decimal number of 32 bits. Only digits are allowed, also leading zeros. Returns `None` for any other word.
+/// Reads a decimal number of 32 bits. Only digits are allowed, including leading zeros. Returns `None` for any other
+/// word.
 pub fn number32(word: &[u8]) -> Option<u32>
     ensures { result ≡ decimal_of (2 ^ 32) word.now }
 {
@@ -44,8 +45,8 @@ pub fn number64(word: &[u8]) -> Option<u64>
     Some(number)
 }
 
-/// Reads a number of 32 bits with a sign: digits, or a minus and digits. Returns `None` for any other word; a plus
-/// isn't allowed.
+/// Reads a number of 32 bits with a sign, which is written as digits, or as a minus and digits. Returns `None` for any
+/// other word. A plus isn't allowed.
 #[tactic(auto, using(crate::proofs::NumberLemmas::ascii_from_status))]
 pub fn signed(word: &[u8]) -> Option<i32>
     ensures { result ≡ status_of word.now }
@@ -56,9 +57,9 @@ pub fn signed(word: &[u8]) -> Option<i32>
     text(word).parse::<i32>().ok()
 }
 
-/// Returns the value of a hexadecimal digit, in either case. Returns `None` for any other byte. For each of the three
-/// ranges, which begin at `0`, `a` and `A`, the byte's wrapped distance from the beginning is compared once with the
-/// range's length.
+/// Returns the value of a hexadecimal digit, in either case. Returns `None` for any other byte. There are three ranges
+/// of digits, which begin at `0`, `a` and `A`. For each range, the byte's wrapped distance from the beginning is
+/// compared once with the length of the range.
 fn hexadecimal_digit(byte: u8) -> Option<u8>
     ensures { result ≡ (if is_ascii_hexdigit byte then Some (digit_value byte) else None) }
 {

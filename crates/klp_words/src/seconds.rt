@@ -1,4 +1,4 @@
-//! Times, which a log writes as seconds with up to six decimals.
+//! Times as a log writes them: seconds with up to six decimals.
 
 ghost use Rattle.std.specs.Prelude.{◌≡◌};
 ghost use Rattle.klp_words.specs.Seconds.{millionths_of, microseconds_of, seconds_of};
@@ -6,10 +6,11 @@ ghost use Rattle.klp_words.specs.Seconds.{millionths_of, microseconds_of, second
 use crate::number::number64;
 use crate::split::position_of;
 
-/// How many decimals the microseconds of a second have.
+/// How many decimals a second has if it is written in microseconds.
 const DECIMALS: usize = 6;
 
-/// Returns one to six decimals as millionths. Returns `None` if there are fewer or more, or if one isn't a digit.
+/// Returns one to six decimals as millionths. Returns `None` if the number of decimals is wrong, or if a byte isn't a
+/// digit.
 fn millionths(decimals: &[u8]) -> Option<u64>
     ensures { result ≡ millionths_of decimals.now }
 {
@@ -21,16 +22,17 @@ fn millionths(decimals: &[u8]) -> Option<u64>
     number64(&digits)
 }
 
-/// Returns a number of seconds and millionths of a second, in microseconds. Returns `None` if that doesn't fit in 64
-/// bits.
+/// Returns a time in microseconds, as the sum of seconds and millionths of a second. Returns `None` if the sum doesn't
+/// fit in 64 bits.
 fn added(seconds: u64, millionths: u64) -> Option<u64>
     ensures { result ≡ microseconds_of seconds millionths }
 {
     seconds.checked_mul(1_000_000)?.checked_add(millionths)
 }
 
-/// Reads a time as a log writes it, and returns it in microseconds. The word is a number of seconds: only digits, or
-/// digits, a point and one to six decimals. Returns `None` for any other word, or if the time doesn't fit in 64 bits.
+/// Reads a time as a log writes it, and returns the time in microseconds. The word is a number of seconds: only digits,
+/// or digits, a point and one to six decimals. Returns `None` for any other word, or if the time doesn't fit in 64
+/// bits.
 pub fn microseconds(word: &[u8]) -> Option<u64>
     ensures { result ≡ seconds_of word.now }
 {

@@ -15,8 +15,8 @@ use std::str;
 /// The prefix of a symbol's spelling (livepatch module ELF format, livepatch symbols).
 const SYMBOL_PREFIX: &[u8] = b".klp.sym.";
 
-/// A table of the bytes that a name may have: such a byte is at its own index, and every other index has a comma,
-/// which no name may have.
+/// A table of the bytes that a name may have. The element at the index of such a byte is the byte itself. Every other
+/// element is a comma, which no name may have.
 static NAME_BYTES: [u8; 256] = *b"\
     ,,,,,,,,,,,,,,,,,,,,,,,,,,,,,,,,\
     ,,,,,,,,,,,,,-,,0123456789,,,,,,\
@@ -52,14 +52,14 @@ fn is_symbol_byte(byte: u8) -> bool
     SYMBOL_BYTES[byte as usize] != b','
 }
 
-/// Whether a name may have all these bytes.
+/// Whether each of the bytes is one that a name may have.
 fn has_only_name_bytes(word: &[u8]) -> bool
     ensures { result ≡ list_all is_name_byte word.now }
 {
     word.iter().all(|b| is_name_byte(*b))
 }
 
-/// Whether the name of a symbol may have all these bytes.
+/// Whether each of the bytes is one that the name of a symbol may have.
 fn has_only_symbol_bytes(word: &[u8]) -> bool
     ensures { result ≡ list_all is_symbol_byte word.now }
 {
@@ -92,17 +92,18 @@ pub fn is_symbol_name(word: &[u8]) -> bool
     has_only_symbol_bytes(word)
 }
 
-/// Returns the word as text. The word must be ASCII. So nothing is copied or checked again, and nothing can fail.
+/// Returns the word as text. The word must be ASCII. So the bytes aren't copied or checked again, and the call can't
+/// fail.
 pub fn text(word: &[u8]) -> &str
     requires { IsAscii word.now }
     ensures { result.now ≡ word.now }
 {
-    // ASCII is UTF-8, as the proof shows.
+    // The proof shows that ASCII is UTF-8.
     unsafe { str::from_utf8_unchecked(word) }
 }
 
 /// A symbol with its object and its position, as a `func` line spells it. Position n means the n-th symbol of that
-/// name, and 0 the only one.
+/// name. Position 0 means the only symbol of that name.
 #[derive(Drop)]
 pub struct Spelling<'a> {
     pub object: &'a str,
@@ -118,7 +119,7 @@ impl<'a> Model for Spelling<'a> {
     ghost view = { λ s. record { object = s.object.now; symbol = s.symbol.now; sympos = s.sympos } };
 }
 
-/// Makes a spelling of its three parts. Returns `None` if a part is wrong.
+/// Makes a spelling of an object, a symbol and a position. Returns `None` if one of these is wrong.
 fn spelling_of_parts<'a>(
     object: &'a [u8],
     symbol: &'a [u8],

@@ -7,7 +7,8 @@ ghost use Rattle.klp_words.specs.Split.{separates, is_either, words_between};
 use crate::lanes::first_of;
 use std::marker::Model;
 
-/// What separates the words of a line. On the console a tab is part of a word; in a catalog it separates words.
+/// The bytes that separate the words of a line. On the console a tab is part of a word. In a catalog a tab separates
+/// words.
 #[derive(Clone, Copy)]
 pub enum Separators {
     Spaces,
@@ -26,8 +27,8 @@ impl Separators {
     }
 }
 
-/// The words of a line that are still to be read, and what separates them. Words are cut off one by one, so no list of
-/// them is made.
+/// The words of a line that are still to be read, and the bytes that separate them. Words are cut off one by one, so no
+/// list of words is made.
 #[derive(Drop)]
 pub struct LineWords<'a> {
     rest: &'a [u8],
@@ -44,7 +45,7 @@ impl<'a> Model for LineWords<'a> {
 }
 
 impl<'a> LineWords<'a> {
-    /// Starts a walk over all words of the line. The line may have any bytes, since it isn't checked yet.
+    /// Starts a walk over all words of the line. The line may have any bytes, since they aren't checked yet.
     pub fn new(line: &'a [u8], separators: Separators) -> LineWords<'a>
         ensures { result ≡ words_between (separates separators) line.now }
     {
@@ -65,7 +66,7 @@ impl<'a> LineWords<'a> {
     }
 
     /// Returns the next word, which is never empty. Returns `None` if no word is left. The time is linear in the length
-    /// of the word and of the separators before it, of which there may be any number.
+    /// of the word and of the separators before it. There may be any number of separators.
     pub fn next(&mut self) -> Option<&'a [u8]>
         ensures { MatchOption result (self.old ≡ []) (λ word. self.old ≡ word.now ∷ self.new) }
     {
@@ -91,8 +92,8 @@ pub fn position_of(bytes: &[u8], at: u8) -> Option<usize>
     }
 }
 
-/// Returns the bytes before the first byte `at`, and those after it. If there is no such byte, returns the whole text
-/// and an empty rest. So a text without the byte gives the same result as the text with the byte added at its end.
+/// Returns the bytes before the first byte `at`, and the bytes after it. If there is no such byte, returns the whole
+/// text and an empty rest. So a text without the byte gives the same result as if the byte were added at its end.
 pub fn cut(text: &[u8], at: u8) -> (&[u8], &[u8])
     ensures before { result.0.now ≡ before_first (λ b. b == at) text.now }
     ensures after { result.1.now ≡ after_first (λ b. b == at) text.now }

@@ -1,4 +1,4 @@
-//! Reads values of shadow variables, which catalogs and the console spell in the same way.
+//! Reads values of shadow variables. Catalogs and the console spell such values in the same way.
 
 ghost use Rattle.std.specs.Prelude.{◌≡◌};
 ghost use Rattle.klp_words.specs.Words.{spelled_bytes, shadow_value_of};
@@ -7,7 +7,7 @@ use crate::number::number64;
 use klp_types::{MAX_VALUE_BYTES, ShadowValue};
 
 /// Reads bytes, each from two hexadecimal digits in either case. Returns `None` if a digit is wrong or missing, or if
-/// there are too many. The number of bytes is checked first, so that they fit.
+/// there are too many digits. The number of digits is checked first, so that the bytes fit.
 #[tactic(auto, using(crate::proofs::ValueLemmas::too_many_digits))]
 fn spelled_bytes(digits: &[u8]) -> Option<ShadowValue>
     ensures { result ≡ spelled_bytes digits.now }
@@ -21,8 +21,8 @@ fn spelled_bytes(digits: &[u8]) -> Option<ShadowValue>
     ShadowValue::new(&bytes[..count])
 }
 
-/// Reads the value of a shadow variable: a decimal number, which means its eight bytes, or `x` and the digits of 0 to
-/// 64 bytes. Returns `None` for any other word. No number begins with an `x`, so no word has both meanings.
+/// Reads the value of a shadow variable. A decimal number means its eight bytes. An `x` is followed by the digits of 0
+/// to 64 bytes. Returns `None` for any other word. No number begins with an `x`, so no word has both meanings.
 pub fn shadow_value(word: &[u8]) -> Option<ShadowValue>
     ensures { result ≡ shadow_value_of word.now }
 {

@@ -1,4 +1,4 @@
-//! The slots of the shadow variables, as one linked list for each bucket.
+//! The slots of the shadow variables. Each bucket has one linked list of its slots.
 ghost use Rattle.std.specs.Prelude.{◌≡◌, ◌≢◌, ℕ, ◌+◌, ◌<◌, ◌≤◌, [], Some, None, length, vec_capacity, IfOk};
 ghost use Rattle.klp_world.specs.Chained.{IsChained, IsAbove, IsRehomed, bucket_at, is_in, pointed, with_newest};
 ghost use Rattle.klp_world.specs.Chained.{with_links};
@@ -6,29 +6,30 @@ ghost use Rattle.klp_world.specs.Chained.{with_links};
 use klp_types::MAX_VARIABLES;
 use std::alloc::{AllocError, Global};
 
-/// How many buckets the slots are spread over. It is a power of two, since the hash is the top bits of a product.
+/// How many buckets there are. The number is a power of two, since the hash is the top bits of a product.
 pub(crate) const BUCKETS: usize = 64;
 
 /// The list node of a slot: its bucket, and the next slot of that bucket.
 #[derive(Clone, Copy)]
 pub(crate) struct Link {
-    /// The next older slot of the bucket, if there is one. Its number is lower.
+    /// The next older slot of the bucket, if there is one. An older slot has a lower number.
     pub(crate) older: Option<u16>,
     pub(crate) bucket: u8,
 }
 
-/// For each slot its bucket, and for each bucket a list of its slots, newest first. A list runs from higher to
-/// lower slot numbers, so the buckets of the slots determine all links.
+/// For each slot its bucket, and for each bucket a list of its slots, newest first. In each list the slot numbers fall.
+/// So the buckets of the slots determine all links.
 #[derive(Drop)]
 pub(crate) struct Chains {
-    /// By bucket, its newest slot. `None` if the bucket is empty.
+    /// By bucket, the newest slot of the bucket. `None` if the bucket is empty.
     pub(crate) newest: Vec<Option<u16>>,
-    /// By slot, its list node.
+    /// By slot, the slot's list node.
     pub(crate) links: Vec<Link>,
 }
 
 impl Chains {
-    /// Creates the lists without slots, and allocates memory for [`MAX_VARIABLES`] slots, so no later call grows them.
+    /// Creates the lists without slots, and allocates memory for [`MAX_VARIABLES`] slots. So no later call takes
+    /// memory.
     pub(crate) fn new(alloc: Global) -> Result<Self, AllocError>
         ensures chained { IfOk result IsChained }
         ensures none { IfOk result (λ chains. chains.links.items ≡ []) }
@@ -39,8 +40,8 @@ impl Chains {
         })
     }
 
-    /// Returns the lowest slot of a bucket whose number is above `slot`. If `slot` is in the bucket, this is the slot
-    /// that links to it; but `slot` needn't be there. Returns `None` if the bucket has no slot above it.
+    /// Returns the lowest slot of a bucket whose number is above `slot`. The slot `slot` needn't be in the bucket. If
+    /// it is, the returned slot is the one that links to it. Returns `None` if the bucket has no slot above `slot`.
     fn above(&self, bucket: u8, slot: u16) -> Option<u16>
         requires chained { IsChained self.now }
         requires bucket { bucket < BUCKETS }
@@ -101,7 +102,7 @@ impl Chains {
         let _ = self.links.push(Link { older, bucket });
     }
 
-    /// Removes the slot with the highest number, and returns its bucket. It is the newest of that bucket.
+    /// Removes the slot with the highest number, and returns its bucket. This slot is the newest of its bucket.
     fn pop(&mut self) -> Option<u8>
         requires chained { IsChained self.old }
         requires some { 0 < length self.old.links.items }
@@ -116,7 +117,7 @@ impl Chains {
         Some(bucket)
     }
 
-    /// Moves a slot from its bucket's list into another bucket's.
+    /// Moves a slot from the list of its bucket into the list of another bucket.
     fn rehome(&mut self, slot: u16, to: u8)
         requires chained { IsChained self.old }
         requires there { slot < length self.old.links.items }
@@ -139,7 +140,7 @@ impl Chains {
         };
     }
 
-    /// Removes a slot. If it isn't the last slot, the last slot gets its number.
+    /// Removes a slot. If it isn't the last slot, the last slot gets the number of the removed slot.
     pub(crate) fn swap_remove(&mut self, slot: u16)
         requires chained { IsChained self.old }
         requires there { slot < length self.old.links.items }

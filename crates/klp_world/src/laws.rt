@@ -1,5 +1,5 @@
-//! What is proved of the records of scripts. A function here does nothing: its contract is the law, and holds of
-//! every world, patch and script.
+//! What is proved of the records of scripts. A function of this module does nothing. Its contract is the law, which
+//! holds of every world, patch and script.
 ghost use Rattle.std.specs.Prelude.{◌≡◌, ℕ, ◌+◌, ◌≤◌, true, List, length};
 ghost use Rattle.std.specs.List.{All};
 ghost use Rattle.klp_types.specs.declared.shadow.ShadowKey.{ShadowKey};
@@ -16,30 +16,30 @@ use klp_types::MAX_VARIABLES;
 pub use klp_types::laws::scripts_apart_commute;
 
 /// A script logs at most one record for each edit, one more for each edit that adds a shadow variable, and one for each
-/// variable that the script removes. The last of these are counted because removing an id logs every variable that it
-/// removes.
+/// variable that the script removes. Removed variables are counted because removing an id logs every variable with that
+/// id.
 pub fn records_are_few()
     ensures { (patch : ℕ) (world : World) (script : Script)
         → length (rows_of_script patch world script) + finite.len (effect patch world script).shadow
         ≤ finite.len world.shadow + length script.edits + alloc_count script.edits }
 {}
 
-/// The variables that a removal of an id logs and the variables that are left add up to all variables. So a removal
-/// logs exactly one record for each variable that it removes.
+/// When an id is removed, the number of logged variables and the number of variables that are left add up to the number
+/// of all variables before. So a removal logs exactly one record for each variable that it removes.
 pub fn freed_and_left_are_all()
     ensures { (world : World) (id : ℕ)
         → length (rows_of_free_all world id) + finite.len (without_id world id).shadow ≡ finite.len world.shadow }
 {}
 
-/// Putting back the records of a script restores the world before the script, if that world has room for all variables
-/// that the script adds: a variable that is put back needs room too.
+/// If a world has room for all variables that a script adds, putting back the records of the script restores that
+/// world. The room is needed because a variable that is put back needs room too.
 pub fn scripts_are_undone()
     ensures { (patch : ℕ) (world : World) (script : Script)
         → finite.len world.shadow + alloc_count script.edits ≤ MAX_VARIABLES
         → undone (effect patch world script) (rows_of_script patch world script) ≡ world }
 {}
 
-/// If the world before a script has room for all variables that the script adds, each record of the script changes its
+/// If the world before a script has room for all variables that the script adds, each record of the script changes a
 /// row when it is put back in its turn. An edit that doesn't change a row logs nothing.
 #[tactic(auto, using(crate::proofs::EffectLemmas::effective_script))]
 pub fn scripts_tell_what_they_change()
@@ -48,7 +48,7 @@ pub fn scripts_tell_what_they_change()
         → HaveEffects (effect patch world script) (rows_of_script patch world script) }
 {}
 
-/// Changes of the world log only rows of the world. So the other parts of a manager needn't look at these records.
+/// Changes of the world log only rows of the world. So the other parts of a manager needn't read these records.
 #[tactic(auto, using(crate::proofs::KindLemmas::of_free_all, crate::proofs::KindLemmas::of_add, crate::proofs::KindLemmas::of_drop, crate::proofs::KindLemmas::of_script))]
 pub fn what_is_logged_is_of_the_world()
     ensures alloc { (world : World) (key : ShadowKey) → All (λ row. is_of_world row ≡ true) (rows_of_alloc world key) }

@@ -2,12 +2,13 @@
 //! shadow variables (system-state, shadow-vars).
 //!
 //! The model is the world of the definitions (`klp_types/specs/World`). Each change makes one edit, or installs or
-//! removes one patch. It logs the rows that it changes; a row that doesn't change isn't logged. These records, put back
-//! newest first, restore the world, and each of them changes it (`specs/Changes`, `Undo`, `StoredEvent`). Only
-//! [`World::new`] takes memory. `laws` says the same of the records of scripts, and how many there are at most.
+//! removes one patch. A change logs the rows that it changes; a row that doesn't change isn't logged. If the records
+//! are put back newest first, each of them changes the world, and together they restore it (`specs/Changes`, `Undo`,
+//! `StoredEvent`). Only [`World::new`] takes memory. `laws` says the same of the records of scripts, and how many
+//! records a script logs at most.
 //!
-//! Installed patches are one list, oldest first, and a second list has just their numbers. Shadow variables are in
-//! a table without gaps (`src/shadow_table.rt`). The slots whose keys have the same hash are linked to one another
+//! Installed patches are one list, oldest first. A second list has just the patches' numbers. Shadow variables are in a
+//! table without gaps (`src/shadow_table.rt`). The slots whose keys have the same hash are linked to one another
 //! (`src/chains.rt`). To remove all variables of an id, their keys are sorted first (`src/sorted.rt`).
 #![tactic(auto)]
 

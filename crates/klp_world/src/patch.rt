@@ -8,8 +8,8 @@ use arrayvec::ArrayVec;
 use klp_types::{MAX_STATES, PatchId};
 use std::marker::Model;
 
-/// A system state of an installed patch: its id and its value. Its version never changes, so it is stored only in the
-/// catalog.
+/// A system state of an installed patch: its id and its value. The version of the state never changes, so it is stored
+/// only in the catalog.
 #[derive(Clone, Copy, Default)]
 pub(crate) struct SystemState {
     pub(crate) id: u64,
@@ -44,15 +44,16 @@ impl Model for InstalledPatch {
     ghost view = { λ i. record { patch = i.patch; values = i.states.items } };
 }
 
-/// Returns the index of the state with this id. Returns `None` if there is none. A patch names each id at most once.
+/// Returns the index of the state with this id. Returns `None` if there is no such state. A patch names each id at most
+/// once.
 fn place_of_state(states: &[SystemState], id: u64) -> Option<usize>
     ensures { result ≡ position (λ (s : ℕ × ℕ). s.0 == id) states.now }
 {
     states.iter().position(|state| state.id == id)
 }
 
-/// Returns the index of an installed patch, counted from the oldest. Undo records have this index. Returns `None` if
-/// the patch isn't installed.
+/// Returns the index of an installed patch, counted from the oldest, as in undo records. Returns `None` if the patch
+/// isn't installed.
 pub(crate) fn place_of_patch(patches: &[InstalledPatch], patch: PatchId) -> Option<usize>
     ensures { result ≡ position (λ (i : Installed). i.patch == patch) patches.now }
 {
@@ -62,8 +63,8 @@ pub(crate) fn place_of_patch(patches: &[InstalledPatch], patch: PatchId) -> Opti
 }
 
 impl InstalledPatch {
-    /// Creates an installed patch without states. They are added one by one, since each state is a row with its own
-    /// record.
+    /// Creates an installed patch without states. The caller adds the states one by one, since each state is a row with
+    /// its own record.
     pub(crate) fn new(patch: PatchId) -> Self
         ensures { result ≡ record { patch = patch; values = [] } }
     {
@@ -81,7 +82,8 @@ impl InstalledPatch {
         &self.states
     }
 
-    /// Whether the patch has no states. This is so before they are added, and when undo has removed them all.
+    /// Whether the patch has no states. A patch has no states before they are added, and after undo has removed them
+    /// all.
     pub(crate) fn is_bare(&self) -> bool
         ensures { result ≡ is_empty self.now.values }
     {
@@ -94,8 +96,8 @@ impl InstalledPatch {
         self.patch
     }
 
-    /// Returns the value of the state with this id. Returns `None` if the patch doesn't name it. A patch can't read
-    /// another patch's states this way.
+    /// Returns the value of the state with this id. Returns `None` if the patch doesn't name the state. A patch can't
+    /// read another patch's states this way.
     pub(crate) fn value(&self, id: u64) -> Option<u64>
         ensures { result ≡ value_among id self.now.values }
     {
@@ -106,8 +108,8 @@ impl InstalledPatch {
         Some(state.value)
     }
 
-    /// Sets the state with this id, and returns its old value, so that the caller knows whether it changed. If the
-    /// patch doesn't name the state, changes nothing and returns `None`.
+    /// Sets the state with this id, and returns its old value. From the old value the caller knows whether the state
+    /// changed. If the patch doesn't name the state, changes nothing and returns `None`.
     pub(crate) fn set_value(&mut self, id: u64, value: u64) -> Option<u64>
         ensures was { result ≡ value_among id self.old.values }
         ensures states { self.new ≡ record self.old { values = set_among id value self.old.values } }
@@ -121,7 +123,7 @@ impl InstalledPatch {
         Some(was)
     }
 
-    /// Adds a state after the others. So the states are in the order in which the patch names them.
+    /// Adds a state after all other states of the patch. So the states are in the order in which the patch names them.
     pub(crate) fn push(&mut self, id: u64, value: u64)
         requires { length self.old.values < MAX_STATES }
         ensures { self.new ≡ record self.old { values = self.old.values ++ (id, value) ∷ [] } }
@@ -129,8 +131,8 @@ impl InstalledPatch {
         self.states.push(SystemState { id, value });
     }
 
-    /// Removes the state with this id, if the patch has it. Undo removes the last state first, so no other state
-    /// moves.
+    /// Removes the state with this id, if the patch has it. Undo removes the last state first, so the indexes of the
+    /// other states don't change.
     pub(crate) fn remove(&mut self, id: u64)
         ensures { self.new ≡ record self.old { values = state_taken id self.old.values } }
     {
@@ -139,8 +141,9 @@ impl InstalledPatch {
         }
     }
 
-    /// Restores the state with this id. If `was` is `None`, removes the state. Otherwise adds it after the others, if
-    /// there is room. A record that doesn't fit changes nothing; records that are put back newest first always fit.
+    /// Restores the state with this id. If `was` is `None`, removes the state. Otherwise adds the state after all
+    /// others, if there is room. A record that doesn't fit changes nothing. If records are put back newest first, every
+    /// record fits.
     pub(crate) fn put_back(&mut self, id: u64, was: Option<u64>)
         ensures { self.new ≡ record self.old { values = put_state id was self.old.values } }
     {

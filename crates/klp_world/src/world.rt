@@ -28,12 +28,12 @@ use std::marker::Model;
 /// The installed patches with the values of their system states (system-state), and the shadow variables (shadow-vars).
 ///
 /// [`World::new`] allocates all memory. Each change logs the old value of every row that it changes, in the records
-/// that the caller passes. A row that doesn't change isn't logged. These records, put back newest first, restore the
-/// world before the change.
+/// that the caller passes. A row that doesn't change isn't logged. If the records of a change are put back newest
+/// first, the world is as it was before the change.
 #[derive(Drop)]
 pub struct World {
     patches: Vec<InstalledPatch>,
-    /// The numbers of `patches`, stored in a second list so that `installed` can return them as a slice
+    /// The numbers of `patches`. They are stored in a second list so that `installed` can return them as a slice
     /// (docs/DECISIONS.md, "The list of installed patches").
     installed: ArrayVec<PatchId, MAX_PATCHES>,
     shadow: ShadowMap,
@@ -56,8 +56,8 @@ impl Model for World {
         × (map (λ (i : Installed). i.patch) w.patches.items ≡ w.installed.items) };
 }
 
-/// Logs the system states of a patch, the last one first. Undo puts the newest record back first and adds each state
-/// as the last, so the states return in their order.
+/// Logs the system states of a patch, the last state first. Undo puts the newest record back first and adds each state
+/// as the last. So the states are added again in their order.
 fn note_states(patch: PatchId, states: &[SystemState], log: &mut Records)
     requires { length states.now ≤ spare_of log.old }
     ensures { log.new ≡ noting log.old (map (state_row patch) (reverse states.now)) }
@@ -73,7 +73,7 @@ fn note_states(patch: PatchId, states: &[SystemState], log: &mut Records)
 }
 
 /// Returns the newest patch before `patch` that names the state. Returns `None` if there is no such patch. The search
-/// walks from the oldest patch and stops at `patch`, since patches after it don't count.
+/// begins at the oldest patch and stops at `patch`, since later patches don't count.
 fn newest_before(patches: &[InstalledPatch], patch: PatchId, id: u64) -> Option<PatchId>
     ensures { result ≡ newest_naming id (installed_before patch patches.now) }
 {
@@ -103,14 +103,15 @@ impl World {
     }
 
     /// Returns the value of a shadow variable (`klp_shadow_get`). Returns `None` if there is no such variable. No
-    /// callback reads one, since scripts have no conditions.
+    /// callback reads a variable, since scripts have no conditions.
     pub fn get(&self, key: ShadowKey) -> Option<ShadowValue>
         ensures { result ≡ variable self.now key }
     {
         self.shadow.get(key)
     }
 
-    /// Whether there is a shadow variable with this key. It doesn't copy the value, which may have up to 64 bytes.
+    /// Whether there is a shadow variable with this key. The call doesn't copy the value, which may have up to 64
+    /// bytes.
     pub fn has(&self, key: ShadowKey) -> bool
         ensures { result ≡ is_some (variable self.now key) }
     {
@@ -118,17 +119,17 @@ impl World {
     }
 
     /// Returns the lowest address of a parent object that is above `after` and has a shadow variable of this id. If
-    /// `after` is `None`, returns the lowest of all that have one. Returns `None` if there is no such parent object. To
-    /// go over all variables of an id, a caller passes each answer to the next call. Each call walks over all
-    /// variables.
+    /// `after` is `None`, returns the lowest address of a parent object that has one. Returns `None` if there is no
+    /// such parent object. To visit all variables of an id, a caller passes each result to the next call. Each call
+    /// walks over all variables.
     pub fn next_parent(&self, id: u64, after: Option<u64>) -> Option<u64>
         ensures { IsNextParent self.now.shadow id (lowest_above after) result }
     {
         self.shadow.next_parent(id, after)
     }
 
-    /// Returns how many shadow variables there are, at a constant cost. Callers use it to check for room before
-    /// callbacks run.
+    /// Returns how many shadow variables there are, at a constant cost. From this number callers know whether there is
+    /// room, before callbacks run.
     pub fn count(&self) -> u16
         ensures value { result ≡ finite.len self.now.shadow }
         ensures limit { result ≤ MAX_VARIABLES }
@@ -136,7 +137,7 @@ impl World {
         self.shadow.len() as u16
     }
 
-    /// Returns the installed patches, oldest first. Their entries were put on sites in this order.
+    /// Returns the installed patches, oldest first. The patches' entries were put on sites in this order.
     pub fn installed(&self) -> &[PatchId]
         ensures value { result.now ≡ map (λ (i : Installed). i.patch) self.now.installed }
         ensures limit { length result.now ≤ MAX_PATCHES }
@@ -144,8 +145,8 @@ impl World {
         &self.installed
     }
 
-    /// Returns a copy of the list of installed patches, oldest first. A caller can keep it while callbacks change the
-    /// world, or show it.
+    /// Returns a copy of the list of installed patches, oldest first. A caller can read or show the copy while
+    /// callbacks change the world.
     pub fn installed_list(&self) -> ArrayVec<PatchId, MAX_PATCHES>
         ensures value { result.items ≡ map (λ (i : Installed). i.patch) self.now.installed }
         ensures limit { length result.items ≤ MAX_PATCHES }
@@ -155,8 +156,8 @@ impl World {
         list
     }
 
-    /// Whether the patch is installed. This includes a patch in transition, which is in the list from the start of the
-    /// transition to its end.
+    /// Whether the patch is installed. A patch in transition is installed too, from the start of the transition to its
+    /// end.
     pub fn is_installed(&self, patch: PatchId) -> bool
         ensures { result ≡ list_any (λ (i : Installed). i.patch == patch) self.now.installed }
     {
@@ -176,16 +177,15 @@ impl World {
         self.patches[place].value(id)
     }
 
-    /// Returns the newest patch that was installed before this one and names the state. If the patch isn't installed,
-    /// all installed patches count as installed before it, since it would be the newest. (The rule is this project's
-    /// own.)
+    /// Returns the newest patch that was installed before `patch` and names the state. If `patch` isn't installed, all
+    /// installed patches count, since `patch` would be installed after them. (The rule is this project's own.)
     pub fn previous(&self, patch: PatchId, id: u64) -> Option<PatchId>
         ensures { result ≡ previous_patch self.now patch id }
     {
         newest_before(&self.patches, patch, id)
     }
 
-    /// Adds a shadow variable and returns true. If the variable exists, it keeps its value and the result is false
+    /// Adds a shadow variable and returns true. If the variable exists, changes nothing and returns false
     /// (`klp_shadow_alloc`).
     pub fn alloc(&mut self, key: ShadowKey, value: ShadowValue, log: &mut Records) -> bool
         requires room { variable self.old key ≡ None → finite.len self.old.shadow < MAX_VARIABLES }
@@ -202,9 +202,9 @@ impl World {
     }
 
     /// Adds a shadow variable as the only change of an event, and returns `None`. Earlier records of the event are
-    /// dropped, so the log then has only this change. If the variable exists or there is no room, returns this reason
-    /// and changes neither the world nor the log. The call searches for the key once; a caller that checked for the
-    /// variable first would search twice.
+    /// dropped, so afterwards the log has only this change. If the variable exists or there is no room, returns the
+    /// reason and changes neither the world nor the log. The call searches for the key once. A caller that checked for
+    /// the variable first would search twice.
     pub fn alloc_alone(
         &mut self,
         key: ShadowKey,
@@ -260,8 +260,8 @@ impl World {
         true
     }
 
-    /// Removes all shadow variables of the id, whatever their parent objects, and returns how many there were
-    /// (`klp_shadow_free_all`). It walks over all variables twice, and sorts those of the id.
+    /// Removes all shadow variables of the id, whatever their parent objects, and returns how many variables it removed
+    /// (`klp_shadow_free_all`). The call walks over all variables twice, and sorts those of the id.
     pub fn free_all(&mut self, id: u64, log: &mut Records) -> u16
         requires { length (rows_of_free_all self.old id) ≤ spare_of log.old }
         ensures answer { result ≡ length (rows_of_free_all self.old id) }
@@ -274,7 +274,8 @@ impl World {
         (before - self.shadow.len()) as u16
     }
 
-    /// Adds a patch as the newest, with these system states. Their values are 0 until callbacks change them.
+    /// Adds a patch as the newest, with these system states. The values of the states are 0 until callbacks change
+    /// them.
     pub fn add_states(&mut self, patch: PatchId, ids: &[u64], log: &mut Records)
         requires fresh { list_any (λ (i : Installed). i.patch == patch) self.old.installed ≡ false }
         requires room { length self.old.installed < MAX_PATCHES }
@@ -296,8 +297,8 @@ impl World {
         self.put_last(installed);
     }
 
-    /// Removes a patch with its system states, if it is installed. The indexes of all newer patches become lower by
-    /// one. The states are logged before the patch, so that undo puts the patch back before its states.
+    /// Removes a patch with its system states, if the patch is installed. The index of each newer patch falls by one.
+    /// The states are logged before the patch, so that undo puts the patch back before its states.
     pub fn drop_states(&mut self, patch: PatchId, log: &mut Records)
         requires { length (rows_of_drop self.old patch) ≤ spare_of log.old }
         ensures changes { Changes self.old self.new log.old log.new (without_patch self.old patch)
@@ -314,9 +315,9 @@ impl World {
         });
     }
 
-    /// Returns how many records [`World::drop_states`] logs: one for each system state of the patch and one for the
-    /// patch itself, or 0 if it isn't installed. Before it removes the patch, a caller uses this number to make sure
-    /// that there is room for the records.
+    /// Returns how many records [`World::drop_states`] logs: one for each system state of the patch, and one for the
+    /// patch itself. Returns 0 if the patch isn't installed. Before a caller removes the patch, it uses this number to
+    /// make sure that there is room for the records.
     pub fn drop_records(&self, patch: PatchId) -> usize
         ensures value { result ≡ length (rows_of_drop self.now patch) }
         ensures limit { result ≤ MAX_STATES + 1 }
@@ -327,15 +328,16 @@ impl World {
         }
     }
 
-    /// Sets a system state of an installed patch. Nothing changes if the patch isn't installed or doesn't name the
-    /// state: a patch has only the states that it names.
+    /// Sets a system state of an installed patch. Does nothing if the patch isn't installed or doesn't name the state,
+    /// since a patch has only the states that it names.
     pub fn set_value(&mut self, patch: PatchId, id: u64, value: u64, log: &mut Records)
         requires { length (rows_of_set self.old patch id value) ≤ spare_of log.old }
         ensures changes { Changes self.old self.new log.old log.new (with_value self.old patch id value)
             (rows_of_set self.old patch id value) }
     {
         if let Some(was) = self.replace_value(patch, id, value) {
-            // Setting the same value again is no change (docs/DECISIONS.md, "No record of an unchanged row").
+            // Setting the same value again is no change, so it isn't logged (docs/DECISIONS.md, "No record of an
+            // unchanged row").
             if was != value {
                 log.note(Record::StateValue { patch, id, was });
             }
@@ -343,8 +345,8 @@ impl World {
     }
 
     /// Restores the one row that the record names. A record of another part of the state changes nothing. If there is
-    /// no room for a row, it isn't restored, so that the limits hold whatever the record is. A patch is removed only
-    /// when none of its states is left, since each state is a row of its own. If records are put back newest first,
+    /// no room for a row, the row isn't restored, so that the limits hold whatever the record is. A patch is removed
+    /// only if none of its states is left, since each state is a row of its own. If records are put back newest first,
     /// there is always room, and a patch that is removed has no states left.
     pub fn put_back(&mut self, row: Record)
         ensures { self.new ≡ put_back self.old row }
@@ -363,7 +365,7 @@ impl World {
         }
     }
 
-    /// Adds an installed patch after the others, to both lists.
+    /// Adds an installed patch at the end of both lists.
     fn put_last(&mut self, installed: InstalledPatch)
         requires { length self.old.installed < MAX_PATCHES }
         ensures { self.new ≡ record self.old { installed = self.old.installed ++ installed ∷ [] } }
@@ -372,7 +374,7 @@ impl World {
         let _ = self.patches.push(installed);
     }
 
-    /// Inserts an installed patch into both lists, at this index counted from the oldest.
+    /// Inserts an installed patch into both lists at the index `place`, counted from the oldest.
     fn put_at(&mut self, place: usize, installed: InstalledPatch)
         requires within { place ≤ length self.old.installed }
         requires room { length self.old.installed < MAX_PATCHES }
@@ -402,7 +404,7 @@ impl World {
     }
 
     /// Sets a state of an installed patch, and returns its old value. If the patch isn't installed or doesn't name the
-    /// state, changes nothing and returns `None`. The call logs nothing, because undo uses it too.
+    /// state, changes nothing and returns `None`. The function logs nothing, because undo uses it too.
     fn replace_value(&mut self, patch: PatchId, id: u64, value: u64) -> Option<u64>
         ensures was { result ≡ state_value self.old patch id }
         ensures world { self.new ≡ with_value self.old patch id value }
@@ -413,7 +415,8 @@ impl World {
         self.patches[place].set_value(id, value)
     }
 
-    /// Undoes a change of one state row of an installed patch: adds the state with its old value, or removes it.
+    /// Undoes a change of one state row of an installed patch. Adds the state with its old value, or removes the state
+    /// if `was` is `None`.
     fn put_state(&mut self, patch: PatchId, id: u64, was: Option<u64>)
         ensures { self.new ≡ record self.old { installed = change_states patch (put_state id was) self.old.installed } }
     {
@@ -430,8 +433,8 @@ impl World {
         match place {
             None => {
                 if let Some(place) = place_of_patch(&self.patches, patch) {
-                    // Each state is a row of its own, so this record doesn't remove states: a patch that still has some
-                    // stays.
+                    // Each state is a row of its own, so a patch's record doesn't remove states. A patch that still has
+                    // states isn't removed.
                     if self.patches[place].is_bare() {
                         self.take_out(place);
                     }
