@@ -256,8 +256,8 @@ impl Catalog {
         Some(target.object)
     }
 
-    /// Returns the index of an object among those that a patch changes, from 0. Returns `None` if the patch doesn't
-    /// change the object. No patch changes an object twice.
+    /// Returns the index of an object among the objects that a patch changes, from 0. Returns `None` if the patch
+    /// doesn't change the object. No patch changes an object twice.
     pub fn place(&self, patch: PatchId, object: ObjId) -> Option<u8>
         ensures place { result ≡ place_of object (objects_at self.now patch) }
         // Since no object has two indexes, walking over the indexes visits each object once.

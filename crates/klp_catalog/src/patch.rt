@@ -15,7 +15,8 @@ use klp_catalog_text::{PlanStates, SystemState};
 use klp_types::{MAX_STATES, ObjId, PatchId, Which};
 use std::marker::Model;
 
-/// A patch of a catalog (the kernel's `struct klp_patch`). Its callbacks are numbers in the catalog's list.
+/// A patch of a catalog (the kernel's `struct klp_patch`). The callbacks of the patch are numbers in the catalog's list
+/// of callbacks.
 #[derive(Drop)]
 pub struct CatalogPatch {
     pub(crate) name: String,
@@ -134,8 +135,8 @@ pub(crate) fn number_of(
     Some(target.first + place)
 }
 
-/// Returns the index of an object among those that a patch changes. Returns `None` if the patch doesn't change the
-/// object. An object occurs at most once.
+/// Returns the index of an object among the objects that a patch changes. Returns `None` if the patch doesn't change
+/// the object. A patch changes an object at most once.
 pub(crate) fn place_of(targets: &[CatalogTarget], object: ObjId) -> Option<usize>
     ensures { result ≡ position (λ (t : StoredTarget). t.object == object) targets.now }
 {

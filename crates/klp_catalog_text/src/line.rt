@@ -38,7 +38,7 @@ pub enum CatalogLine<'a> {
     Object(Name),
     /// A symbol of the last object.
     Symbol(SymbolText),
-    /// The name of a patch, and whether the patch replaces all older ones.
+    /// The name of a patch, and whether the patch replaces all older patches.
     Patch(Name, bool),
     /// The name of an object that the last patch changes.
     Target(NameWord<'a>),
@@ -94,7 +94,7 @@ fn handler_line<'a>(words: &mut LineWords<'a>) -> Result<CatalogLine<'a>, TextFa
     Ok(CatalogLine::Handler(address))
 }
 
-/// Reads the one word of a line that has only a name after its first word.
+/// Reads the rest of a line that has only a name after its first word.
 fn only_name<'a>(words: &mut LineWords<'a>) -> Result<NameWord<'a>, TextFaultKind>
     ensures { result ≡ only_name words.old }
 {

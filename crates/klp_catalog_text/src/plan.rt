@@ -77,7 +77,7 @@ impl PlanTarget {
     }
 }
 
-/// A patch, as its lines describe it. Its number isn't stored, since it is the patch's index in the plan.
+/// A patch, with the content of its lines. Its number isn't stored, since the number is the patch's index in the plan.
 #[derive(Drop)]
 pub struct PlanPatch {
     pub name: String,

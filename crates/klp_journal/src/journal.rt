@@ -46,8 +46,8 @@ impl Model for Journal {
 }
 
 impl Journal {
-    /// Creates a journal without events. Allocates all of its memory, since no event takes memory. Returns `Err` if
-    /// memory is refused.
+    /// Creates a journal without events. All of its memory is allocated by this call, since no event takes memory.
+    /// Returns `Err` if memory is refused.
     pub fn new(alloc: Global) -> Result<Self, AllocError>
         ensures { IfOk result (λ journal. journal ≡ []) }
     {

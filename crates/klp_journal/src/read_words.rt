@@ -148,7 +148,7 @@ fn read_frame(word: u64) -> Option<Version>
     Some(Version::New(PatchId(patch as u8), (word % 65536) as u16))
 }
 
-/// Reads the frames of a task, one from each word. Returns `None` if a word is wrong or there are too many.
+/// Reads the frames of a task, one from each word. Returns `None` if a word is wrong or there are too many words.
 fn read_frames(words: &[u64]) -> Option<Frames>
     ensures { Finds (AreFramesOf words.now) result }
 {

@@ -14,7 +14,7 @@ use klp_types::{Mode, PatchId, PatchState, Place, Site, TaskId};
 /// whole task, and passing a `Record` on costs more than putting an entry back.
 #[derive(Clone, Copy)]
 pub enum SmallRecord {
-    /// The entry that a patch had on the function stack of a site, or that it had none there.
+    /// The entry of a patch on the function stack of a site. `None` if the patch had no entry there.
     Entry {
         site: Site,
         patch: PatchId,

@@ -89,7 +89,7 @@ impl StoredRecords {
         copy_task(task, was, frames, &mut self.words);
     }
 
-    /// Removes and returns the newest record. Returns `None` if there is none.
+    /// Removes and returns the newest record. Returns `None` if there is no record.
     pub(crate) fn take_newest(&mut self) -> Option<Record>
         ensures newest { IfSome result
             (λ newest. self.old ≡ record self.new { rows = self.new.rows ++ newest ∷ [] }) }

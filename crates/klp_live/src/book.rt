@@ -1,4 +1,4 @@
-//! The book: the manager with what it publishes.
+//! The book: the manager, with the history and the table that it publishes.
 ghost use Rattle.std.specs.Prelude.{◌≡◌, ◌<◌, ◌≤◌, ◌^◌, length, Ok, Err, MatchResult, MatchOption};
 ghost use Rattle.klp_model.specs.Legal.{IsLegal, state_after_history};
 ghost use Rattle.klp_model.specs.Rows.{moving_patch};

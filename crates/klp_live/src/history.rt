@@ -78,7 +78,7 @@ impl Opened {
     }
 }
 
-/// The word that counts the rows of a history. Only the book has it, so only the book can add rows.
+/// The word that counts the rows of a history. Only the book has this word, so only the book can add rows.
 #[derive(Drop)]
 pub struct Head<S: Start> {
     pub(crate) word: Word<Accepted, u64, Law>,

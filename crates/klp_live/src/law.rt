@@ -8,7 +8,7 @@ use std::snapshot::Snapshot;
 /// An accepted event with its reply.
 pub type Accepted = (Event, Reply);
 
-/// A row that exists in contracts alone: at run time neither its event nor its reply is copied.
+/// A row that exists in contracts alone. At run time neither its event nor its reply is copied.
 #[derive(Drop)]
 pub struct StoredEvent {
     pub event: Snapshot<Event>,

@@ -11,9 +11,9 @@ use klp_model::Refusal;
 /// Why an event isn't admitted.
 #[derive(Clone, Copy, Debug)]
 pub enum LiveRefusal {
-    /// The manager refuses it.
+    /// The manager refuses the event.
     Refused(Refusal),
-    /// There was no memory to publish the event, so it was taken back. It may be submitted again.
+    /// There was no memory to publish the event, so the event was taken back. The event may be submitted again.
     NoMemory,
 }
 

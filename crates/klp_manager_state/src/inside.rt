@@ -78,8 +78,8 @@ impl ManagerState {
         }
     }
 
-    /// Returns the object that a version is in: the object of its site, or the object of a patch's new function.
-    /// Returns `None` if neither the image nor the catalog has the version.
+    /// Returns the object that a version is in. For an original, this is the object of its site. For a new function, it
+    /// is the function's object. Returns `None` if neither the image nor the catalog has the version.
     pub fn object_of(&self, catalog: &Catalog, version: Version) -> Option<ObjId>
         requires { Invariant self.now catalog.now }
         ensures { result ≡ object_of_version (setting_in self.now catalog.now) version }

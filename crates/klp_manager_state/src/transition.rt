@@ -21,8 +21,8 @@ pub(crate) fn moving_before(moving: Option<Transition>, row: Record) -> Option<T
 }
 
 impl ManagerState {
-    /// Returns what the `enabled` file of an installed patch reads: false while the patch is in transition to target 0,
-    /// otherwise true.
+    /// Returns the value that the `enabled` file of an installed patch reads. The value is false while the patch is in
+    /// transition to target 0, otherwise true.
     pub fn enabled_value(&self, patch: PatchId) -> bool
         ensures { result ≡ not (moves_out self.now.moving patch) }
     {

@@ -68,7 +68,7 @@ impl ManagerState {
         self.put_back(&newest);
     }
 
-    /// Puts one small record back. A hook's record changes nothing, since the hook changed with its entry.
+    /// Puts one small record back. A hook's record changes nothing, since the hook is restored with the site's entry.
     #[inline(always)]
     fn put_small_back(&mut self, row: SmallRecord)
         requires modules { self.old.modules.loaded ≡ self.old.sites.loaded }

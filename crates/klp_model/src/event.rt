@@ -5,8 +5,8 @@ use std::{error, fmt};
 /// part of the event is done.
 #[derive(Clone, Copy)]
 pub enum Event {
-    /// A patch is loaded and enabled: its transition starts (the kernel's `klp_enable_patch`). In a kernel these also
-    /// happen together, since a patch module enables its patch when it is loaded.
+    /// A patch is loaded and enabled: its transition starts (the kernel's `klp_enable_patch`). In a kernel, loading and
+    /// enabling happen together too, since a patch module enables its patch when it is loaded.
     Enable(PatchId),
     /// A value is written to the `enabled` file of an installed patch. The event reverses the patch's transition or
     /// disables the patch (the kernel's `enabled_store`).
@@ -32,7 +32,8 @@ pub enum Event {
     EndTask(TaskId),
     /// A task enters the kernel. Its patch state doesn't change, so its calls run the same versions as before.
     EnterKernel(TaskId),
-    /// A task returns to user space, and is switched there (the kernel's `klp_update_patch_state`).
+    /// A task returns to user space. This switches the task to the target of the transition (the kernel's
+    /// `klp_update_patch_state`).
     ExitToUser(TaskId),
     /// A task falls asleep inside of these functions. The functions decide whether the task can be switched while it
     /// sleeps.
@@ -123,7 +124,7 @@ pub enum Refusal {
     Exists = 16,
     /// The patch isn't installed. So it has no `enabled` file, and no transition of it can be forced.
     NotFound = 17,
-    /// The `enabled` file has this value already. The kernel refuses this too (`enabled_store`).
+    /// The `enabled` file has this value already. The kernel refuses to write the same value too (`enabled_store`).
     SameValue = 18,
 }
 

@@ -61,7 +61,7 @@ pub fn a_refused_patch_is_a_fair_company()
     ensures gone { is_installed (run refusing_behind both_loaded (Enable 0 ∷ [])) 0 ≡ false }
 {}
 
-/// The variables of an object are those that any of its callbacks touches.
+/// The variables of an object are all variables that at least one of its callbacks touches.
 pub fn variables_of_each_callback_count()
     ensures pre { object_touches (key_of 1 9) (0, freeing Pre) ≡ true }
     ensures post { object_touches (key_of 1 9) (0, freeing Post) ≡ true }

@@ -63,7 +63,8 @@ impl HookedSites {
     }
 }
 
-/// Returns the number of the lowest set bit of a word, among the bits from `from` on.
+/// Returns the number of the lowest set bit of a word whose number is at least `from`. Returns `None` if there is no
+/// such bit.
 #[inline(always)]
 fn lowest_from(word: u64, from: usize) -> Option<usize>
     requires { from < 64 }

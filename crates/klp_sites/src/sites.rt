@@ -74,8 +74,8 @@ impl Sites {
         })
     }
 
-    /// Puts an entry on top of a site's stack, at a constant cost. The first entry of a site also hooks it, as the
-    /// kernel registers its `ftrace_ops` with the first function of a stack.
+    /// Puts an entry on top of a site's stack, at a constant cost. The first entry of a site also hooks the site, as
+    /// the kernel registers its `ftrace_ops` with the first function of a stack.
     #[inline(always)]
     pub fn push(&mut self, site: Site, entry: Entry, log: &mut Records)
         requires there { site < length self.old.stacks }

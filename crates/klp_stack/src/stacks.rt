@@ -123,7 +123,7 @@ impl Stacks {
             (Record.StackEntry site patch (place_of patch (entries_at self.old site)))
             (slice_set self.old site (entries_of_others patch (entries_at self.old site))) }
         ensures unchanged { IfNone result (self.new ≡ self.old) }
-        // The entry can be put back into the slot that becomes free.
+        // `put` can use the slot that becomes free. So there is room to put the entry back.
         ensures room { is_some result ≡ true → 0 < spare_in self.new }
     {
         let number = usize::from(site.0);

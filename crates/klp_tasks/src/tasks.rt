@@ -104,7 +104,7 @@ fn has_state(task: &Task, state: PatchState) -> bool
     task.state == state
 }
 
-/// Sets the stored words to those of the row's frames. A row without a task has no words.
+/// Sets the stored words to the words of the frames in the row. A row without a task has no words.
 fn set_words(words: &mut FrameWords, row: &Option<Task>)
     ensures { words.new ≡ frames_of row.now }
 {

@@ -183,8 +183,8 @@ pub fn states_come_at_0_and_go_with_their_patch()
     ensures away { (without_patch four_installed 2).installed ≡ four_installed.installed }
 {}
 
-/// A script sets only states of its own patch, and only those that the patch names. If no older patch has a state,
-/// `TakePrev` of that state changes nothing.
+/// A script sets only states that its own patch names. If no older patch has a state, `TakePrev` of that state changes
+/// nothing.
 pub fn scripts_set_states_of_their_patch()
     ensures set { (effect 3 four_installed (editing (TakePrev 7 ∷ SetData 7 1 ∷ []))).installed
         ≡ patch_4 ∷ patch_5 ∷ patch_6 ∷ patch_3 1 ∷ [] }

@@ -62,8 +62,8 @@ pub fn no_more_variables_are_left()
         → finite.len (finite.retain_keys shadow keep) ≤ finite.len shadow }
 {}
 
-/// An edit changes each shadow variable independently of the others, and so does a list of edits. So what a script does
-/// to one variable can be computed without the other variables.
+/// An edit or a list of edits changes each shadow variable independently of all others. So the effect of a script on
+/// one variable can be computed without the other variables.
 pub fn edits_go_key_by_key()
     ensures each { (patch : ℕ) (world : World) (edit : Edit) (key : ShadowKey)
         → variable (edited patch world edit) key ≡ edited_at key (variable world key) edit }
@@ -81,7 +81,7 @@ pub fn untouched_variables_stay()
 {}
 
 /// Two scripts that touch no common shadow variable leave the same shadow variables in either order. The values of
-/// system states can depend on the order: if two scripts of one patch set the same state, the later decides.
+/// system states can depend on the order: if two scripts of one patch set the same state, the later script decides.
 pub fn scripts_apart_commute()
     ensures { (p q : ℕ) (a b : Script) (world : World) → ((key : ShadowKey) → (touches a key && touches b key) ≡ false)
         → (effect q (effect p world a) b).shadow ≡ (effect p (effect q world b) a).shadow }

@@ -22,7 +22,7 @@ pub const MAX_BODY: usize = 256;
 /// stack of any site fits into an array of this length.
 pub const MAX_PATCHES: usize = 16;
 
-/// How many objects a patch may change. Each may have four callbacks.
+/// How many objects a patch may change. Each of these objects may have four callbacks.
 pub const MAX_TARGETS: usize = 8;
 
 /// How many new functions a patch may have, for all its objects together.
@@ -40,7 +40,8 @@ pub const CALLBACK_KINDS: usize = 4;
 /// records of an event.
 pub const MAX_EDITS: usize = 16;
 
-/// How many shadow variables there may be. Boot allocates room for all of them, since no later call takes memory.
+/// How many shadow variables there may be. Boot allocates room for this many variables, since no later call takes
+/// memory.
 pub const MAX_VARIABLES: usize = 512;
 
 /// How many bytes the value of a shadow variable may have. A kernel's variable may have any number of bytes. In this
@@ -102,7 +103,7 @@ pub const RECORDS_AFTER_CALLBACKS: usize = 3500;
 /// number there is still room for one record for each task.
 pub const RECORDS_AFTER_LIST: usize = 3800;
 
-/// How many accepted events fit into the journal. `seal` empties it.
+/// How many accepted events fit into the journal. `seal` empties the journal.
 pub const MAX_GROUPS: usize = 4096;
 
 /// How many records all events of the journal may have together. This is four times the greatest number of records that
@@ -143,7 +144,8 @@ pub const MAX_MARK: u64 = 4_294_967_295;
 /// How many times the console reads one input at most. So serving ends even if the input never ends.
 pub const MAX_READS: u32 = 1_000_000;
 
-/// How many bytes the console reads at a time at most. Its buffer is an array, since serving takes no memory.
+/// How many bytes the console reads at a time at most. The buffer for these bytes is an array, since serving takes no
+/// memory.
 pub const READ_ROOM: usize = 4096;
 
 /// How many bytes of answers the console gathers at most before it writes them. If a write fails, the console undoes

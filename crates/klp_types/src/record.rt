@@ -24,8 +24,8 @@ pub enum Record {
         id: u64,
         was: u64,
     },
-    /// A system state of a patch: its value, or `None` if the patch had no such row. The row is added and removed
-    /// together with the installed patch.
+    /// A system state of a patch. The record has the state's value, or `None` if the patch didn't have the state. The
+    /// row of a state is added and removed together with the installed patch.
     StateRow {
         patch: PatchId,
         id: u64,

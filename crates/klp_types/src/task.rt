@@ -62,11 +62,11 @@ impl PatchState {
 /// task in user space is switched when it has entered the kernel and leaves it again.
 #[derive(Clone, Copy, PartialEq, Eq)]
 pub enum Mode {
-    /// In user space: the task runs no function of the kernel. It is switched when it next leaves the kernel.
+    /// The task is in user space, and runs no function of the kernel. It is switched when it next leaves the kernel.
     User,
-    /// Running in the kernel. Its frames aren't known, so no poll switches it.
+    /// The task runs in the kernel. Its frames aren't known, so no poll switches it.
     Kernel,
-    /// Sleeping in the kernel. Its frames are known, so it can be switched while it sleeps.
+    /// The task sleeps in the kernel. Its frames are known, so it can be switched while it sleeps.
     Asleep,
 }
 
@@ -150,7 +150,7 @@ impl Frames {
         }
     }
 
-    /// Removes the innermost frame, if there is one: the task has returned from that function.
+    /// Removes the innermost frame, if there is one. The task has returned from that function.
     pub fn pop(&mut self)
         ensures { self.new ≡ take (length self.old - 1) self.old }
     {
@@ -165,7 +165,8 @@ impl Frames {
 /// record of the row is a copy of the task.
 #[derive(Clone, Copy)]
 pub struct Task {
-    /// -1 if there is no transition. Otherwise 1 if the task runs the patch in transition, and 0 if it doesn't.
+    /// The task's patch state. It is -1 if there is no transition. Otherwise it is 1 if the task runs the patch in
+    /// transition, and 0 if it doesn't.
     pub state: PatchState,
     pub mode: Mode,
     /// The frames of a sleeping task. If a task doesn't sleep, this list is empty, since the frames of a running task

@@ -36,8 +36,8 @@ pub struct Entry {
 #[derive(Clone, Copy, PartialEq, Eq)]
 pub struct Transition {
     pub patch: PatchId,
-    /// The target to which tasks are switched: `true` means that they are to run the patch, `false` that they aren't. A
-    /// reversal changes only this field.
+    /// The target to which tasks are switched. If it is `true`, tasks are switched so that they run the patch. If it is
+    /// `false`, tasks are switched so that they don't run the patch. A reversal changes only this field.
     pub target: bool,
 }
 

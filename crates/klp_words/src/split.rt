@@ -80,7 +80,7 @@ impl<'a> LineWords<'a> {
     }
 }
 
-/// Returns the index of the first byte that equals `at`. Returns `None` if there is none.
+/// Returns the index of the first byte that equals `at`. Returns `None` if there is no such byte.
 pub fn position_of(bytes: &[u8], at: u8) -> Option<usize>
     ensures { result ≡ position (λ b. b == at) bytes.now }
 {
