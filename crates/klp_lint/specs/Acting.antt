@@ -1,4 +1,4 @@
--- The objects of a patch whose callbacks make changes, as a plan has them.
+-- The objects of a patch whose callbacks run while it is enabled: the loaded ones before the first whose pre-patch refuses.
 use Rattle.std.specs.Prelude.{ℕ, ◌+◌, List, [], ◌∷◌, if◌then◌else◌}
 use Rattle.klp_types.specs.Setting.{PatchObject}
 use Rattle.klp_types.specs.Callbacks.{refuses}
