@@ -34,22 +34,22 @@ impl Span {
 pub enum PatchRow<'a> {
     /// A patch, with its files `enabled` and `transition`.
     Patch {
-        /// What it is called.
+        /// The patch's name.
         name: &'a [u8],
-        /// Whether `enabled` reads 1.
+        /// Whether the file `enabled` reads 1.
         is_enabled: bool,
-        /// Whether `transition` reads 1.
+        /// Whether the file `transition` reads 1.
         is_moving: bool,
     },
     /// An object that the patch of an earlier line changes.
     Object(&'a [u8]),
-    /// The object of the line before is loaded.
+    /// The object that the line before names is loaded.
     Loaded,
-    /// A function that the patch changes in the object, both named by earlier lines.
+    /// A function that the patch changes in the object. Earlier lines name the patch and the object.
     Function {
-        /// Its name.
+        /// The function's name.
         name: &'a [u8],
-        /// Its position among the symbols of this name, or 0 if no other symbol has the name.
+        /// The function's position among the symbols of this name, or 0 if no other symbol has the name.
         position: u32,
     },
 }
@@ -63,7 +63,7 @@ pub struct SeenTask<'a> {
     pub frames: Span,
 }
 
-/// What a sample shows. What hasn't changed since earlier samples isn't repeated.
+/// The contents of a sample. A sample doesn't repeat what hasn't changed since earlier samples.
 #[derive(Clone, Copy)]
 pub struct Sample {
     /// When the sample was taken, and how many tasks it counted.
@@ -81,13 +81,13 @@ pub struct Sample {
 /// A line of the kernel's own log.
 #[derive(Clone, Copy)]
 pub struct LogLine<'a> {
-    /// When the kernel wrote it.
+    /// When the kernel wrote the line.
     pub at: Moment,
-    /// What it says.
+    /// The text of the line.
     pub text: &'a [u8],
 }
 
-/// What `klpcap` recorded. Names are borrowed from its text.
+/// The contents of a log that `klpcap` recorded. Names are borrowed from the log's text.
 #[derive(Drop)]
 pub struct Capture<'a> {
     /// The kernel's release, and the machine.
@@ -100,7 +100,7 @@ pub struct Capture<'a> {
     pub rows: Vec<PatchRow<'a>>,
     /// The tasks that samples name, of all samples.
     pub seen: Vec<SeenTask<'a>>,
-    /// The functions that these tasks are inside of.
+    /// The functions that the tasks in `seen` are inside of.
     pub frames: Vec<FrameLine<'a>>,
     /// The threads that have ended.
     pub gone: Vec<u64>,
@@ -112,12 +112,12 @@ pub struct Capture<'a> {
     pub symbols: Vec<SymbolLine<'a>>,
     /// The modules that are loaded, the newest first.
     pub modules: Vec<&'a [u8]>,
-    /// Whether the log has its last line. If not, it was cut off.
+    /// Whether the log has its last line. A log without its last line was cut off.
     pub is_whole: bool,
     begun: Begun,
 }
 
-/// The sample that is being read. The numbers say where its lines begin in the lists.
+/// The sample that is being read. The numbers say where the sample's lines begin in the lists.
 #[derive(Clone, Copy)]
 struct Begun {
     patches: Span,
@@ -150,7 +150,7 @@ impl<'a> Capture<'a> {
         }
     }
 
-    /// Adds a line about patches to those of the sample.
+    /// Adds a line about patches to the lines of the sample.
     fn add_row(&mut self, row: PatchRow<'a>) -> Result<(), CaptureFaultKind> {
         if !self.begun.tells_patches {
             return Err(CaptureFaultKind::Stray);
@@ -196,7 +196,7 @@ impl<'a> Capture<'a> {
         Ok(())
     }
 
-    /// Notes that the latest task is inside of the same functions as when it was named before.
+    /// Notes that the latest task is inside of the same functions as in its line before.
     fn keep_frames(&mut self) -> Result<(), CaptureFaultKind> {
         if self.seen.len() <= self.begun.tasks {
             return Err(CaptureFaultKind::Stray);
@@ -303,8 +303,9 @@ impl<'a> Capture<'a> {
         !self.asked.is_empty()
     }
 
-    /// Reads a log. Returns its first faulty line as `Err`. The time is linear in the length of the log. A log that was
-    /// cut off is read up to its last whole line, and a sample that hasn't ended there is left out.
+    /// Reads a log. If a line is faulty, returns the first such line as `Err`. The time is linear in the length of the
+    /// log. If the log was cut off, it is read up to its last whole line. A sample that hasn't ended by that line is
+    /// left out.
     pub fn read(alloc: Global, text: &'a [u8]) -> Result<Capture<'a>, CaptureFault> {
         let mut capture = Capture::new(alloc);
         let whole = match text.iter().rposition(|byte| *byte == b'\n') {

@@ -6,12 +6,12 @@ use thiserror::Error;
 /// What is wrong with a line of a log.
 #[derive(Clone, Copy, Debug, PartialEq, Eq)]
 pub enum CaptureFaultKind {
-    /// The first line isn't `klpcap 1`: this is no log, or a log of another version.
+    /// The first line isn't `klpcap 1`, so the text is no log, or a log of another version.
     NoHeading,
-    /// The line begins with an unknown word, or its other words aren't as they should be.
+    /// The line begins with an unknown word, or its other words have a wrong form.
     BadLine,
-    /// The line belongs to an object, a patch or a task, but its sample names none before it. Or it is a second
-    /// heading, or it follows the last line, `end`.
+    /// The line belongs to an object, a patch or a task, but no earlier line of its sample names one. The fault is also
+    /// reported for a second heading, and for a line behind the last line, `end`.
     Stray,
     /// A sample began before the sample before it had ended.
     OutOfOrder,

@@ -2,7 +2,7 @@
 //!
 //! [`Capture::read`] reads a log (docs/CAPTURE.md), and reports its first faulty line. Samples share the lists of
 //! patches, tasks, and the functions that tasks are inside of. So an hour of samples in which nothing changes takes
-//! little memory. Crates above this one say what a log means.
+//! little memory. The crates that use this one interpret a log.
 #![tactic(auto)]
 
 mod capture;

@@ -1,13 +1,13 @@
-//! One line of a log: a word, and what follows it (docs/CAPTURE.md, "What a log says").
+//! One line of a log: a word, and the rest of the line (docs/CAPTURE.md, "What a log says").
 use crate::time::Moment;
 use klp_words::{LineWords, Separators, cut, hexadecimal, microseconds, number32, number64};
 
 /// What a task does, by the letter in `/proc/<pid>/stat`.
 #[derive(Clone, Copy, PartialEq, Eq)]
 pub enum Activity {
-    /// It runs, or waits for a processor.
+    /// The task runs, or waits for a processor.
     Running,
-    /// It sleeps, in any way.
+    /// The task sleeps, in any way.
     Asleep,
 }
 
@@ -16,7 +16,8 @@ pub enum Activity {
 pub struct TaskLine<'a> {
     /// The thread's number.
     pub thread: u64,
-    /// When the thread began, in ticks since boot. If its number is used again, the new thread has another start.
+    /// When the thread began, in ticks since boot. If the thread's number is used again, the new thread began at
+    /// another time.
     pub start: u64,
     /// Whether the task ran or slept.
     pub activity: Activity,
@@ -24,7 +25,8 @@ pub struct TaskLine<'a> {
     pub state: PatchedState,
     /// How often the task got a processor.
     pub runs: u64,
-    /// Whether the task slept all the time while it was read. If so, its functions are those of one moment.
+    /// Whether the task slept all the time while it was read. If so, the functions listed for it are those of one
+    /// moment.
     pub is_stable: bool,
     /// Whether the task is a thread of the kernel itself.
     pub is_kernel_thread: bool,
@@ -46,7 +48,7 @@ pub enum PatchedState {
 /// A function that a task is inside of.
 #[derive(Clone, Copy)]
 pub struct FrameLine<'a> {
-    /// Its name.
+    /// The function's name.
     pub function: &'a [u8],
     /// The module that has the function, or `None` if the kernel itself has it.
     pub module: Option<&'a [u8]>,
@@ -88,7 +90,7 @@ pub(crate) enum Line<'a> {
     /// The kernel's release, and the machine.
     Kernel(&'a [u8]),
     Missing(&'a [u8]),
-    /// A function for which `klpcap` was told to look, though no patch changes it.
+    /// A function for which `klpcap` was told to look, though no patch changes the function.
     Find(&'a [u8]),
     Patches,
     Patch {
@@ -139,8 +141,8 @@ fn named(word: &[u8]) -> Option<&[u8]> {
     if word.is_empty() { None } else { Some(word) }
 }
 
-/// Reads the module that may follow a function: `[NAME]`. The kernel itself has no such word. Returns `None` if the
-/// word has another form.
+/// Reads the module that may follow a function: `[NAME]`. A function of the kernel itself isn't followed by such a
+/// word. Returns `None` if the word has another form.
 fn module_of(word: Option<&[u8]>) -> Option<Option<&[u8]>> {
     let Some(word) = word else {
         return Some(None);
@@ -216,7 +218,7 @@ fn task_line(rest: &[u8]) -> Option<Line<'_>> {
     }))
 }
 
-/// Reads `FUNC+OFFSET/SIZE [MODULE]`. An address without a function's name has no offset.
+/// Reads `FUNC+OFFSET/SIZE [MODULE]`. If the word is an address without a function's name, it has no offset.
 fn frame_line(rest: &[u8]) -> Option<Line<'_>> {
     if rest == b"=".as_slice() {
         return None;

@@ -1,5 +1,5 @@
-//! Whether a trace shows what a log has. Only the text of the trace is read, so it makes no difference how the trace
-//! was found.
+//! Whether a trace shows the contents of a log. Only the text of the trace is read, so it makes no difference how the
+//! trace was found.
 ghost use Rattle.std.specs.Prelude.{◌≡◌, true, string_bytes, IfOk};
 ghost use Rattle.std.specs.List.{find, flat_map, list_any};
 ghost use Rattle.std.specs.Str.Lines.{lines};
@@ -13,8 +13,8 @@ use klp_catalog_text::Lines;
 use klp_words::cut;
 use std::alloc::{AllocError, Global};
 
-/// Returns the row of the patch of this name. Returns `None` if there is none, or if both of the patch's files read 0,
-/// as they do while its folder is made or removed.
+/// Returns the row of the patch with this name. While the patch's folder is made or removed, both of its files read 0.
+/// Returns `None` if both files read 0, or if there is no such patch.
 pub fn patch_in<'a>(rows: &[PatchRow<'a>], name: &[u8]) -> Option<PatchRow<'a>>
     ensures { result ≡ find (is_there_as name.now) rows.now }
 {
@@ -52,7 +52,7 @@ fn is_half_there(row: &PatchRow<'_>) -> bool
     }
 }
 
-/// Whether the folder of a patch is being made or removed. Then both of its files read 0.
+/// Whether the folder of a patch is being made or removed. If so, both files of the patch read 0.
 fn is_changing(rows: &[PatchRow<'_>]) -> bool
     ensures { result ≡ list_any is_half_there rows.now }
 {
@@ -135,7 +135,7 @@ fn item_in(line: &[u8]) -> &[u8]
     }
 }
 
-/// Reads lines up to the first that has this item. Returns false if none has it.
+/// Reads lines up to the first that has this item. Returns false if no line has it.
 fn stands(lines: &mut Lines<'_>, item: &[u8]) -> bool
     ensures { result ≡ true → StandsIn item.now lines.old lines.new }
 {
@@ -206,7 +206,7 @@ fn patches_stand(
     Ok(true)
 }
 
-/// Whether a sample had ended before the force, if there was one.
+/// Whether a sample had ended before the transition was forced. True if it wasn't forced.
 fn is_before(forced: Option<Moment>, sample: &Sample) -> bool
     ensures { result ≡ is_before forced sample.now }
 {
@@ -236,7 +236,8 @@ impl<'a> Capture<'a> {
         Ok(stand)
     }
 
-    /// Whether a sample is judged. This is so if no patch changed during it, and if it had ended before a force.
+    /// Whether a sample is judged. A sample is judged if no patch changed during it, and if it had ended before a
+    /// force.
     pub fn is_judged(&self, forced: Option<Moment>, sample: &Sample) -> bool
         ensures { result ≡ is_judged self.now forced sample.now }
     {
@@ -262,8 +263,9 @@ impl<'a> Capture<'a> {
         Ok(stand)
     }
 
-    /// Looks at the judged ones among these first samples of the log. Returns the number of the first that the trace
-    /// doesn't show. Returns `None` if the trace shows all of them, one after the other.
+    /// Checks whether the trace shows the judged samples among these first samples of the log. Returns the number of
+    /// the first judged sample that the trace doesn't show. Returns `None` if the trace shows all judged samples, one
+    /// after the other.
     pub fn first_not_shown(
         &self,
         alloc: Global,

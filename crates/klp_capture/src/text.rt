@@ -1,7 +1,7 @@
 //! Bytes of a log, printed for people. Names needn't be text.
 use std::fmt;
 
-/// Bytes, printed as text. For bytes that are no text, the replacement mark is printed.
+/// Bytes, printed as text. Bytes that aren't text are printed as the replacement mark.
 #[derive(Clone, Copy)]
 pub struct Text<'a>(pub &'a [u8]);
 

@@ -1,4 +1,4 @@
-//! What a trace calls the threads and the patches of a log.
+//! The numbers and names that threads and patches of a log have in a trace.
 
 /// A thread that has a number in a trace.
 #[derive(Clone, Copy)]

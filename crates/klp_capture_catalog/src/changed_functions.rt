@@ -7,7 +7,7 @@ use std::alloc::{AllocError, Global};
 /// At most this many functions without room are counted.
 const MOST_LEFT_OUT: usize = 4096;
 
-/// A function that a patch changes, as rows of the log say.
+/// A function that a patch changes, by the rows of the log.
 #[derive(Clone, Copy, PartialEq, Eq)]
 pub(crate) struct FoundFunction<'a> {
     pub(crate) patch: usize,
@@ -16,7 +16,7 @@ pub(crate) struct FoundFunction<'a> {
     pub(crate) position: u32,
 }
 
-/// The functions in all rows. Each is listed once.
+/// The functions that any row has. Each function is listed once.
 #[derive(Drop)]
 pub(crate) struct Found<'a> {
     pub(crate) functions: Vec<FoundFunction<'a>>,
@@ -143,9 +143,9 @@ pub(crate) fn is_shared(found: &[FoundFunction<'_>], function: &FoundFunction<'_
     })
 }
 
-/// Whether a patch has new functions, but none for a function in its list that another patch changes too. Only a
-/// cumulative patch is like this, since it gives such a function back. So it is known to be cumulative before its
-/// transition completes.
+/// Whether a patch has new functions, but has none for a function in its list that another patch changes too. A
+/// cumulative patch gives such a function back, and no other patch is like this. So the patch is known to be cumulative
+/// before its transition completes.
 fn gives_back(
     capture: &Capture<'_>,
     found: &[FoundFunction<'_>],

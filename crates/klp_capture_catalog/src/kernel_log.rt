@@ -1,20 +1,20 @@
-//! Reads what the kernel's own log, which a log of `klpcap` contains, says of a transition: when it started, and
-//! whether it was forced.
+//! Reads the kernel's own log, which a log of `klpcap` contains. It says when a transition started, and whether it was
+//! forced.
 use klp_capture::{Capture, Moment, Sample};
 
 /// When a transition started.
 #[derive(Clone, Copy, PartialEq, Eq)]
 pub enum Since {
-    /// The kernel's own log says that it started at this moment.
+    /// The moment at which the transition started, by the kernel's own log.
     Logged(Moment),
     /// The start isn't known. It was when this sample was taken, the first of the transition, or before.
     AtOrBefore(Moment),
 }
 
-/// What the kernel's log says when a transition is forced.
+/// The text that the kernel writes to its log when a transition is forced.
 const FORCED: &[u8] = b"forcing remaining tasks";
 
-/// What the kernel's log says of a patch, after its name.
+/// An event of a patch's transition in the kernel's log. The text of the event follows the patch's name.
 #[derive(Clone, Copy, PartialEq, Eq)]
 enum Milestone {
     /// A transition with this target starts.
@@ -40,14 +40,14 @@ fn milestone_of(text: &[u8], patch: &[u8]) -> Option<Milestone> {
 /// By how many microseconds the clock of the kernel's log and that of the samples may differ.
 const CLOCKS_APART: u64 = 200_000;
 
-/// Whether a moment of the kernel's log may be after the beginning of a sample, as the two clocks differ by
-/// `CLOCKS_APART` at most.
+/// Whether a moment of the kernel's log may be after the beginning of a sample. The two clocks differ by at most
+/// `CLOCKS_APART`.
 fn is_behind(at: Moment, sample: Moment) -> bool {
     at.0.saturating_add(CLOCKS_APART) >= sample.0
 }
 
-/// Returns when a transition started. `sample` is the first sample that shows it, and `before` the last one that
-/// doesn't. A start before `before` in the kernel's log is the start of another transition.
+/// Returns when a transition started. `sample` is the first sample that shows the transition, and `before` is the last
+/// sample that doesn't. If the kernel's log has a start before `before`, it is the start of another transition.
 pub fn since_when(
     capture: &Capture<'_>,
     patch: &[u8],
@@ -79,8 +79,8 @@ fn contains(bytes: &[u8], wanted: &[u8]) -> bool {
         .any(|window| window == wanted)
 }
 
-/// Returns when a transition was forced while `klpcap` recorded, by the kernel's log. Older forces in that log don't
-/// count.
+/// Returns when a transition was forced while `klpcap` recorded, by the kernel's log. A force before the recording
+/// doesn't count, even if the kernel's log has it.
 pub fn forced_in(capture: &Capture<'_>) -> Option<Moment> {
     let first = capture.samples.first()?.line.from;
     let line = capture

@@ -1,10 +1,10 @@
-//! What a log of a real kernel names, and a catalog with the same names.
+//! The names in a log of a real kernel, and a catalog with the same names.
 //!
-//! [`Functions`] has the patches of a log and the functions that they change, as far as the log's frames and symbols
-//! show them. [`Functions::catalog`] writes them as a catalog's text. `patch_lines` writes, as lines of a trace, what
-//! happened to a patch between two samples. `transition` says which transitions a log shows, and how each ended.
-//! `kernel_log` reads what the kernel's own log says of a transition: when it started, and whether it was forced.
-//! Nothing here has to be trusted, since `klp_capture_run` checks against the rules what is made of it.
+//! [`Functions`] has the patches of a log and the functions that they change, if the log's frames and symbols show the
+//! functions. [`Functions::catalog`] writes these names as a catalog's text. `patch_lines` writes, as lines of a trace,
+//! what happened to a patch between two samples. `transition` says which transitions a log shows, and how each ended.
+//! `kernel_log` reads when a transition started, and whether it was forced, from the kernel's own log.
+//! `klp_capture_run` checks the results of this crate against the rules, so nothing in this crate has to be trusted.
 #![tactic(auto)]
 
 mod catalog;

@@ -1,4 +1,5 @@
-//! What a log names: its patches, the functions that they change, and which of these a task is inside of.
+//! The names in a log: its patches, the functions that they change, and the versions of these functions that tasks are
+//! inside of.
 use crate::changed_functions::{FoundFunction, found_in, is_cumulative, is_shared};
 use crate::patch_lines::Files;
 use klp_capture::{Capture, FrameLine, PatchName, PatchRow, Span, SymbolLine, patch_in};
@@ -13,41 +14,42 @@ const HANDLER: &[u8] = b"klp_ftrace_handler";
 
 const HANDLER_ADDRESS: u64 = 0xffff_ffff_8100_0000;
 
-/// Addresses that stand for ones that the log doesn't have come after this one, `ADDRESS_STEP` apart.
+/// The address before the made-up addresses. If the log doesn't have an address, a made-up address is used. Made-up
+/// addresses are `ADDRESS_STEP` apart.
 const FIRST_ADDRESS: u64 = 0xffff_ffff_cf00_0000;
 
 const ADDRESS_STEP: u64 = 16;
 
-/// What the name of a new function begins with, before the name of the function that it replaces: nothing (kpatch),
-/// `livepatch_` (the kernel's samples), or `klpp_` (klp-convert).
+/// The prefixes that a new function's name may have. The name of the replaced function follows the prefix. The prefix
+/// is empty (kpatch), `livepatch_` (the kernel's samples), or `klpp_` (klp-convert).
 const PREFIXES: [&[u8]; 3] = [b"", b"livepatch_", b"klpp_"];
 
 /// A patch that the log names.
 #[derive(Clone, Copy)]
 pub struct SeenPatch<'a> {
-    /// What it is called.
+    /// The patch's name.
     pub name: &'a [u8],
-    /// Whether the patch is cumulative. If the log doesn't show it, this is a guess.
+    /// Whether the patch is cumulative. If the log doesn't show whether it is, the value is a guess.
     pub is_cumulative: bool,
 }
 
 /// A function that a patch changes.
 #[derive(Clone, Copy)]
 pub struct SeenFunction<'a> {
-    /// The index of its patch.
+    /// The index of the function's patch.
     pub patch: usize,
-    /// The index of its object.
+    /// The index of the function's object.
     pub object: usize,
-    /// What it is called.
+    /// The function's name.
     pub name: &'a [u8],
-    /// Its position among the symbols of this name, from 1.
+    /// The function's position among the symbols of this name, from 1.
     pub position: u32,
     /// The number of the new function among those of its patch. `None` for a function that a cumulative patch gives
     /// back.
     pub index: Option<u16>,
     /// The name of the new function, or `None` if the log doesn't have it.
     pub new_name: Option<&'a [u8]>,
-    /// The address of the new function, or another address if the log doesn't have it.
+    /// The address of the new function. If the log doesn't have the address, it is made up.
     pub new_address: u64,
 }
 
@@ -67,7 +69,7 @@ pub struct SeenVersion {
     pub is_new: bool,
 }
 
-/// What the log names: patches, the oldest first, objects, and functions.
+/// The names in a log: patches, oldest first, objects, and functions.
 #[derive(Drop)]
 pub struct Functions<'a> {
     /// The patches, by their numbers in the catalog.
@@ -82,11 +84,11 @@ pub struct Functions<'a> {
     pub cut: Vec<&'a [u8]>,
     /// How many functions the catalog has no room for. At most 4,096 are counted.
     pub left_out: usize,
-    /// The next address that stands for one that the log doesn't have.
+    /// The next made-up address, for a function whose address the log doesn't have.
     spare: u64,
 }
 
-/// Returns what the files of a patch read, by these rows. Returns `None` if the patch isn't there.
+/// Returns what the files of a patch read, by these rows. Returns `None` if the rows don't have the patch.
 pub fn files_in(rows: &[PatchRow<'_>], name: &[u8]) -> Files {
     match patch_in(rows, name) {
         Some(
@@ -194,7 +196,7 @@ fn last_moving<'a>(capture: &Capture<'a>) -> Option<&'a [u8]> {
     Some(name)
 }
 
-/// Whether the symbols of a patch's module are known: a log that was cut off may lack them.
+/// Whether the symbols of a patch's module are known. A log that was cut off may lack the symbols.
 fn has_symbols(capture: &Capture<'_>, patch: &[u8]) -> bool {
     capture.is_whole
         || capture
@@ -204,7 +206,7 @@ fn has_symbols(capture: &Capture<'_>, patch: &[u8]) -> bool {
 }
 
 /// Returns the symbol of the new function that replaces a function of this name. Returns `None` if the patch's module
-/// has none.
+/// has no such symbol.
 pub(crate) fn new_symbol_of<'a>(
     symbols: &[SymbolLine<'a>],
     patch: &[u8],
@@ -222,8 +224,8 @@ pub(crate) fn new_symbol_of<'a>(
 }
 
 impl<'a> Functions<'a> {
-    /// Returns what a log names. With `guesses`, the last patch in transition counts as a cumulative one, since a log
-    /// that was cut off doesn't show whether it is.
+    /// Returns the names in a log. If a log was cut off, it doesn't show whether the last patch in transition is
+    /// cumulative. With `guesses`, this patch counts as cumulative.
     pub fn of(
         alloc: Global,
         capture: &Capture<'a>,
@@ -266,7 +268,7 @@ impl<'a> Functions<'a> {
         Ok(names)
     }
 
-    /// Returns an address that stands for one that the log doesn't have.
+    /// Returns a made-up address, for a function whose address the log doesn't have.
     fn spare_address(&mut self) -> u64 {
         self.spare = self.spare.saturating_add(ADDRESS_STEP);
         self.spare
@@ -328,8 +330,8 @@ impl<'a> Functions<'a> {
         Ok(())
     }
 
-    /// Adds the symbols of each object under the names of its functions: the symbols of the log, and further ones if
-    /// the log has too few.
+    /// Adds to each object the symbols with the names of its functions. The log's symbols are added first. If the log
+    /// has too few symbols of a name, further symbols are made up.
     fn add_symbols(&mut self, capture: &Capture<'a>) -> Result<(), AllocError> {
         for place in 0..self.functions.len() {
             let Some(function) = self.functions.get(place).copied() else {
@@ -381,7 +383,7 @@ impl<'a> Functions<'a> {
     }
 
     /// Returns the version of a function that a frame is in. Returns `None` if no patch of the log changes the
-    /// function, or has it as a new function.
+    /// function, and no patch has it as a new function.
     pub fn seen_version(&self, frame: FrameLine<'_>) -> Option<SeenVersion> {
         let function = self
             .functions

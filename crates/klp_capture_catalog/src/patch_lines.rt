@@ -1,8 +1,8 @@
-//! Lines of a trace about patches and modules: what happened to them between two samples.
+//! Lines of a trace that say what happened to patches and modules between two samples.
 use klp_capture::Text;
 use std::alloc::AllocError;
 
-/// What the files `enabled` and `transition` of a patch read. `None` if the patch isn't there.
+/// What the files `enabled` and `transition` of a patch read. `None` if the patch isn't installed.
 pub type Files = Option<(bool, bool)>;
 
 /// Lines about one patch.
@@ -18,7 +18,7 @@ impl<'r> PatchLines<'r> {
         writeln!(self.text, "load {name}")
     }
 
-    /// Writes that the patch was there before the log began.
+    /// Writes that the patch was installed before the log began.
     pub fn stand(&mut self) -> Result<(), AllocError> {
         self.load()?;
         self.poll()
@@ -37,8 +37,9 @@ impl<'r> PatchLines<'r> {
         self.text.push_str("poll\n")
     }
 
-    /// Writes what led from one reading of the patch's files to the next. If the transition completed in between, the
-    /// poll that completed it isn't written. For a patch that a cumulative one replaced, nothing is written.
+    /// Writes the lines that lead from one reading of the patch's files to the next. If the transition completed
+    /// between the readings, the poll that completed it isn't written. If a cumulative patch replaced this patch,
+    /// nothing is written.
     pub fn change(
         &mut self,
         before: Files,
@@ -81,8 +82,8 @@ pub fn completes(before: Files, after: Files, is_replaced: bool) -> bool {
     }
 }
 
-/// Whether a transition of the patch started between two readings of its files. Going on and being reversed don't
-/// count.
+/// Whether a transition of the patch started between two readings of its files. A transition that continues or is
+/// reversed doesn't count.
 pub fn starts(before: Files, after: Files, is_replaced: bool) -> bool {
     match (before, after) {
         (None, Some(_)) => true,

@@ -6,17 +6,17 @@ use klp_capture::Moment;
 /// A transition that was seen.
 #[derive(Clone, Copy)]
 pub struct Moved {
-    /// The index of its patch.
+    /// The index of the transition's patch.
     pub patch: usize,
     /// Whether the patch is being enabled.
     pub target: bool,
-    /// When it started.
+    /// When the transition started.
     pub since: Since,
     /// When the first sample that shows the transition was taken.
     pub from: Moment,
     /// When the last sample that shows the transition was taken.
     pub to: Moment,
-    /// How it ended. `None` as long as it goes on.
+    /// How the transition ended. `None` if it hasn't ended.
     pub end: Option<End>,
 }
 
@@ -25,16 +25,16 @@ pub struct Moved {
 pub struct End {
     /// When the first sample after the transition was taken.
     pub at: Moment,
-    /// What came of it.
+    /// How the transition ended.
     pub ending: Ending,
 }
 
-/// What came of a transition.
+/// How a transition ended.
 #[derive(Clone, Copy, PartialEq, Eq)]
 pub enum Ending {
-    /// All tasks reached its target.
+    /// All tasks reached the target of the transition.
     Complete,
-    /// It was reversed. The transition back may already be complete.
+    /// The transition was reversed. The transition back may already be complete.
     Reversed,
 }
 
@@ -44,7 +44,7 @@ impl Moved {
         self.patch == patch && self.target == target
     }
 
-    /// Returns how the transition ended, by what the patch's files read afterwards.
+    /// Returns how the transition ended. `files` is what the patch's files read afterwards.
     pub fn ending_by(&self, files: Files) -> Ending {
         let is_enabled = matches!(files, Some((true, _)));
         if is_enabled == self.target {

@@ -1,5 +1,5 @@
-//! Explains a log: makes a catalog of what the log names, looks for a run of the rules that shows the log, and checks
-//! that run.
+//! Explains a log in three steps: makes a catalog of what the log names, looks for a run of the rules that shows the
+//! log, and checks that run.
 ghost use Rattle.std.specs.Prelude.{◌≡◌, ◌≤◌, ◌<◌, ◌↔◌, true, false, length, string_bytes, None, is_some, Ok, IfOk};
 ghost use Rattle.std.specs.Prelude.{IfSome};
 ghost use Rattle.std.specs.Str.Lines.{lines};
@@ -29,29 +29,30 @@ pub struct Explained<'a> {
     pub names: Vec<PatchName<'a>>,
     /// The threads that have a number in the trace.
     pub threads: Vec<Thread>,
-    /// The text of the catalog, whose patches, objects and functions are those that the log names.
+    /// The text of the catalog. Its patches, objects and functions are those that the log names.
     pub catalog: String,
-    /// The first sample that none of the tried runs leads to, counted from 0. `None` if there is none.
+    /// The first sample to which none of the tried runs leads, counted from 0. `None` if there is no such sample.
     pub failed: Option<usize>,
-    /// The first sample that none of the tried runs leads to, if the log was cut off. Such a log may lack the line of a
-    /// force that led there. So neither this sample nor a later one is judged.
+    /// The first sample to which none of the tried runs leads, if the log was cut off. Such a log may lack the line of
+    /// a force that led to the sample. So neither this sample nor a later one is judged.
     pub unjudged: Option<usize>,
-    /// The first sample that the trace doesn't show, though something led to it. It is always `None` unless the search
-    /// is at fault.
+    /// The first sample that the trace doesn't show, though a run led to it. It is always `None` unless the search is
+    /// at fault.
     pub unshown: Option<usize>,
-    /// How many samples weren't reached: those after a force, and those from the first one that nothing leads to.
+    /// How many samples weren't reached. They are the samples after a force, and the samples from the first one to
+    /// which nothing leads.
     pub later: u64,
-    /// When the transition was forced, or `None`. Later samples aren't looked at.
+    /// When the transition was forced, or `None`. Samples after a force aren't looked at.
     pub forced: Option<Moment>,
     /// The verdict on the trace.
     pub verdict: Verdict,
-    /// Who lags at the end of the trace, by the numbers of the tasks. `None` if the trace breaks the rules.
+    /// The tasks that lag at the end of the trace, by their numbers. `None` if the trace breaks the rules.
     pub lags: Option<Lags>,
 }
 
 impl<'a> Explained<'a> {
-    /// Whether a run of the rules shows what was recorded. This is so if the trace shows some sample, `failed` and
-    /// `unshown` are `None`, the trace is honest, and it is known who lags at its end.
+    /// Whether a run of the rules shows what was recorded. This is so if four things are true: the trace shows some
+    /// sample, `failed` and `unshown` are `None`, the trace is honest, and it is known which tasks lag at its end.
     pub fn is_explained(&self) -> bool
         ensures { (result ≡ true) ↔
             ((is_honest self.now.verdict ≡ true) × (self.now.failed ≡ None) × (self.now.unshown ≡ None)
@@ -80,7 +81,7 @@ impl<'a> Explained<'a> {
         }
     }
 
-    /// Returns the trace. It shows what the log has, up to the first sample that nothing leads to.
+    /// Returns the trace. The trace shows the log up to the first sample to which nothing leads.
     pub fn trace(&self) -> &str
         ensures { result.now ≡ string_bytes self.now.run.trace }
     {
@@ -89,8 +90,8 @@ impl<'a> Explained<'a> {
 }
 
 impl<'a> Explained<'a> {
-    /// Returns the tasks that hold the transition up at the end of the trace, which is the last settled sample. There
-    /// are none if no transition is under way then.
+    /// Returns the tasks that hold the transition up at the end of the trace, which is the last settled sample. The
+    /// list is empty if no transition is under way at the end.
     pub fn holders(&self, alloc: Global) -> Result<Vec<Holder>, AllocError>
         ensures { IfOk result (λ list. list.items ≡ holders_in self.now.lags) }
     {
@@ -125,7 +126,7 @@ fn explore_by<'a>(
 }
 
 // Boots a manager with a plan, and explores the samples. The callbacks are made here, as for watching a trace. A plan
-// that is made of a log has none.
+// that is made of a log has no callbacks.
 fn explore_over_plan<'a>(
     alloc: Global,
     plan: Plan,
@@ -143,7 +144,7 @@ fn explore_over_plan<'a>(
     Ok(explore_by(alloc, manager, run, capture, forced)?)
 }
 
-/// A run, and the first sample that it doesn't lead to, if there is one.
+/// A run, and the first sample to which it doesn't lead, if there is such a sample.
 #[derive(Drop)]
 struct Outcome<'a> {
     run: Run<'a>,
@@ -170,7 +171,7 @@ fn explored<'a>(
     })
 }
 
-/// Returns the first sample that a run doesn't lead to, or `None` if it leads to all.
+/// Returns the first sample to which a run doesn't lead. Returns `None` if the run leads to all samples.
 fn reached(
     alloc: Global,
     capture: &Capture<'_>,
@@ -181,8 +182,9 @@ fn reached(
     Ok(found.stopped)
 }
 
-/// Whether a run leads further if the last patch in transition counts as cumulative. A log shows whether it is only
-/// once the transition is complete, or by the symbols at the log's end. A log that was cut off may lack both.
+/// Whether a run leads further if the last patch in transition counts as cumulative. The log shows whether the patch is
+/// cumulative only when the transition is complete, or by the symbols at the log's end. A log that was cut off may lack
+/// both.
 fn is_better_guessed(
     alloc: Global,
     capture: &Capture<'_>,
@@ -200,7 +202,7 @@ fn is_better_guessed(
     }
 }
 
-/// Returns the samples before the one of this number, or all samples without a number.
+/// Returns the samples before the one with this number. Returns all samples if there is no number.
 fn samples_before(number: Option<usize>, samples: &[Sample]) -> &[Sample]
     ensures { result.now ≡ samples_before number samples.now }
 {
@@ -209,11 +211,11 @@ fn samples_before(number: Option<usize>, samples: &[Sample]) -> &[Sample]
         None => samples,
     }
 }
-/// Explains a log: makes a catalog of what it names, and looks for a run of the rules that shows each sample. The
-/// verdict is that of `klpwatch` on the trace that was found, with that catalog. The trace shows each settled sample
-/// that is before a force and before the first sample that nothing leads to. It shows the states of the tasks that the
-/// sample names, and the files of the patches. Who lags at the end follows from the rules and the state that the trace
-/// leads to.
+/// Explains a log: makes a catalog of what the log names, and looks for a run of the rules that shows each sample. The
+/// verdict is the verdict of `klpwatch` on the trace that was found, with that catalog. The trace shows each settled
+/// sample that is before a force and before the first sample to which nothing leads. For each such sample, it shows the
+/// states of the tasks that the sample names, and the files of the patches. The rules, and the state at the end of the
+/// trace, decide which tasks lag there.
 pub fn explain<'a>(alloc: Global, capture: &Capture<'a>) -> Result<Explained<'a>, Fault>
     ensures judged { IfOk result
         (λ found. Watches (string_bytes found.catalog) (string_bytes found.run.trace) (Ok found.verdict)) }

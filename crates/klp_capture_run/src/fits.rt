@@ -1,4 +1,4 @@
-//! Whether the events in lines of a trace lead to what the other lines say was seen.
+//! Whether the events in some lines of a trace lead to what the other lines say was seen.
 ghost use Rattle.klp_core.specs.Journaled.{IsWellFormed};
 
 use klp_core::Manager;
@@ -54,9 +54,9 @@ fn holds(manager: &mut Manager, item: &Observed) -> bool
     }
 }
 
-/// Passes the events of these lines to a manager, and returns whether it accepts them and shows between them what the
-/// other lines say. Its replies aren't compared. Of a call, the version that ran is compared. Events that were accepted
-/// stay.
+/// Passes the events of these lines to a manager. Returns whether the manager accepts them, and shows between the
+/// events what the other lines say. The manager's replies aren't compared. Of a call, the version that ran is compared.
+/// Events that were accepted stay done.
 pub(crate) fn fits(alloc: Global, manager: &mut Manager, text: &str) -> bool
     requires { IsWellFormed manager.old }
 {

@@ -1,4 +1,4 @@
-//! A task that a log follows, as it is after the part of the run that was found so far.
+//! A task that a log follows, in its state after the part of the run that was found so far.
 use klp_capture::{Activity, Moment, PatchedState};
 use klp_capture_catalog::{Functions, SeenVersion};
 use klp_core::Lag;
@@ -10,22 +10,23 @@ use std::alloc::AllocError;
 pub struct Followed<'a> {
     /// The thread's number.
     pub thread: u64,
-    /// When the thread began. If its number is used again, the new thread has another start.
+    /// When the thread began. If the thread's number is used again, the new thread began at another time.
     pub start: u64,
-    /// What it is called.
+    /// The task's name.
     pub name: &'a [u8],
-    /// Whether it is a thread of the kernel itself.
+    /// Whether the task is a thread of the kernel itself.
     pub is_kernel_thread: bool,
     pub(crate) mode: Mode,
-    /// The functions that it called and hasn't returned from, outermost first.
+    /// The functions that the task called and hasn't returned from, outermost first.
     pub(crate) inside: Vec<SeenVersion>,
     pub(crate) state: PatchedState,
     /// How often the task had got a processor when it was last seen.
     pub(crate) runs: u64,
-    /// The moment since which the task hasn't run, as far as samples show.
+    /// The moment since which the task hasn't run, by what samples show.
     pub(crate) since: Moment,
     pub(crate) has_ended: bool,
-    /// Why the task wasn't at the target in the last sample that showed a transition. `None` if it was.
+    /// Why the task wasn't at the target in the last sample that showed a transition. `None` if the task was at the
+    /// target.
     pub lag: Option<Lag>,
     /// The stays in which the task held a transition up, in order of time.
     pub stays: Vec<Stay>,
@@ -40,7 +41,7 @@ pub struct Stay {
     pub from: Moment,
     /// When the last sample that shows the stay was taken.
     pub to: Moment,
-    /// The function that it slept in.
+    /// The function that the task slept in.
     pub version: Version,
 }
 
@@ -51,12 +52,12 @@ pub(crate) struct Sighting {
     pub(crate) state: PatchedState,
     pub(crate) runs: u64,
     pub(crate) is_stable: bool,
-    /// The functions that it is inside of, outermost first.
+    /// The functions that the task is inside of, outermost first.
     pub(crate) places: Vec<SeenVersion>,
 }
 
 impl Sighting {
-    /// Whether the task slept, and it is known where.
+    /// Whether the task slept, and the functions that it slept in are known.
     pub(crate) fn is_asleep(&self) -> bool {
         self.is_stable && self.activity == Activity::Asleep
     }
@@ -81,7 +82,7 @@ impl<'r, 'a> TaskLines<'r, 'a> {
         writeln!(self.text, "task {word} {number}")
     }
 
-    /// The task calls a function, and this version of it runs.
+    /// Writes that the task calls a function, and that this version of the function runs.
     fn call(&mut self, place: SeenVersion) -> Result<(), AllocError> {
         let number = self.number;
         write!(self.text, "call {number} ")?;
@@ -116,7 +117,7 @@ impl<'r, 'a> TaskLines<'r, 'a> {
         self.text.push_str("\n")
     }
 
-    /// Writes that the task begins, and gets to where it was first seen.
+    /// Writes that the task begins, and reaches the functions that it was first seen inside of.
     pub(crate) fn begin(&mut self, seen: &Sighting) -> Result<(), AllocError> {
         self.event("new")?;
         if seen.activity == Activity::Running && seen.places.is_empty() {
@@ -132,8 +133,8 @@ impl<'r, 'a> TaskLines<'r, 'a> {
         Ok(())
     }
 
-    /// Writes that the task ran since it was last seen, and how it got to where it is now. If it was switched, it left
-    /// the kernel on the way.
+    /// Writes that the task ran since it was last seen, and which calls and returns lead to the functions that it is
+    /// now inside of. If the task was switched, it left the kernel on the way.
     pub(crate) fn go_on(
         &mut self,
         task: &Followed<'_>,

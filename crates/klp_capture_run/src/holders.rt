@@ -1,5 +1,5 @@
-//! Finds who holds a transition up at the end of a trace. The trace is read again, and done with a newly booted
-//! manager. So the result follows from the rules and the trace alone, however the trace was found.
+//! Finds the tasks that hold a transition up at the end of a trace. The trace is read again, and done with a newly
+//! booted manager. So the result follows from the rules and the trace alone, however the trace was found.
 ghost use Rattle.std.specs.Prelude.{◌≡◌, ◌≤◌, ◌++◌, length, OnOk, IfOk, IfSome};
 ghost use Rattle.klp_catalog_text.specs.Within.{AreTargetsWithin};
 ghost use Rattle.klp_capture_run.specs.Holders.{LagBehind, LagBehindTrace, LagOverPlan, LagOver, holder_at};
@@ -15,16 +15,16 @@ use klp_types::{MAX_TASKS, Version};
 use klp_watch::{Observed, compare_whole};
 use std::alloc::{AllocError, Global};
 
-/// For each task number, why the task isn't at the target of the transition. `None` if it is, or if there is no such
-/// task.
+/// For each task number, why the task isn't at the target of the transition. `None` if the task is at the target, or if
+/// there is no such task.
 pub type Lags = [Option<Lag>; MAX_TASKS];
 
 /// A task that holds a transition up.
 #[derive(Clone, Copy)]
 pub struct Holder {
-    /// Its number in the trace.
+    /// The task's number in the trace.
     pub number: usize,
-    /// The function that it sleeps in.
+    /// The function that the task sleeps in.
     pub version: Version,
 }
 
@@ -57,7 +57,7 @@ fn lags_behind_trace(alloc: Global, manager: Manager, trace: &[u8]) -> Option<La
 }
 
 // Does a trace with a manager of this plan. The callbacks are made here, as for watching a trace. A plan that is made
-// of a log has none.
+// of a log has no callbacks.
 fn lags_over_plan(alloc: Global, plan: Plan, trace: &[u8]) -> Result<Option<Lags>, Fault>
     requires { AreTargetsWithin (length plan.objects) plan.patches }
     ensures { IfOk result (λ found. IfSome found (λ lags. LagOverPlan plan trace.now lags)) }
@@ -70,8 +70,8 @@ fn lags_over_plan(alloc: Global, plan: Plan, trace: &[u8]) -> Result<Option<Lags
     Ok(lags_behind_trace(alloc, manager, trace))
 }
 
-/// Returns who lags at the end of a trace, and why. `catalog` is the catalog's text. Returns `None` if the trace can't
-/// be read or breaks the rules.
+/// Returns which tasks lag at the end of a trace, and why. `catalog` is the catalog's text. Returns `None` if the trace
+/// can't be read or breaks the rules.
 pub(crate) fn lags_over(alloc: Global, catalog: &[u8], trace: &[u8]) -> Result<Option<Lags>, Fault>
     ensures { IfOk result (λ found. IfSome found (λ lags. LagOver catalog.now trace.now lags)) }
 {

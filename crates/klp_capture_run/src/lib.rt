@@ -1,8 +1,8 @@
 //! A run of the rules that shows what a log of a real kernel shows.
 //!
-//! [`explain`] makes a catalog of what a log names, and looks for a run of the rules that shows each sample. The search
-//! doesn't have to be trusted: `klp_program::watch_over_text` checks the trace that it finds against the rules, like
-//! any other trace. Nothing is claimed of what happened between two samples.
+//! [`explain`] makes a catalog of what a log names, and looks for a run of the rules that shows each sample.
+//! `klp_program::watch_over_text` checks the trace that the search finds against the rules, like any other trace. So
+//! the search doesn't have to be trusted. Nothing is claimed of what happened between two samples.
 #![tactic(auto)]
 
 mod explained;

@@ -6,18 +6,18 @@ use klp_capture::Text;
 use klp_capture_catalog::{Files, PatchLines};
 use std::alloc::{AllocError, Global};
 
-/// Lines of a trace that lead to one sample. Among them is at most one poll.
+/// Lines of a trace that lead to one sample. At most one line is a poll.
 #[derive(Drop)]
 struct Lines<'r, 'a> {
     run: &'r Run<'a>,
     text: String,
-    /// The number of the place, from 0, where a poll is written. `None` if none is.
+    /// The number of the place, from 0, where a poll is written. `None` if no poll is written.
     poll: Option<usize>,
     place: usize,
 }
 
 impl<'r, 'a> Lines<'r, 'a> {
-    /// Marks a place where a poll may be, and writes the poll if it is this place.
+    /// Marks a place where a poll may be. If the poll belongs at this place, writes it.
     fn place(&mut self) -> Result<(), AllocError> {
         if self.poll == Some(self.place) {
             self.text.push_str("poll\n")?;
@@ -66,7 +66,7 @@ impl<'r, 'a> Lines<'r, 'a> {
         Ok(())
     }
 
-    /// Adds the patches that were there before the log began.
+    /// Adds the patches that were installed before the log began.
     fn add_standing(&mut self) -> Result<(), AllocError> {
         for (patch, files) in self.run.functions.patches.iter().zip(&self.run.files) {
             if files.is_some() {
@@ -95,7 +95,7 @@ impl<'r, 'a> Lines<'r, 'a> {
         Ok(())
     }
 
-    /// Adds what a task did that the sample names, if the task ran.
+    /// If a task that the sample names ran, adds what the task did.
     fn add_task(&mut self, facts: &Facts, named: &Named) -> Result<(), AllocError> {
         let Some(task) = self.run.tasks.get(named.number) else {
             return Ok(());
@@ -183,7 +183,7 @@ impl<'a> Run<'a> {
         lines.add_tasks(step)?;
         lines.add_files(after)?;
         let Lines { text, .. } = lines;
-        // A sample may show nothing at all. A time without an item is no line of a trace.
+        // A sample may show nothing. A time without an item is no line of a trace.
         if text.len() == empty {
             return Ok(String::new(alloc));
         }

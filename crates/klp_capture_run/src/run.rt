@@ -1,9 +1,10 @@
 //! Looks for a run of the rules that shows what a log shows, sample by sample.
 //!
 //! A log says in which states the kernel was, but not what happened. For each two successive samples, this module looks
-//! for events that the rules allow and that lead from one to the other. It tries lines of a trace on a manager,
-//! compares what the manager then shows, and undoes the lines if the log shows something else. The search doesn't have
-//! to be trusted: the trace that it finds is checked against the rules, like any other trace.
+//! for events that the rules allow and that lead from one sample to the other. It tries lines of a trace on a manager,
+//! and compares what the manager then shows with the log. If the log shows something else, it undoes the lines. The
+//! trace that the search finds is checked against the rules, like any other trace. So the search doesn't have to be
+//! trusted.
 ghost use Rattle.klp_core.specs.Journaled.{IsWellFormed};
 
 use crate::fits::fits;
@@ -14,8 +15,8 @@ use klp_core::Manager;
 use klp_types::MAX_GROUPS;
 use std::alloc::{AllocError, Global};
 
-/// How many events the journal may have before a sample. More are sealed first, so that there is room for those of the
-/// sample.
+/// How many events the journal may have before a sample. If it has more, the journal is sealed first, so that there is
+/// room for the events of the sample.
 const MAX_BEFORE_A_SAMPLE: u32 = MAX_GROUPS as u32 / 2;
 
 /// The run as far as it was found.
@@ -25,13 +26,13 @@ pub struct Run<'a> {
     pub functions: Functions<'a>,
     /// The tasks that the log follows, by their numbers in the trace.
     pub tasks: Vec<Followed<'a>>,
-    /// For each patch, what its files read in the last sample. `None` if the patch wasn't there.
+    /// For each patch, what its files read in the last sample. `None` if the patch wasn't installed.
     pub files: Vec<Files>,
     /// For each object, whether it is loaded.
     pub(crate) loaded: Vec<bool>,
     /// The trace so far.
     pub trace: String,
-    /// How many tasks were left out that the log follows, since the rules have no numbers for them.
+    /// How many of the tasks that the log follows were left out. The rules have no numbers for these tasks.
     pub left_out: u64,
     /// How many samples were left out because a patch changed while they were taken.
     pub torn: u64,
@@ -39,7 +40,7 @@ pub struct Run<'a> {
     pub shown: u64,
     /// The transitions that the log shows, in order of time.
     pub transitions: Vec<Moved>,
-    /// The last sample that the run reached. `None` before the first.
+    /// The last sample that the run reached. `None` before the first sample is reached.
     pub last: Option<usize>,
 }
 
@@ -104,8 +105,9 @@ impl<'a> Run<'a> {
     }
 
     /// Looks for lines that lead to a sample, passes their events to the manager, and adds them to the trace. Returns
-    /// false if there are no such lines. The trace then gets the lines that were tried first, but only if the log is
-    /// whole. A log that was cut off may lack the line of a force, so its lines aren't to be judged.
+    /// false if there are no such lines. In this case, if the log is whole, the lines that were tried first are added
+    /// to the trace. A log that was cut off may lack the line of a force, so lines tried for it aren't judged and
+    /// aren't added.
     fn advance(
         &mut self,
         alloc: Global,
@@ -155,7 +157,7 @@ impl<'a> Run<'a> {
         Ok(true)
     }
 
-    /// Whether the last transition so far is that of this patch to this target, and goes on as far as is known.
+    /// Whether the last transition so far is that of this patch to this target, and isn't known to have ended.
     fn is_under_way(&self, patch: usize, target: bool) -> bool {
         match self.transitions.last() {
             Some(moved) => moved.end.is_none() && moved.is_of(patch, target),
@@ -175,7 +177,8 @@ impl<'a> Run<'a> {
         }
     }
 
-    /// Notes the transition that is under way in a sample. If there is none, notes that the last one has ended.
+    /// Notes the transition that is under way in a sample. If no transition is under way, notes that the last one has
+    /// ended.
     fn note_transition(
         &mut self,
         capture: &Capture<'a>,
@@ -213,7 +216,7 @@ impl<'a> Run<'a> {
         Ok(())
     }
 
-    /// Notes what the run has reached with a sample: which transition is under way, and who lags.
+    /// Notes the state that the run has reached with a sample: which transition is under way, and which tasks lag.
     fn note(
         &mut self,
         manager: &Manager,
@@ -239,8 +242,8 @@ impl<'a> Run<'a> {
         Ok(())
     }
 
-    /// Leads the run from sample to sample, up to this moment. Returns the number of the first sample that nothing
-    /// leads to.
+    /// Leads the run from sample to sample, up to this moment. Returns the number of the first sample to which nothing
+    /// leads.
     pub(crate) fn explore(
         &mut self,
         alloc: Global,

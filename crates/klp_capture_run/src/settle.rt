@@ -1,4 +1,4 @@
-//! What a run knows once it has reached a sample.
+//! Notes the state that a run has reached with a sample.
 use crate::followed::{Followed, Sighting, Stay};
 use crate::run::Run;
 use crate::step::{Facts, Named, Step, state_at};
@@ -18,8 +18,8 @@ fn mode_of(seen: &Sighting) -> Mode {
 }
 
 impl<'a> Followed<'a> {
-    /// Notes why the task lags in a sample of a transition, if it does. A stay goes on through successive samples as
-    /// long as the task holds the transition up in the same function and doesn't run.
+    /// If the task lags in a sample of a transition, notes why. A stay continues through successive samples as long as
+    /// the task holds the transition up in the same function and doesn't run.
     pub(crate) fn note_lag(
         &mut self,
         lag: Option<Lag>,
@@ -49,7 +49,7 @@ impl<'a> Followed<'a> {
         Ok(())
     }
 
-    /// Notes that the task has begun, and is where it was first seen.
+    /// Notes that the task has begun, and where it was first seen.
     fn settle_begun(&mut self, facts: &Facts, seen: Sighting) {
         let is_outside = seen.activity == Activity::Running && seen.places.is_empty();
         self.mode = if is_outside {
@@ -119,8 +119,8 @@ impl<'a> Run<'a> {
         }
     }
 
-    /// Notes what the patches' files read before the first sample: the same as in that sample, except for a patch that
-    /// is being enabled, which wasn't there yet.
+    /// Notes what the patches' files read before the first sample. A patch that is being enabled in the first sample
+    /// wasn't installed before it. The files of all other patches read the same as in the first sample.
     pub(crate) fn stand(&mut self, after: &[Files]) {
         for patch in 0..self.files.len() {
             let now = after.get(patch).copied().unwrap_or(None);

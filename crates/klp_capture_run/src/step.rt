@@ -12,9 +12,9 @@ pub(crate) struct Facts {
     pub(crate) moment: Moment,
     /// Whether the files of a patch changed.
     pub(crate) has_changed: bool,
-    /// Whether a transition starts. All tasks are then at its other end first.
+    /// Whether a transition starts. If so, all tasks are first at its other end.
     pub(crate) starts: bool,
-    /// The target of the transition that starts, goes on or completes. `None` without one.
+    /// The target of the transition that starts, continues or completes. `None` without a transition.
     pub(crate) target: Option<bool>,
     /// Whether a transition completes.
     pub(crate) completes: bool,
@@ -35,7 +35,8 @@ pub(crate) struct Step {
     pub(crate) named: Vec<Named>,
     /// The numbers of the tasks that have ended.
     pub(crate) ended: Vec<usize>,
-    /// The tasks that begin before the sample. The first of them gets the next number, and so on.
+    /// The tasks that begin before the sample. The first of them gets the next free number, the second the number after
+    /// it, and so on.
     pub(crate) begun: Vec<Sighting>,
 }
 
@@ -48,8 +49,8 @@ pub(crate) fn state_at(target: bool) -> PatchedState {
 }
 
 impl<'a> Run<'a> {
-    /// Returns the functions that a task is inside of, outermost first. Only functions that patches of the log change
-    /// or have count.
+    /// Returns the functions that a task is inside of, outermost first. A function is left out unless a patch of the
+    /// log changes it or has it as a new function.
     fn places_of(
         &self,
         alloc: Global,
@@ -82,14 +83,14 @@ impl<'a> Run<'a> {
         })
     }
 
-    /// Returns the number in the trace of a thread that hasn't ended. Returns `None` if there is none.
+    /// Returns the number in the trace of a thread that hasn't ended. Returns `None` if there is no such thread.
     fn number_of(&self, thread: u64, start: u64) -> Option<usize> {
         self.tasks.iter().position(|task| task.thread == thread
             && task.start == start
             && !task.has_ended)
     }
 
-    /// Adds the tasks that these samples are the first to show, as each was first seen.
+    /// Adds the tasks that appear in these samples for the first time, each as it was first seen.
     fn add_begun(
         &mut self,
         alloc: Global,
@@ -127,7 +128,7 @@ impl<'a> Run<'a> {
     }
 }
 
-/// Returns the number of the first sample that no longer shows the transition which starts in this sample. Such a
+/// Returns the number of the first sample that no longer shows the transition which starts in this sample. The returned
 /// sample may show another transition, or none.
 fn end_of_transition(capture: &Capture<'_>, number: usize) -> usize {
     let samples = capture.samples.get(number..).unwrap_or(&[]);
@@ -182,7 +183,7 @@ impl<'a> Run<'a> {
         } else {
             number.saturating_add(1)
         };
-        // What was seen in samples that were left out counts too.
+        // Samples that were left out are looked at too, since what was seen in them counts.
         let first = match self.last {
             Some(last) => last.saturating_add(1),
             None => 0,
@@ -204,7 +205,7 @@ impl<'a> Run<'a> {
         })
     }
 
-    /// Adds the tasks that a sample names. If several samples name a task, the last of them counts.
+    /// Adds the tasks that a sample names. If several samples name a task, the last such sample counts.
     fn add_named(
         &self,
         alloc: Global,
@@ -285,8 +286,8 @@ impl<'a> Run<'a> {
 }
 
 impl Facts {
-    /// Whether a task that ran was switched in between because it left the kernel. `before` is its state in the sample
-    /// before.
+    /// Whether a task that ran was switched since the sample before because it left the kernel. `before` is the task's
+    /// state in the sample before.
     pub(crate) fn is_switched(&self, before: PatchedState, seen: &Sighting) -> bool {
         let Some(target) = self.target else {
             return false;
@@ -303,7 +304,7 @@ impl Facts {
 }
 
 impl Step {
-    /// Returns how many places there are where a poll may be written.
+    /// Returns the number of places where a poll may be written.
     pub(crate) fn places(&self) -> usize {
         self.named
             .len()

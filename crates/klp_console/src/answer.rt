@@ -1,4 +1,4 @@
-//! Does one line and answers it. What the line asks for is read first, since reading borrows the manager.
+//! Does one line and answers it. The request of the line is read before it is done, since reading borrows the manager.
 ghost use Rattle.std.specs.Prelude.{◌≡◌, ℕ, ◌+◌, ◌<◌, ◌≤◌, ◌^◌, ◌⊎◌, true, false, cond, List, [], ◌∷◌, ◌++◌, length};
 ghost use Rattle.std.specs.Prelude.{is_err};
 ghost use Rattle.klp_types.specs.declared.limits.TheConstants.{MAX_CONSOLE_LINE};
@@ -41,8 +41,8 @@ fn rewind<W: Sink>(manager: &mut Manager, mark: u32, answers: &mut Answers, writ
     }
 }
 
-/// Passes an event to the manager, says its reply or refusal, and returns that too. The function is inlined, so that
-/// callers who drop the reply don't pay for a copy of it.
+/// Passes an event to the manager, says the manager's reply or refusal, and also returns the reply or refusal. The
+/// function is inlined, so that callers who drop the reply don't pay for a copy of it.
 #[inline(always)]
 fn answer_event<W: Sink>(
     manager: &mut Manager,
@@ -76,9 +76,9 @@ fn take<W: Sink>(
     Outcome::Answered(*event, answer_event(manager, event, answers, writer))
 }
 
-/// Does what a line asks for, and says the answer. Returns whether the line was refused, so that it can be counted. A
-/// refused line changes nothing. A line without words does nothing and has no answer, so scripts may have empty lines.
-/// A line at fault is refused.
+/// Does what a line asks for, and says the answer. Returns whether the line was refused, so that refused lines can be
+/// counted. A refused line changes nothing. A line without words does nothing and has no answer, so scripts may have
+/// empty lines. A line at fault is refused.
 fn done<W: Sink>(
     manager: &mut Manager,
     asked: &Option<Result<Asked, LineFault>>,
@@ -186,7 +186,7 @@ fn count(served: &mut Served, is_refused: bool)
 }
 
 /// Does what a line asks for, and gathers its answer. If the sink fails to write an earlier answer, this line is undone
-/// again. So it must be a line that can be undone, unless no earlier answer is gathered.
+/// again. So if an earlier answer is gathered, the line must be one that can be undone.
 fn gather<W: Sink>(
     manager: &mut Manager,
     asked: &Option<Result<Asked, LineFault>>,

@@ -1,5 +1,5 @@
-//! What a line or a word asks for, for callers that don't do it at once. Only the manager's names are used. Its state
-//! makes no difference.
+//! Returns the request of a line or a word, for callers that don't do the request at once. Only the manager's names are
+//! used. The manager's state makes no difference.
 ghost use Rattle.std.specs.Prelude.{◌≡◌};
 ghost use Rattle.klp_console.specs.Asked.{event_of, site_of};
 

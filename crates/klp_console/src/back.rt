@@ -33,20 +33,19 @@ pub(crate) fn can_be_taken_back(
 }
 
 /// Undoes the events of all lines behind the one whose answer was cut off. `gathered` is how many bytes were gathered
-/// before the last line. If all of these are written, it is the last line's own answer that was cut off, and nothing is
-/// undone.
+/// before the last line. If all these bytes are written, the last line's own answer was cut off, and nothing is undone.
 pub(crate) fn take_back(manager: &mut Manager, marks: &Marks, answers: &Answers, gathered: usize)
     requires { answers.now.held ≤ gathered }
     ensures { IsTakenBack manager.old manager.new (events_at_cut (gathered - answers.now.held) marks.now) }
 {
     if let Some(events) = marks.events_at_cut(gathered - answers.held()) {
-        // the journal has at least this many events: no line after the mark removed any
+        // no line after the mark removed an event, so the journal has at least this many
         let _ = manager.rewind(events);
     }
 }
 
-/// Marks the line that was answered last. If all answers before its own are written, the earlier marks are dropped
-/// first.
+/// Marks the line that was answered last. If all answers before that line's answer are written, the earlier marks are
+/// dropped first.
 pub(crate) fn mark_line(marks: &mut Marks, answers: &Answers, events: u32)
     requires { length marks.old < MARKS_ROOM }
     ensures { marks.new ≡ back.marks_on answers.now.held marks.old

@@ -1,4 +1,4 @@
-//! Serving an input until its end. It is read into a buffer of a fixed size.
+//! Serves an input until its end. The input is read into a buffer of a fixed size.
 ghost use Rattle.std.specs.Prelude.{◌≡◌, ◌+◌, ◌<◌, ◌≤◌, ◌^◌, false, [], ◌∷◌, ◌++◌, length, IfOk, IfErr};
 ghost use Rattle.klp_types.specs.declared.limits.TheConstants.{MAX_CONSOLE_LINE};
 ghost use Rattle.klp_console_io.specs.Lines.{lines_and_rest};
@@ -51,7 +51,8 @@ fn hear<W: Sink>(
     heard
 }
 
-/// Does the last line and writes its answer, if bytes follow the last line feed. Otherwise there is no such line.
+/// If bytes follow the last line feed, they are the last line: does this line and writes its answer. If no bytes
+/// follow, does nothing.
 fn end<W: Sink>(
     manager: &mut Manager,
     line: &LineBuffer,
@@ -94,11 +95,11 @@ fn end<W: Sink>(
 /// Serves lines from `reader` until it ends, and writes their answers to `writer`.
 ///
 /// A line ends with a line feed or with the input. It has at most [`MAX_CONSOLE_LINE`](klp_types::MAX_CONSOLE_LINE)
-/// bytes. Each answer is written before the next read, so that someone who types sees it at once. The contract implies
-/// this, since any read may be the one that fails (docs/DECISIONS.md, "Answers before the next read"). A patch that was
-/// withdrawn leaves no trace, as after `Manager::run`. This holds against the state before any line that is followed by
-/// no `seal`, and by no `rewind` to a mark before that line. The cost of a line grows with its words and with what it
-/// asks for. No memory is allocated.
+/// bytes. Each answer is written before the next read, so that someone who types sees the answer at once. Any read may
+/// be the one that fails, so the contract implies that all earlier answers are written (docs/DECISIONS.md, "Answers
+/// before the next read"). A patch that was withdrawn leaves no trace, as after `Manager::run`. The state is compared
+/// with the state before a line. After that line there must be no `seal`, and no `rewind` to a mark before the line.
+/// The cost of a line grows with its words and with what it asks for. No memory is allocated.
 pub fn serve<R: Source, W: Sink>(
     reader: &mut R,
     writer: &mut W,
@@ -149,7 +150,7 @@ pub fn serve<R: Source, W: Sink>(
             return Err(fault);
         }
     }
-    // All `MAX_READS` reads were made, and none of them told the end. Serving must stop at some point even if an input
-    // never ends.
+    // All `MAX_READS` reads were made, and none of them found the end of the input. Serving must stop at some point
+    // even if an input never ends.
     Err(ServeFault::Read)
 }

@@ -103,7 +103,7 @@ pub fn the_kernel_looks_like_this()
     ensures not_its_object { shown_text (query_text manager (query.Runs 1 1)) ≡ codes "error 2 NotFound\n" }
 {}
 
-/// A line is counted as refused exactly if it wasn't done.
+/// A line is counted as refused if it wasn't done, and only then.
 pub fn lines_are_refused_where_they_are_not_done()
     ensures done { replied catalog (Ok Started) ≡ record { text = codes "started\n"; is_refused = false } }
     ensures not_done { replied catalog (Err Busy) ≡ record { text = codes "error 16 Busy\n"; is_refused = true } }

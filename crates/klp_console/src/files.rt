@@ -202,8 +202,8 @@ fn say_function<W: Sink>(answers: &mut Answers, writer: &mut W, function: &Catal
     say_position(answers, writer, function.symbol(), position);
 }
 
-/// Says those functions in the list that are in this object, with their positions. The list has all functions of a
-/// patch, so each is looked at.
+/// Says those functions of the list that are in this object, with their positions. The list has all functions of a
+/// patch, so each function is checked.
 fn say_positions<W: Sink>(
     answers: &mut Answers,
     writer: &mut W,

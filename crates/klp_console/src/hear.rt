@@ -1,4 +1,4 @@
-//! Cuts pieces of the input into lines, and answers the lines. The function borrows all that it changes, so its early
+//! Cuts pieces of the input into lines, and answers the lines. All that the function changes is borrowed, so its early
 //! returns are cheap to prove (docs/DECISIONS.md, "One way out for an owner").
 ghost use Rattle.std.specs.Prelude.{◌≡◌, ◌+◌, ◌<◌, ◌≤◌, ◌^◌, false, [], ◌∷◌, ◌++◌, length, IfOk};
 ghost use Rattle.klp_types.specs.declared.limits.TheConstants.{MAX_CONSOLE_LINE};
@@ -37,8 +37,8 @@ pub(crate) fn hear_lines<W: Sink>(
     let mut rest = piece;
     while !rest.is_empty() {
         match line.hear(rest) {
-            // The clause identifies a long line by the bytes of the source. For standard input these aren't known, but
-            // this function serves all sources (docs/DECISIONS.md, "Long lines of standard input").
+            // The clause identifies a long line by the bytes of the source. The bytes of standard input aren't known,
+            // but this function serves all sources (docs/DECISIONS.md, "Long lines of standard input").
             Err(TooLong) => return Err(ServeFault::LineTooLong),
             Ok(None) => return Ok(()),
             Ok(Some(after)) => {
@@ -52,7 +52,7 @@ pub(crate) fn hear_lines<W: Sink>(
             return Err(ServeFault::Write);
         }
     }
-    // nothing is left of the piece, and the line has no line feed; called for its contract
+    // nothing is left of the piece, and the line has no line feed; `bytes` is called for its contract
     let _rest = line.bytes();
     Ok(())
 }

@@ -5,10 +5,10 @@ ghost use Rattle.klp_console.specs.Alike.{AreAlike, NoneIsFull};
 ghost use Rattle.klp_console.specs.Served.{Console, HasWriteFailed};
 
 /// After a failed write, the bytes that were written determine which lines are done. Take two servings of the same
-/// lines by one manager whose sinks accepted the same bytes. Then both have done the same lines, and both leave the
-/// same manager except for its undo records. It makes no difference how reads cut the input, or which lines were done
-/// before earlier answers were written. This holds as long as the journal has room for the lines, since contracts say
-/// little of an event's records: only that they are few and undo the event.
+/// lines by one manager, and let both sinks accept the same bytes. Then both servings have done the same lines, and
+/// both leave the same manager except for its undo records. It makes no difference how reads cut the input, or which
+/// lines were done before earlier answers were written. The journal must have room for the lines. Contracts say little
+/// of an event's undo records: only that they are few and undo the event.
 pub fn what_stands_is_sent_by_what_was_written()
     ensures { (before after other : Console) (all : List (List ℕ)) (taken : List ℕ)
         → (one : HasWriteFailed before after) → (two : HasWriteFailed before other)

@@ -1,4 +1,4 @@
-//! The names in answers. Replies have numbers, which nobody should have to look up.
+//! The names in answers. Replies have numbers, and answers have names, so that nobody has to look up a number.
 ghost use Rattle.std.specs.Prelude.{◌≡◌, ◌++◌, codes};
 ghost use Rattle.klp_console_io.specs.Says.{Says};
 ghost use Rattle.klp_console_io.specs.Texts.{address_text};
@@ -17,8 +17,8 @@ pub(crate) fn patch_name(catalog: &Catalog, patch: PatchId) -> &str
     catalog.patch_name(patch).unwrap_or("")
 }
 
-/// Returns the name of an object, even if the object isn't loaded. The name is empty if there is no such object, so no
-/// caller needs a case for that. The object is found by its number.
+/// Returns the name of an object, even if the object isn't loaded. If there is no such object, the name is empty, so
+/// callers needn't treat a missing object separately. The object is found by its number.
 pub(crate) fn object_name(modules: &Modules, object: ObjId) -> &str
     ensures { result.now ≡ object_name modules.now.names object }
 {

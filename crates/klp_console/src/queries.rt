@@ -18,8 +18,7 @@ use klp_core::Manager;
 use klp_model::Refusal;
 use klp_types::PatchId;
 
-/// Says what a query shows. If the query is refused, returns the refusal and says nothing; the caller then says the
-/// refusal.
+/// Says what a query shows. If the query is refused, says nothing and returns the refusal, which the caller says.
 fn show<W: Sink>(
     answers: &mut Answers,
     writer: &mut W,

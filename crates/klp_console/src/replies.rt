@@ -14,7 +14,7 @@ use klp_model::{Refusal, Reply};
 use klp_modules::Modules;
 use klp_types::{Frames, ObjId, PatchId, Site, Version};
 
-/// Says `ok`: the line was done, and there is no more to report. So each line with words has an answer.
+/// Says `ok` for a line that was done and has no more to report. So each line with words has an answer.
 pub(crate) fn say_done<W: Sink>(answers: &mut Answers, writer: &mut W)
     ensures { Says (answers.old, W.written writer.old) (answers.new, W.written writer.new) done_text }
 {
@@ -146,7 +146,8 @@ fn say_frames<W: Sink>(
     }
 }
 
-/// Says on one line the functions that a woken task was inside of. If there were none, says the word `woken` alone.
+/// Says on one line the functions that a woken task was inside of. If the task was inside of no function, says the word
+/// `woken` alone.
 fn say_woken<W: Sink>(
     answers: &mut Answers,
     writer: &mut W,
@@ -164,7 +165,8 @@ fn say_woken<W: Sink>(
     answers.say(writer, b"\n");
 }
 
-/// Says the reply to an event: its word, and then its names and numbers. For a refused event, says why it was refused.
+/// Says the answer to an event. The answer to an accepted event is the word of its reply, followed by the reply's names
+/// and numbers. The answer to a refused event is the reason of the refusal.
 ///
 /// A function that a task was inside of is spelled as a livepatch symbol, with its position from 1 (livepatch module
 /// ELF format, livepatch symbols). A new function is spelled as `PATCH:INDEX`, where `INDEX` counts from 0 over the

@@ -20,7 +20,8 @@ use klp_types::{ObjId, PatchId, ShadowKey, Which};
 /// The kinds of callbacks, in the order in which a patch runs them. Their counts are said in this order.
 const KINDS: [Which; 4] = [Which::Pre, Which::Post, Which::PreUn, Which::PostUn];
 
-/// Says the value of a shadow variable, or `none` if it doesn't exist. The latter is no refusal.
+/// Says the value of a shadow variable, or `none` if the variable doesn't exist. A query for a variable that doesn't
+/// exist isn't refused.
 pub(crate) fn say_variable<W: Sink>(
     answers: &mut Answers,
     writer: &mut W,
@@ -36,7 +37,8 @@ pub(crate) fn say_variable<W: Sink>(
     }
 }
 
-/// Says how often a callback ran, or a dash if there is no such callback. So each kind has its place in the line.
+/// Says how often a callback ran, or a dash if there is no such callback. So the count of each kind always has the same
+/// place in the line.
 fn say_count<W: Sink>(answers: &mut Answers, writer: &mut W, count: Option<u64>)
     ensures { Says (answers.old, W.written writer.old) (answers.new, W.written writer.new) (count_text count) }
 {
@@ -90,7 +92,7 @@ fn say_all_counts<W: Sink>(
 }
 
 /// Says how often each callback of a patch for an object ran. The patch needn't be installed, since its counts stay
-/// when it leaves. If the patch doesn't change the object, returns `NotFound` and says nothing.
+/// when it is removed. If the patch doesn't change the object, returns `NotFound` and says nothing.
 pub(crate) fn say_runs<W: Sink>(
     answers: &mut Answers,
     writer: &mut W,

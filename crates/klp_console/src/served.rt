@@ -1,4 +1,4 @@
-//! The results of serving: the counts if the input ended, or why serving ended before the input did.
+//! The results of serving: counts of lines if the input ended, or the reason why serving ended before the input.
 
 use thiserror::Error;
 
@@ -11,11 +11,12 @@ pub struct Served {
     pub refused: u64,
 }
 
-/// Why serving ended before the input did. The lines that were done stay done. After a failed write, the last of these
-/// is the line whose answer was cut off.
+/// Why serving ended before the input did. The lines that were done stay done. After a failed write, the last line that
+/// was done is the one whose answer was cut off.
 #[derive(Clone, Copy, Debug, PartialEq, Eq, Error)]
 pub enum ServeFault {
-    /// A read failed, or [`MAX_READS`](klp_types::MAX_READS) reads were made and none of them told the end.
+    /// A read failed, or [`MAX_READS`](klp_types::MAX_READS) reads were made and none of them found the end of the
+    /// input.
     #[error("Read")]
     Read,
     /// A write failed or accepted no byte, so further answers would be lost.

@@ -84,8 +84,8 @@ fn say_entries<W: Sink>(answers: &mut Answers, writer: &mut W, catalog: &Catalog
     }
 }
 
-/// Says the entries of a site's function stack, newest first. If there are none, says `empty`, so there is always a
-/// line.
+/// Says the entries of a site's function stack, newest first. If the stack has no entries, says `empty`, so the answer
+/// always has a line.
 pub(crate) fn say_stack<W: Sink>(
     answers: &mut Answers,
     writer: &mut W,
@@ -122,8 +122,8 @@ fn say_version<W: Sink>(answers: &mut Answers, writer: &mut W, catalog: &Catalog
     }
 }
 
-/// Says what a task runs at a site. If there is no such task, returns `NoTask`; if the site's object isn't loaded,
-/// returns `NoModule`. Both say nothing. The task is checked first, since the query names it first.
+/// Says what a task runs at a site. If there is no such task, says nothing and returns `NoTask`. If the site's object
+/// isn't loaded, says nothing and returns `NoModule`. The query names the task first, so the task is checked first.
 pub(crate) fn say_pick<W: Sink>(
     answers: &mut Answers,
     writer: &mut W,

@@ -7,7 +7,7 @@ use klp_console_io::{Answers, Sink};
 use klp_types::ShadowValue;
 
 /// Says a value in a form in which a console line can give it. A value of eight bytes, the usual case, is said as a
-/// number. Any other is said as an `x` followed by its bytes.
+/// number. Any other value is said as an `x` followed by its bytes.
 fn say_value<W: Sink>(answers: &mut Answers, writer: &mut W, value: &ShadowValue)
     ensures { Says (answers.old, W.written writer.old) (answers.new, W.written writer.new) (value_text value.now) }
 {

@@ -1,4 +1,4 @@
-//! The lines that have paths of files. The paths are those of a kernel, so that its users find them here too.
+//! The lines that have paths of files. The paths are those of a kernel, so users of a kernel know them already.
 
 ghost use Rattle.std.specs.Prelude.{◌≡◌};
 ghost use Rattle.klp_console_commands.specs.Lines.{switch, enabled_line, force_line, echo_file, echo_line, proc_query};
@@ -25,7 +25,7 @@ const BELOW_PATCHES: &[u8] = b"/sys/kernel/livepatch/";
 const PROC: &[u8] = b"/proc/";
 
 /// Returns the value of the word `0` or `1`. Returns `BadValue` for any other word. The word is compared and not read
-/// as a number, so no other spelling of the two is accepted.
+/// as a number, so other spellings such as `01` aren't accepted.
 fn switch(value: &[u8]) -> Result<bool, LineFault>
     ensures { result ≡ switch value.now }
 {
@@ -70,7 +70,8 @@ fn force_line(
     Ok(Asked::Take)
 }
 
-/// Reads a write of a value to a patch's file. Whether a file of this name can be written is checked before the value.
+/// Reads a write of a value to a patch's file. It is checked first whether a patch has a writable file of this name,
+/// and then the value.
 fn echo_file(
     value: &[u8],
     file: &[u8],
@@ -92,8 +93,8 @@ fn echo_file(
     }
 }
 
-/// Reads the words after `echo`: a value, an arrow and a file. The arrow needs a space on both sides, since only spaces
-/// separate words.
+/// Reads the words after `echo`: a value, an arrow and a file. Only spaces separate words, so the arrow needs a space
+/// on both sides.
 pub(crate) fn echo_line(
     words: &mut LineWords<'_>,
     names: &NameResolver<'_>,
@@ -114,7 +115,8 @@ pub(crate) fn echo_line(
     }
 }
 
-/// Reads the path of a task's file, below `/proc/`. The file must be `patch_state`: tasks have no other file here.
+/// Reads the path of a task's file, below `/proc/`. Tasks have only the file `patch_state` here, so it must be this
+/// file.
 fn proc_query(file: &[u8]) -> Result<Query, LineFault>
     ensures { shown result ≡ proc_query file.now }
 {
@@ -143,7 +145,7 @@ fn patch_query(file: &[u8], names: &NameResolver<'_>) -> Result<Query, LineFault
     }
 }
 
-/// Reads the path of a file to be shown: a task's or a patch's.
+/// Reads the path of a file to be shown. The file is a task's or a patch's.
 fn cat_file(file: &[u8], names: &NameResolver<'_>) -> Result<Query, LineFault>
     ensures { shown result ≡ cat_file names.now file.now }
 {
@@ -167,7 +169,8 @@ pub(crate) fn cat_line(
     Ok(Asked::Ask(cat_file(file, names)?))
 }
 
-/// Reads the directory of a patch, or of an object inside of it. A name has no `/`, so the two can't be confused.
+/// Reads the directory of a patch, or of an object inside of a patch's directory. A name has no `/`, so the two kinds
+/// of paths can't be confused.
 fn directory_query(directory: &[u8], names: &NameResolver<'_>) -> Result<Query, LineFault>
     ensures { shown result ≡ directory_query names.now directory.now }
 {

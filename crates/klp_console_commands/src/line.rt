@@ -43,8 +43,8 @@ pub(crate) enum Keyword {
     Seal,
 }
 
-/// Returns the keyword that a word spells. Returns `None` if it spells none. The most frequent keywords are compared
-/// first.
+/// Returns the keyword that a word spells. Returns `None` if the word spells no keyword. The most frequent keywords are
+/// compared first.
 fn keyword_of(word: &[u8]) -> Option<Keyword>
     ensures { result ≡ keyword_of word.now }
 {
@@ -124,7 +124,7 @@ fn rmmod_line(
     Ok(Asked::Take)
 }
 
-/// For a line that must have only one word: returns `asked`, or `BadLine` if another word follows.
+/// Returns `asked` for a line that must have only one word. Returns `BadLine` if another word follows.
 fn alone(asked: Asked, words: &mut LineWords<'_>) -> Result<Asked, LineFault>
     ensures { (event : Event) → line_with result event ≡ alone (request_with asked event) words.old }
 {
@@ -219,10 +219,10 @@ fn line_of(
     }
 }
 
-/// Reads what a line asks for. `line` has no line feed. Returns `None` if the line has no words; such a line gets no
-/// answer. If the line asks for an event, the result is `Take`, and the event is written to `event`. For any other
-/// line, `event` means nothing afterwards. The time is linear in the length of the line, with one look-up for each
-/// name.
+/// Reads what a line asks for. `line` has no line feed. A line without words gets no answer, and the result is `None`.
+/// If the line asks for an event, the result is `Take`, and the event is written to `event`. If the line asks for
+/// anything else, `event` means nothing afterwards. The time is linear in the length of the line, with one look-up for
+/// each name.
 pub fn read_request(
     line: &[u8],
     catalog: &Catalog,
@@ -231,7 +231,7 @@ pub fn read_request(
 ) -> Option<Result<Asked, LineFault>>
     ensures { asked_with result event.new ≡ request_of (names_of catalog.now modules.now) line.now }
 {
-    // only spaces separate words, so a tab or a carriage return is a byte of its word, and no name has one
+    // only spaces separate words, so a tab or a carriage return is a byte of a word; no name has such a byte
     // (docs/DECISIONS.md, "Words and bytes of names")
     let mut words = LineWords::new(line, Separators::Spaces);
     let first = words.next()?;

@@ -1,5 +1,5 @@
-//! Looking up the names of a line. This happens only after the form of the line is checked, since a bad line has no
-//! names.
+//! Looks up the names of a line. A line that matches no form has no names, so the form is checked before names are
+//! looked up.
 
 ghost use Rattle.std.specs.Prelude.{◌≡◌, true, false, MatchOption};
 ghost use Rattle.std.specs.Str.{is_utf8};
@@ -16,9 +16,9 @@ use klp_words::{Spelling, cut, is_ascii, spelling_of, text};
 use std::marker::Model;
 use std::str;
 
-/// The names that a line may use: those of a catalog's patches, and of the objects and symbols of a kernel. The manager
-/// isn't used here, so a line means the same whatever the manager's state is (docs/DECISIONS.md, "Names outside of the
-/// manager").
+/// The names that a line may use. A line may name the patches of a catalog, and the objects and symbols of a kernel.
+/// The manager isn't used here, so a line means the same whatever the manager's state is (docs/DECISIONS.md, "Names
+/// outside of the manager").
 #[derive(Drop)]
 pub(crate) struct NameResolver<'a> {
     pub(crate) catalog: &'a Catalog,
@@ -33,8 +33,8 @@ impl<'a> Model for NameResolver<'a> {
     ghost view = { λ k. names_of k.catalog.now k.modules.now };
 }
 
-/// Returns the word as text. Returns `None` if it isn't UTF-8; names are UTF-8, so such a word is no name. Most words
-/// are ASCII, which is checked sixteen bytes at a time.
+/// Returns the word as text. Names are UTF-8, so a word that isn't UTF-8 is no name, and the result is `None`. Most
+/// words are ASCII. Whether a word is ASCII is checked sixteen bytes at a time.
 #[tactic(auto, using(crate::proofs::WordLemmas::is_text, crate::proofs::WordLemmas::no_text, crate::proofs::WordLemmas::ascii, crate::proofs::WordLemmas::ascii_text))]
 fn text_of(word: &[u8]) -> Option<&str>
     ensures { MatchOption result (is_utf8 word.now ≡ false)
@@ -47,7 +47,7 @@ fn text_of(word: &[u8]) -> Option<&str>
 }
 
 impl<'a> NameResolver<'a> {
-    /// Returns the patch with this name, or `NoPatch` if there is none.
+    /// Returns the patch with this name, or `NoPatch` if there is no such patch.
     pub(crate) fn patch(&self, word: &[u8]) -> Result<PatchId, LineFault>
         ensures { result ≡ patch_of self.now word.now }
     {
@@ -60,7 +60,7 @@ impl<'a> NameResolver<'a> {
         }
     }
 
-    /// Returns the object with this name, loaded or not, or `NoModule` if there is none.
+    /// Returns the object with this name, loaded or not, or `NoModule` if there is no such object.
     pub(crate) fn object(&self, word: &[u8]) -> Result<ObjId, LineFault>
         ensures { result ≡ object_of self.now word.now }
     {
@@ -91,8 +91,8 @@ impl<'a> NameResolver<'a> {
         }
     }
 
-    /// Returns the new function that `PATCH:INDEX` spells, whether the patch has it or not. If it doesn't, the manager
-    /// refuses the event with `BadFrame`; the line isn't at fault.
+    /// Returns the new function that `PATCH:INDEX` spells, even if the patch has no such function. The line isn't at
+    /// fault if the function doesn't exist. The manager then refuses the event with `BadFrame`.
     fn new_function(&self, word: &[u8]) -> Result<Version, LineFault>
         ensures { result ≡ new_function_of self.now word.now }
     {
@@ -104,8 +104,8 @@ impl<'a> NameResolver<'a> {
         Ok(Version::New(self.patch(patch)?, index))
     }
 
-    /// Returns the function that a frame spells: a symbol means its original function, `PATCH:INDEX` a new one. No word
-    /// is both, since a symbol has no `:`.
+    /// Returns the function that a word of `task sleep` spells. A symbol spells its original function, and
+    /// `PATCH:INDEX` spells a new function. A symbol has no `:`, so no word spells both.
     pub(crate) fn version(&self, word: &[u8]) -> Result<Version, LineFault>
         ensures { result ≡ version_of self.now word.now }
     {
@@ -116,8 +116,8 @@ impl<'a> NameResolver<'a> {
     }
 }
 
-/// Returns the task with a number, whether it exists or not. Returns `NoTask` if no task can have the number. Numbers
-/// above 65,535 never get here, since they make the line bad.
+/// Returns the task with a number, even if the task doesn't exist. Returns `NoTask` if no task can have the number. A
+/// number above 65,535 makes the line bad, so it is never passed to this function.
 pub(crate) fn task(number: u64) -> Result<TaskId, LineFault>
     ensures { result ≡ task_of number }
 {

@@ -1,27 +1,28 @@
 //! What a line asks for, with numbers in place of names. So the code that reads a line passes only plain values to the
-//! code that does what it asks.
+//! code that does the request.
 
 use klp_model::Event;
 use klp_types::{ObjId, PatchId, ShadowKey, Site, TaskId};
 
-/// What a line asks for. It has numbers and no names, so that the manager needs no names.
+/// What a line asks for. A request has numbers in place of names, so that the manager needs no names.
 #[derive(Clone, Copy)]
 pub enum Request {
     /// Do an event. The event may still be refused.
     Take(Event),
-    /// Write 0 to the `force` file of a patch, which does nothing. This is still a request, since it fails if the file
-    /// doesn't exist.
+    /// Write 0 to the `force` file of a patch, which does nothing. The line fails if the file doesn't exist, so it is
+    /// still a request.
     ForceNothing(PatchId),
-    /// Undo all accepted events except the first, as many as this number. The manager checks whether it has that many.
+    /// Undo all accepted events except the first ones, and this is how many first events stay. The manager checks
+    /// whether it has that many events.
     Rewind(u32),
     /// Empty the journal, so that no earlier event can be undone.
     Seal,
-    /// Show something. This changes nothing, so it needs no room in the journal.
+    /// Show something. A query changes nothing, so it needs no room in the journal.
     Ask(Query),
 }
 
-/// What a line asks for, in a few bytes. An event is stored separately. An event is large, since it may have a
-/// sleeper's frames, and this way no line has the cost of moving it (docs/DECISIONS.md, "An event beside its line").
+/// What a line asks for, in a few bytes. An event may have a sleeper's frames, so it is large. The event is stored
+/// separately, so that no line has the cost of moving it (docs/DECISIONS.md, "An event beside its line").
 #[derive(Clone, Copy)]
 pub enum Asked {
     /// [`Request::Take`] of the event that is stored separately.
@@ -39,15 +40,15 @@ pub enum Asked {
 /// What a line asks to see. A query changes nothing, so it is no event and can't be undone.
 #[derive(Clone, Copy)]
 pub enum Query {
-    /// What the `enabled` file of a patch reads: 0 while the patch is in transition to target 0, otherwise 1.
+    /// What the `enabled` file of a patch reads. It reads 0 while the patch is in transition to target 0, otherwise 1.
     Enabled(PatchId),
-    /// What the `transition` file of a patch reads: 1 while it is in transition.
+    /// What the `transition` file of a patch reads. It reads 1 while the patch is in transition, otherwise 0.
     Transition(PatchId),
     /// What the `patch_state` file of a task reads: -1, 0 or 1.
     PatchState(TaskId),
-    /// The installed patches, oldest first, as listed by the directory of all patches.
+    /// The installed patches, oldest first. The directory of all patches lists them in this order.
     Patches,
-    /// The contents of a patch's directory: its files, and a directory for each object that it changes.
+    /// The contents of a patch's directory: its files, and a directory for each object that the patch changes.
     Patch(PatchId),
     /// The contents of an object's directory in a patch's directory: the functions of the object that the patch
     /// changes.

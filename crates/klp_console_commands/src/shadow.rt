@@ -1,4 +1,4 @@
-//! The lines of shadow variables. Their words are numbers and values, so no name can be unknown.
+//! The lines of shadow variables. The words of these lines are numbers and values, so no name can be unknown.
 
 ghost use Rattle.std.specs.Prelude.{◌≡◌};
 ghost use Rattle.klp_console_commands.specs.Lines.{key_of, variable_of, alloc_line, get_or_alloc_line, free_line};
@@ -79,8 +79,8 @@ fn get_line(words: &mut LineWords<'_>) -> Result<Asked, LineFault>
     Ok(Asked::Ask(Query::Variable(key(words)?)))
 }
 
-/// Reads the words after `shadow`: a verb and what it needs. A key is two numbers, the parent object's and the id. A
-/// value may follow the key.
+/// Reads the words after `shadow`: a verb, and the words that the verb needs. A key is two numbers, the number of the
+/// parent object and the id. A value may follow the key.
 pub(crate) fn shadow_line(words: &mut LineWords<'_>, event: &mut Event) -> Result<Asked, LineFault>
     ensures { line_with result event.new ≡ shadow_line words.old }
 {

@@ -1,4 +1,4 @@
-//! The lines that say what tasks do. In a kernel nobody types such lines: here they replace the scheduler.
+//! The lines that say what tasks do. In a kernel nobody types such lines. In the console they replace the scheduler.
 
 ghost use Rattle.std.specs.Prelude.{◌≡◌, ◌≤◌, length};
 ghost use Rattle.klp_console_commands.specs.Words.{words_of};
@@ -14,8 +14,8 @@ use klp_model::Event;
 use klp_types::{Frames, MAX_FRAMES, MAX_INDEX, MAX_TASK_NUMBER};
 use klp_words::{LineWords, cut, spelling_of};
 
-/// Whether a word spells a function that a task may be inside of. The function needn't exist: the form of a line is
-/// checked before its names.
+/// Whether a word spells a function that a task may be inside of. The form of a line is checked before its names, so
+/// the function needn't exist.
 fn is_frame(word: &[u8]) -> bool
     ensures { result ≡ is_frame word.now }
 {
@@ -26,8 +26,9 @@ fn is_frame(word: &[u8]) -> bool
     is_console_name(patch) && number_to(MAX_INDEX, index).is_ok()
 }
 
-/// Whether each word spells a function, and there are at most as many as a task can be inside of. The words are read
-/// again later for their names, so that no list of half-read frames is needed (docs/DECISIONS.md, "Frames read twice").
+/// Whether each word spells a function, and there are at most as many words as a task can be inside of functions. The
+/// words are read again later for their names, so that no list of half-read frames is needed (docs/DECISIONS.md,
+/// "Frames read twice").
 fn are_frames(words: &LineWords<'_>) -> bool
     ensures { result ≡ are_frames words.now }
 {
@@ -56,8 +57,8 @@ fn frames(words: &LineWords<'_>, names: &NameResolver<'_>) -> Result<Frames, Lin
     Ok(frames)
 }
 
-/// Reads the words after `task sleep TASK`: the functions that the task is inside of, innermost last. There may be
-/// none.
+/// Reads the words after `task sleep TASK`: the functions that the task is inside of, innermost last. The list of
+/// functions may be empty.
 fn sleep_line(
     number: u64,
     words: &mut LineWords<'_>,
@@ -74,8 +75,8 @@ fn sleep_line(
     Ok(Asked::Take)
 }
 
-/// Reads the word after `task fork TASK`: the number of the new task. This word's form is checked before either task is
-/// looked up.
+/// Reads the word after `task fork TASK`: the number of the new task. The form of this word is checked before either
+/// task is looked up.
 fn fork_line(number: u64, words: &mut LineWords<'_>, event: &mut Event) -> Result<Asked, LineFault>
     ensures { line_with result event.new ≡ fork_line number words.old }
 {
@@ -86,8 +87,7 @@ fn fork_line(number: u64, words: &mut LineWords<'_>, event: &mut Event) -> Resul
     Ok(Asked::Take)
 }
 
-/// Sets the event of a verb that needs no more words than the task. An unknown verb makes the line bad, whatever the
-/// task.
+/// Sets the event of a verb that needs no word but the task. An unknown verb makes the line bad, whatever the task is.
 fn plain_event(verb: &[u8], number: u64, event: &mut Event) -> Result<Asked, LineFault>
     ensures { line_with result event.new ≡ plain_event verb.now number }
 {
@@ -120,8 +120,8 @@ fn plain_line(
     plain_event(verb, number, event)
 }
 
-/// Reads the words after `task`: a verb, a task, and what the verb needs. The task's number is read before the verb is
-/// known, since every verb has one.
+/// Reads the words after `task`: a verb, a task, and the words that the verb needs. Every verb has a task, so the
+/// task's number is read before the verb is known.
 pub(crate) fn task_line(
     words: &mut LineWords<'_>,
     names: &NameResolver<'_>,

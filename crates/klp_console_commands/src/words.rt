@@ -1,4 +1,4 @@
-//! The words of a line, and what can be read from a word without looking up names.
+//! The words of a line, and the values that a word has without a look-up of names.
 
 ghost use Rattle.std.specs.Prelude.{◌≡◌, ℕ, ◌≤◌, true, false, List, ◌∷◌, [], length, drop, nat_eq, bytes_eq, Ok, Err};
 ghost use Rattle.std.specs.Prelude.{IfOk, MatchOption, MatchResult};
@@ -10,7 +10,7 @@ use crate::fault::LineFault;
 use klp_types::ShadowValue;
 use klp_words::{LineWords, number64, shadow_value};
 
-/// Returns the next word, or `BadLine` if there is none: a line with too few words matches no form.
+/// Returns the next word. A line with too few words matches no form, so the result is `BadLine` if there is no word.
 pub(crate) fn word<'a>(words: &mut LineWords<'a>) -> Result<&'a [u8], LineFault>
     ensures { MatchResult result (λ word. words.old ≡ word.now ∷ words.new)
         (λ fault. (fault ≡ LineFault.BadLine) × (words.old ≡ [])) }
@@ -18,7 +18,8 @@ pub(crate) fn word<'a>(words: &mut LineWords<'a>) -> Result<&'a [u8], LineFault>
     words.next().ok_or(LineFault::BadLine)
 }
 
-/// Returns `BadLine` if a word is left: a line with too many words matches no form.
+/// Checks that no word is left. A line with too many words matches no form, so the result is `BadLine` if a word is
+/// left.
 pub(crate) fn end(words: &mut LineWords<'_>) -> Result<(), LineFault>
     ensures { MatchResult result (λ _. words.old ≡ [])
         (λ fault. (fault ≡ LineFault.BadLine) × (word : List ℕ) × (rest : List (List ℕ)) × (words.old ≡ word ∷ rest)) }
@@ -72,15 +73,16 @@ pub(crate) fn is_word(word: &[u8], other: &[u8]) -> bool
     word == other
 }
 
-/// Whether the word may name a patch or an object: it isn't empty and has neither `/` nor `:`, which separate names.
-/// The name needn't exist.
+/// Whether the word may name a patch or an object. It may if it isn't empty and has neither `/` nor `:`, since `/` and
+/// `:` separate names. The name needn't exist.
 pub(crate) fn is_console_name(word: &[u8]) -> bool
     ensures { result ≡ is_console_name word.now }
 {
     !word.is_empty() && word.iter().all(|b| *b != b'/' && *b != b':')
 }
 
-/// Returns the rest of the word behind this prefix, or `None` if the word doesn't begin with it. The rest may be empty.
+/// Returns the rest of the word behind this prefix. The rest may be empty. Returns `None` if the word doesn't begin
+/// with the prefix.
 pub(crate) fn after_prefix<'a>(word: &'a [u8], prefix: &[u8]) -> Option<&'a [u8]>
     ensures { MatchOption result (starts_with nat_eq word.now prefix.now ≡ false)
         (λ rest. (starts_with nat_eq word.now prefix.now ≡ true) × (rest.now ≡ drop (length prefix.now) word.now)) }
@@ -88,23 +90,24 @@ pub(crate) fn after_prefix<'a>(word: &'a [u8], prefix: &[u8]) -> Option<&'a [u8]
     word.strip_prefix(prefix)
 }
 
-/// Returns the decimal number of 64 bits that the word spells, as in a catalog's text, or `BadLine`.
+/// Returns the decimal number of 64 bits that the word spells, as in a catalog's text. Returns `BadLine` if the word
+/// spells no such number.
 pub(crate) fn number(word: &[u8]) -> Result<u64, LineFault>
     ensures { result ≡ number_of word.now }
 {
     number64(word).ok_or(LineFault::BadLine)
 }
 
-/// Returns the value of a shadow variable that the word spells, as in a catalog's text. Returns `BadLine` if it spells
-/// no value, or a value of too many bytes.
+/// Returns the value of a shadow variable that the word spells, as in a catalog's text. Returns `BadLine` if the word
+/// spells no value, or a value of too many bytes.
 pub(crate) fn value(word: &[u8]) -> Result<ShadowValue, LineFault>
     ensures { result ≡ value_of word.now }
 {
     shadow_value(word).ok_or(LineFault::BadLine)
 }
 
-/// Returns the decimal number that the word spells. Returns `BadLine` if it spells none, or one above `most`, which
-/// wouldn't fit into an event.
+/// Returns the decimal number that the word spells. A number above `most` doesn't fit into an event. Returns `BadLine`
+/// for such a number, or if the word spells no number.
 pub(crate) fn number_to(most: u64, word: &[u8]) -> Result<u64, LineFault>
     ensures number { result ≡ number_to most word.now }
     ensures limit { IfOk result (λ number. number ≤ most) }

@@ -1,5 +1,5 @@
-//! Texts on their way to a sink. They are gathered first, and written when the buffer is full. A write for each word
-//! would be a system call for each word.
+//! Texts on their way to a sink. Texts are gathered first, and written when the buffer is full. If each word were
+//! written at once, each word would cost a system call.
 ghost use Rattle.std.specs.Prelude.{◌≡◌, ℕ, ◌+◌, ◌<◌, ◌≤◌, ◌⊎◌, false, List, [], length, OnOk, IfErr};
 ghost use Rattle.std.specs.Fmt.{decimal, signed_decimal};
 ghost use Rattle.std.specs.Io.KnownBytes.{Appends};
@@ -13,19 +13,20 @@ use itoa::Buffer;
 use klp_types::ANSWER_ROOM;
 use std::marker::Model;
 
-/// How many bytes are turned into hexadecimal digits at a time. So the buffer for digits is small, however long a body
-/// is.
+/// How many bytes are turned into hexadecimal digits at a time. The number is fixed, so the buffer for digits is small,
+/// however long a body is.
 const PIECE: usize = 32;
 
-/// The texts that were said and aren't written yet. All texts go to the same sink. It is passed to each call and not
-/// stored here, so that a console can pass it to others in between.
+/// The texts that were said and aren't written yet. All texts go to the same sink. The sink is passed to each call and
+/// not stored here, so that a console can pass the sink to other functions in between.
 #[derive(Drop)]
 pub struct Answers {
     bytes: ArrayVec<u8, ANSWER_ROOM>,
-    /// How many of the first bytes are held: they were gathered at the last call of `hold`, and still aren't written.
+    /// How many of the first bytes are held. Held bytes were gathered at the last call of `hold`, and still aren't
+    /// written.
     held: usize,
-    /// Whether the sink has failed. This is stored here, so that a caller who says ten words needs to check it only
-    /// once (docs/DECISIONS.md, "A failed sink").
+    /// Whether the sink has failed. The failure is stored here, so that a caller who says ten words needs to check it
+    /// only once (docs/DECISIONS.md, "A failed sink").
     has_failed: bool,
 }
 
@@ -42,7 +43,7 @@ impl Model for Answers {
 }
 
 /// Writes all bytes, in as many writes as are needed. A write that takes no byte is a failure, since retrying might
-/// never end. If a write fails, returns as `Err` how many bytes were written before.
+/// never end. If a write fails, returns as `Err` how many bytes were written before the failure.
 fn write_all<W: Sink>(writer: &mut W, bytes: &[u8]) -> Result<(), usize>
     ensures ok { OnOk result
         (Appends (W.written writer.old).taken (W.written writer.new).taken bytes.now
@@ -66,7 +67,7 @@ fn write_all<W: Sink>(writer: &mut W, bytes: &[u8]) -> Result<(), usize>
     Ok(())
 }
 
-/// Returns the hexadecimal digits of a piece, written into `digits`, so that nothing is allocated.
+/// Writes the hexadecimal digits of a piece into `digits`, and returns them. Nothing is allocated.
 fn in_hex<'a>(piece: &[u8], digits: &'a mut [u8; 2 * PIECE]) -> &'a [u8]
     requires { length piece.now ≤ PIECE }
     ensures { result.now ≡ encode_lower piece.now }
@@ -78,7 +79,7 @@ fn in_hex<'a>(piece: &[u8], digits: &'a mut [u8; 2 * PIECE]) -> &'a [u8]
 }
 
 impl Answers {
-    /// Makes answers with nothing said yet. The sink is passed to each call.
+    /// Makes answers in which nothing was said yet. The sink is passed to each call.
     pub fn new() -> Answers
         ensures { result ≡ record { bytes = []; held = 0; has_failed = false } }
     {
@@ -89,8 +90,8 @@ impl Answers {
         }
     }
 
-    /// Whether the sink has failed. After a failure nothing more is said. So the lost bytes are the end of all answers,
-    /// and no byte is lost in between.
+    /// Whether the sink has failed. After a failure nothing more is said. So the lost bytes are the end of all that was
+    /// said, and no byte is lost before them.
     pub fn has_failed(&self) -> bool
         ensures { result ≡ self.now.has_failed }
     {
@@ -104,8 +105,8 @@ impl Answers {
         self.bytes.len()
     }
 
-    /// Marks as held all bytes that are gathered now, and returns their number. From then on `held` returns how many of
-    /// them aren't written yet.
+    /// Marks as held all bytes that are gathered now, and returns their number. After this call, `held` returns how
+    /// many of the held bytes aren't written yet.
     pub fn hold(&mut self) -> usize
         ensures held { self.new ≡ record self.old { held = length self.old.bytes } }
         ensures result { result ≡ length self.old.bytes }
@@ -114,8 +115,8 @@ impl Answers {
         self.held
     }
 
-    /// Returns how many of the held bytes aren't written: 0 once all of them are. After a failure this shows where the
-    /// sink stopped.
+    /// Returns how many of the held bytes aren't written. The result is 0 when all of them are written. After a
+    /// failure, the result shows where the sink stopped.
     pub fn held(&self) -> usize
         ensures { result ≡ self.now.held }
     {
@@ -143,8 +144,8 @@ impl Answers {
         }
     }
 
-    /// If there is no room for `len` more bytes behind the gathered ones, writes these. So texts are written in their
-    /// order.
+    /// If there is no room for `len` more bytes behind the gathered bytes, writes the gathered bytes. So texts are
+    /// written in the order in which they were said.
     #[tactic(auto, unfolding(crate::specs::Says::Speaks))]
     fn make_room<W: Sink>(&mut self, writer: &mut W, len: usize)
         ensures says { Says (self.old, W.written writer.old) (self.new, W.written writer.new) [] }
@@ -169,9 +170,9 @@ impl Answers {
         }
     }
 
-    /// Says a text. If there is no room for it behind the gathered bytes, first writes these. Then gathers the text. If
-    /// it is longer than the whole buffer, writes it at once, so a text may have any length. After a failure of the
-    /// sink, does nothing.
+    /// Says a text. If there is no room for the text behind the gathered bytes, first writes the gathered bytes. The
+    /// text is then gathered. A text that is longer than the whole buffer is written at once, so a text may have any
+    /// length. After a failure of the sink, does nothing.
     pub fn say<W: Sink>(&mut self, writer: &mut W, text: &[u8])
         ensures { Says (self.old, W.written writer.old) (self.new, W.written writer.new) text.now }
     {

@@ -1,12 +1,13 @@
-//! Counts for contracts alone. No code reads them, so they cost nothing.
+//! Counts that exist for contracts alone. No code reads these counts, so they cost nothing.
 ghost use Rattle.std.specs.Prelude.{◌≡◌, ◌+◌, ◌≤◌};
 
 use std::marker::Model;
 use std::sync::ledger::{Blank, Book, Ledger, Share};
 
 /// A whole number without a greatest value, for contracts alone. It takes no bytes, and increasing it does nothing at
-/// run time. A number of 64 bits would have a greatest value, at which no clause could say "one more"
-/// (docs/DECISIONS.md, "Counts in a ledger"). What is counted is in the ledger's book, which is a separate value.
+/// run time. A number of 64 bits would have a greatest value, and at that value no clause could say "one more"
+/// (docs/DECISIONS.md, "Counts in a ledger"). The value of the number is in the ledger's book, which is a separate
+/// value.
 #[derive(Drop)]
 pub struct Count<L: Ledger> {
     share: Share<L>,
@@ -31,7 +32,8 @@ impl<L: Ledger> Count<L> {
     }
 }
 
-/// Makes two counts in one book, both 0, for a sink. Whoever makes a stream passes one blank for all of its counts.
+/// Makes two counts for a sink, in one book and both 0. The caller who makes a stream passes one blank for all counts
+/// of the stream.
 pub fn two_counts<L: Ledger>(blank: Blank) -> (Book<L>, Count<L>, Count<L>)
     requires name { blank.name ≡ L.name }
     requires parts { blank.parts ≡ L.parts }
@@ -44,7 +46,7 @@ pub fn two_counts<L: Ledger>(blank: Blank) -> (Book<L>, Count<L>, Count<L>)
     (book, Count { share }, Count { share: other })
 }
 
-/// Makes three counts in one book, all 0, for a source.
+/// Makes three counts for a source, in one book and all 0.
 pub fn three_counts<L: Ledger>(blank: Blank) -> (Book<L>, Count<L>, Count<L>, Count<L>)
     requires name { blank.name ≡ L.name }
     requires parts { blank.parts ≡ L.parts }

@@ -14,7 +14,7 @@ use std::sync::ledger::{Blank, Book, Ledger};
 pub struct Feed<'a, L: Ledger> {
     left: &'a [u8],
     most: usize,
-    /// How many reads come before the one that fails. `None` if no read fails.
+    /// How many reads are made before the read that fails. `None` if no read fails.
     fails_in: Option<u32>,
     has_ended: bool,
     book: Book<L>,
@@ -43,8 +43,9 @@ impl<'a, L: Ledger> Model for Feed<'a, L> {
 }
 
 impl<'a, L: Ledger> Feed<'a, L> {
-    /// Feeds `bytes`, at most `most` of them in one read. `most` must not be 0, or the feed would end at once. The read
-    /// with the number `fails_at` fails, counted from 0. The blank is for the three counts, and has three parts.
+    /// Feeds `bytes`, at most `most` of them in one read. If `most` were 0, the feed would end at once, so `most` must
+    /// not be 0. The read with the number `fails_at` fails, counted from 0. The blank is for the three counts, and has
+    /// three parts.
     pub fn new(bytes: &'a [u8], most: usize, fails_at: Option<u32>, blank: Blank) -> Self
         requires most { 0 < most }
         requires name { blank.name ≡ L.name }
@@ -74,7 +75,7 @@ impl<'a, L: Ledger> Feed<'a, L> {
         }
     }
 
-    /// Returns the bytes that are still to be read. From these a test sees how much was read.
+    /// Returns the bytes that are still to be read. So a test can see how much was read.
     pub fn left(&self) -> &'a [u8]
         ensures { result.now ≡ self.now.left }
     {

@@ -8,12 +8,12 @@ use klp_types::MAX_CONSOLE_LINE;
 use klp_words::position_of;
 use std::marker::Model;
 
-/// The error that a line is longer than [`MAX_CONSOLE_LINE`]. It reports nothing more, since the line isn't stored.
+/// The error that a line is longer than [`MAX_CONSOLE_LINE`]. The line isn't stored, so the error reports nothing more.
 #[derive(Clone, Copy)]
 pub struct TooLong;
 
-/// The bytes of one line that were heard so far. Contracts see them as a list. A line feed ends the line and is no byte
-/// of it. The room for [`MAX_CONSOLE_LINE`] bytes is part of the buffer, since serving allocates nothing.
+/// The bytes of one line that were heard so far. Contracts see the bytes as a list. A line feed ends the line and isn't
+/// one of its bytes. Serving allocates nothing, so the buffer contains the room for [`MAX_CONSOLE_LINE`] bytes.
 #[derive(Drop)]
 pub struct LineBuffer {
     bytes: ArrayVec<u8, MAX_CONSOLE_LINE>,
@@ -38,8 +38,9 @@ fn line_feed(bytes: &[u8]) -> Option<usize>
     position_of(bytes, b'\n')
 }
 
-/// Returns the bytes before the first line feed, and those behind it. If the piece has no line feed, returns the whole
-/// piece and `None`. If the piece ends with its first line feed, the second part is empty, but the line is finished.
+/// Returns the bytes before the first line feed, and the bytes behind it. If the piece has no line feed, returns the
+/// whole piece and `None`. If the piece ends with its first line feed, the second part is empty, but the line is
+/// finished.
 fn cut(piece: &[u8]) -> (&[u8], Option<&[u8]>)
     ensures front { lines_and_rest result.0.now ≡ result.0.now ∷ [] }
     ensures whole { IfNone result.1 (result.0.now ≡ piece.now) }
@@ -78,10 +79,10 @@ impl LineBuffer {
         self.bytes.clear();
     }
 
-    /// Returns the first line of a piece, without its line feed, and the bytes behind it. Both are borrowed from the
-    /// piece, so a line that arrives whole in one read isn't copied. Returns `None` if bytes of the line were heard
-    /// before, if the piece has no line feed, or if the line is longer than [`MAX_CONSOLE_LINE`]; `hear` distinguishes
-    /// these cases.
+    /// Returns the first line of a piece, without its line feed, and the bytes behind the line feed. Both are borrowed
+    /// from the piece, so a line that arrives whole in one read isn't copied. Returns `None` if bytes of the line were
+    /// heard before, if the piece has no line feed, or if the line is longer than [`MAX_CONSOLE_LINE`]. `hear`
+    /// distinguishes these cases.
     pub fn whole_line<'a>(&self, piece: &'a [u8]) -> Option<(&'a [u8], &'a [u8])>
         ensures begins { IfSome result (λ _. self.now ≡ []) }
         ensures finished { IfSome result
@@ -104,9 +105,10 @@ impl LineBuffer {
 
     /// Hears a piece up to its first line feed.
     ///
-    /// Returns `Ok(Some(rest))` if this finishes the line; `rest` is what comes behind the line feed. Returns
-    /// `Ok(None)` if the piece has no line feed: then all of it belongs to the line. Returns `Err` if the line is
-    /// longer than [`MAX_CONSOLE_LINE`], finished or not; then the buffer is as it was before the piece.
+    /// If the piece has a line feed, the line is finished. The result is then `Ok(Some(rest))`, where `rest` has the
+    /// bytes behind the line feed. If the piece has no line feed, all of it belongs to the line, and the result is
+    /// `Ok(None)`. If the line is longer than [`MAX_CONSOLE_LINE`], finished or not, the result is `Err`, and the
+    /// buffer isn't changed.
     ///
     /// Looks at the piece up to its first line feed, and copies that part at once.
     pub fn hear<'a>(&mut self, piece: &'a [u8]) -> Result<Option<&'a [u8]>, TooLong>

@@ -1,12 +1,12 @@
-//! Where the answers to gathered lines end. After a failed write, this shows which of them was cut off.
+//! The ends of the answers to gathered lines. After a failed write, the ends show which answer was cut off.
 ghost use Rattle.std.specs.Prelude.{◌≡◌, ◌<◌, ◌≤◌, IsTrue, ◌↔◌, List, [], ◌∷◌, ◌++◌, length};
 ghost use Rattle.klp_console_io.specs.Marks.{events_at_cut};
 
 use arrayvec::ArrayVec;
 use std::marker::Model;
 
-/// How many lines may be gathered. The shortest answer to an event is three bytes, `ok` and its line feed. So only an
-/// input with many short answers runs out of marks before the buffer of answers is full.
+/// How many lines may be gathered. The shortest answer to an event has three bytes, `ok` and its line feed. So the
+/// marks run out before the buffer of answers is full only if an input has many short answers.
 pub const MARKS_ROOM: usize = 512;
 
 /// A line whose answer is gathered.
@@ -14,7 +14,7 @@ pub const MARKS_ROOM: usize = 512;
 pub struct Mark {
     /// How many bytes were gathered when the line was answered. The line's answer ends there.
     pub end: usize,
-    /// How many events the journal had when the line was done, so that later events can be taken back.
+    /// How many events the journal had when the line was done. With this number, later events can be taken back.
     pub events: u32,
 }
 
@@ -66,8 +66,8 @@ impl Marks {
         self.marks.push(mark);
     }
 
-    /// Returns how many events the journal had when a certain line was done: the line whose answer was cut off, if only
-    /// `written` of the gathered bytes were written. It is the first line whose answer ends behind these bytes. Returns
+    /// Returns how many events the journal had when the line was done whose answer was cut off. `written` is how many
+    /// of the gathered bytes were written. The line is the first one whose answer ends behind these bytes. Returns
     /// `None` if all answers were written.
     pub fn events_at_cut(&self, written: usize) -> Option<u32>
         ensures { result ≡ events_at_cut written self.now }

@@ -8,8 +8,8 @@ use std::io::Read;
 use std::marker::Model;
 use std::sync::ledger::{Blank, Book, Ledger};
 
-/// A reader of std as a source. Contracts know which bytes it has left if they know this of the reader. They know it of
-/// a slice, but not of standard input.
+/// A reader of std as a source. If contracts know which bytes the reader has left, they also know which bytes this
+/// source has left. The bytes left are known of a slice, but not of standard input.
 #[derive(Drop)]
 pub struct OverRead<R: Read, L: Ledger> {
     reader: R,
@@ -84,7 +84,7 @@ impl<R: Read, L: Ledger> Source for OverRead<R, L> {
                 }
                 Ok(count)
             }
-            // No clause says that this was a failure of the reader, since std's readers don't count failures
+            // std's readers don't count failures, so no clause says that this was a failure of the reader
             // (docs/DECISIONS.md, "Failures of std").
             Err(_) => {
                 self.reads.add(&mut self.book, 1);

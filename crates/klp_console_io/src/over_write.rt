@@ -7,8 +7,8 @@ use std::io::Write;
 use std::marker::Model;
 use std::sync::ledger::{Blank, Book, Ledger};
 
-/// A writer of std as a sink. Contracts know which bytes it took if they know this of the writer. They know it of a
-/// list, but not of standard output.
+/// A writer of std as a sink. If contracts know which bytes the writer took, they also know which bytes this sink took.
+/// The bytes taken are known of a list, but not of standard output.
 #[derive(Drop)]
 pub struct OverWrite<W: Write, L: Ledger> {
     writer: W,
@@ -42,7 +42,7 @@ impl<W: Write, L: Ledger> OverWrite<W, L> {
         }
     }
 
-    /// Returns the writer with the bytes that it took, so that its owner can look at these.
+    /// Returns the writer with the bytes that it took, so that its owner can look at the bytes.
     pub fn into_inner(self) -> W
         ensures { W.contents result ≡ self.taken }
     {

@@ -3,7 +3,7 @@ ghost use Rattle.std.specs.Prelude.{◌≡◌, ◌+◌, ◌<◌, ◌≤◌, leng
 ghost use Rattle.std.specs.Io.KnownBytes.{Appends, Keeps};
 ghost use Rattle.klp_console_io.specs.Written.{Written};
 
-/// The error that a read or a write failed. It doesn't say why, since the console can only stop.
+/// The error that a read or a write failed. The console can only stop, so the error has no reason.
 #[derive(Clone, Copy)]
 pub struct Failed;
 

@@ -15,7 +15,7 @@ use std::sync::ledger::{Blank, Book, Ledger};
 pub struct Taken<const ROOM: usize, L: Ledger> {
     bytes: ArrayVec<u8, ROOM>,
     most: usize,
-    /// How many writes come before the one that fails. `None` if no write fails.
+    /// How many writes are made before the write that fails. `None` if no write fails.
     fails_in: Option<u32>,
     book: Book<L>,
     failures: Count<L>,

@@ -11,10 +11,10 @@ use std::alloc::{AllocError, Global};
 
 /// The lines that have their number, or their time, on the axis.
 ///
-/// There isn't room for each line. So lines are offered in a fixed order, and a line gets no number if another one is
-/// in the way. First come the lines where a sentence begins or ends, from the last sentence back to the first. A reader
-/// looks for the line of a sentence, and most of all for the end of the run. Then come the lines in which something
-/// changes, from left to right.
+/// The axis doesn't have room for the number of each line. So lines are offered in a fixed order, and a line gets no
+/// number if another number is in the way. A reader looks for the line of a sentence, and most of all for the end of
+/// the run. So the lines where a sentence begins or ends are offered first, from the last sentence back to the first.
+/// After these lines, the lines in which something changes are offered, from left to right.
 #[derive(Drop)]
 pub(crate) struct Axis<'a> {
     names: &'a Names,
@@ -35,7 +35,8 @@ impl<'a> Axis<'a> {
         })
     }
 
-    /// Returns the width in points of a line's number. In a drawing to scale by time, returns that of the line's time.
+    /// Returns the width in points of a line's number. In a drawing to scale by time, returns the width of the line's
+    /// time.
     fn width_at(&self, scale: &Scale, line: u64) -> u64 {
         if !scale.is_timed() {
             return number_width(line);
@@ -58,8 +59,8 @@ impl<'a> Axis<'a> {
         Ok(())
     }
 
-    /// Offers the lines where a sentence begins and ends. In a drawing to scale by time, a stay ends at the line after
-    /// its last one, since its duration is counted up to that line. `Err` if memory runs out.
+    /// Offers the lines where a sentence begins and ends. In a drawing to scale by time, the duration of a stay is
+    /// counted up to the line after its last line, so the stay ends at that line. `Err` if memory runs out.
     fn offer_sentence(&mut self, scale: &Scale, sentence: &Sentence) -> Result<(), AllocError> {
         self.offer(scale, sentence.line)?;
         match &sentence.said {

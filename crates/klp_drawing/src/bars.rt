@@ -9,7 +9,7 @@ use klp_timeline::{Moment, View};
 use klp_types::{MAX_PATCHES, MAX_TASKS, Mode, PatchId, TaskId};
 use std::alloc::{AllocError, Global};
 
-/// The number of lanes. The patches have the first ones, and the tasks those behind.
+/// The number of lanes. The first lanes are those of the patches, and the lanes of the tasks follow.
 pub(crate) const LANES: usize = MAX_PATCHES + MAX_TASKS;
 
 /// A line at which something happens to a transition, and what happens.
@@ -19,7 +19,7 @@ pub(crate) struct Mark {
     pub sign: Sign,
 }
 
-/// A bar from the line `from` up to the line `to`, which is the first one after the bar.
+/// A bar from the line `from` up to the line `to`. The line `to` is the first line after the bar.
 #[derive(Clone, Copy)]
 pub(crate) struct Bar {
     pub from: u64,
@@ -37,8 +37,8 @@ enum Role {
     Acts,
 }
 
-/// The lane of one patch or task. It has the finished bars. If there is an unfinished bar, `look` is its look, and
-/// `from` the line at which it begins.
+/// The lane of one patch or task, with its finished bars. If there is an unfinished bar, `look` is the look of that
+/// bar, and `from` is the line at which it begins.
 #[derive(Drop)]
 struct Lane {
     from: u64,
@@ -48,10 +48,10 @@ struct Lane {
 }
 
 /// The bars of all patches and tasks, while a run is observed line by line. If an allocation fails, `is_short` becomes
-/// true, and [`Bars::close`] reports it.
+/// true, and [`Bars::close`] reports the failure.
 #[derive(Drop)]
 pub struct Bars {
-    /// The lines in which a bar begins or ends, or something happens to a transition.
+    /// The lines in which a bar begins or ends, or in which something happens to a transition.
     changed: Vec<u64>,
     pub(crate) marks: Vec<Mark>,
     pub(crate) scale: Scale,
@@ -72,8 +72,8 @@ impl Lane {
         }
     }
 
-    /// Ends the lane's unfinished bar at this line, if there is one, and begins a bar with this look. If `look` is
-    /// `None`, the lane is empty from this line on. `Err` if memory runs out.
+    /// If the lane has an unfinished bar, ends the bar at this line. Begins a bar with this look. If `look` is `None`,
+    /// begins no bar, so the lane is empty from this line on. `Err` if memory runs out.
     fn begin(&mut self, line: u64, look: Option<Look>) -> Result<(), AllocError> {
         self.role = match look {
             Some(look) if look.mode != Mode::User => Role::Acts,
@@ -124,7 +124,8 @@ impl Bars {
         }
     }
 
-    /// Whether the lane is drawn. It is if its patch was ever installed, or if its task ever entered the kernel.
+    /// Whether the lane is drawn. The lane of a patch is drawn if the patch was ever installed, and the lane of a task
+    /// if the task ever entered the kernel.
     pub(crate) fn acts(&self, number: usize) -> bool {
         self.role(number) == Role::Acts
     }
@@ -142,7 +143,7 @@ impl Bars {
         }
     }
 
-    /// Gives a lane this look from this line on. Returns whether the lane had another look before.
+    /// Gives a lane this look, beginning with this line. Returns whether the lane had another look before.
     fn turn(&mut self, number: usize, line: u64, look: Option<Look>) -> bool {
         let Some(lane) = self.lanes.get_mut(number) else {
             return false;
@@ -155,8 +156,8 @@ impl Bars {
         true
     }
 
-    /// Adds a mark at this line for what happened to the transition. If `sign` is `None`, nothing did: adds no mark,
-    /// and returns false. Otherwise returns true.
+    /// Adds a mark at this line for a change of the transition, and returns true. If `sign` is `None`, the transition
+    /// wasn't changed: adds no mark, and returns false.
     fn mark(&mut self, line: u64, sign: Option<Sign>) -> bool {
         let Some(sign) = sign else {
             return false;
@@ -187,8 +188,8 @@ impl Bars {
         is_changed
     }
 
-    /// Updates the bars with the state after a line. Call this for each line that did an event or undid some. Other
-    /// lines change no bar.
+    /// Updates the bars with the state after a line. Call this for each line that did or undid an event. No other line
+    /// changes a bar.
     pub fn see(&mut self, line: u64, before: &View, moment: &Moment, manager: &Manager) {
         let view = &moment.view;
         let mut is_changed = self.mark(line, sign_of(before, moment));
@@ -201,9 +202,9 @@ impl Bars {
         }
     }
 
-    /// Ends all bars behind the last line, and computes where each line is drawn. The drawing is to scale by time if
-    /// each line that changes something has a time. Otherwise it goes by line numbers. `Err` if memory runs out, or ran
-    /// out before.
+    /// Ends all bars behind the last line, and computes where each line is drawn. If each line that changes something
+    /// has a time, the drawing is to scale by time. Otherwise lines are placed by their numbers. `Err` if memory runs
+    /// out, or ran out before.
     pub fn close(&mut self, lines: u64, names: &Names) -> Result<(), AllocError> {
         for number in 0..LANES {
             self.turn(number, lines.saturating_add(1), None);
@@ -214,7 +215,7 @@ impl Bars {
         self.scale.measure(&self.changed, lines, names)
     }
 
-    /// Returns the lines in which a bar begins or ends, or something happens to a transition.
+    /// Returns the lines in which a bar begins or ends, or in which something happens to a transition.
     pub(crate) fn changed(&self) -> &[u64] {
         self.changed.as_slice()
     }

@@ -22,7 +22,7 @@ use std::alloc::{AllocError, Global};
 /// The width of a sign and of the gap behind it, in points.
 const SIGN: u64 = 12;
 
-/// All that the parts of the drawing need: what is drawn and where it is drawn.
+/// The data that the parts of the drawing need: what is drawn and where it is drawn.
 #[derive(Drop)]
 struct Board<'a> {
     names: &'a Names,
@@ -36,7 +36,7 @@ struct Board<'a> {
 }
 
 /// Returns the places of the marks that are drawn, from left to right. A mark is left out if its sign would cover the
-/// one before. `Err` if memory runs out.
+/// sign of the mark before. `Err` if memory runs out.
 fn places_of_marks(alloc: Global, bars: &Bars) -> Result<Vec<u64>, AllocError> {
     let mut places = Vec::new(alloc);
     let mut free = 0;
@@ -50,8 +50,8 @@ fn places_of_marks(alloc: Global, bars: &Bars) -> Result<Vec<u64>, AllocError> {
     Ok(places)
 }
 
-/// Adds the signs of the marks, except for those that would cover the sign before. Beside a sign stands the number of
-/// its line, if there is room up to the next sign, and if the drawing isn't to scale by time.
+/// Adds the signs of the marks, except for those that would cover the sign before. The number of a mark's line is added
+/// beside the sign if there is room up to the next sign. If the drawing is to scale by time, no number is added.
 fn add_signs(sheet: &mut Sheet, bars: &Bars) {
     let mut free = 0;
     for (number, mark) in bars.marks.iter().enumerate() {
@@ -74,8 +74,8 @@ fn add_signs(sheet: &mut Sheet, bars: &Bars) {
     }
 }
 
-/// Adds the definition of the marks, which all lanes share. At each of these places, it is a dotted line through the
-/// whole height of a lane.
+/// Adds the definition of the marks, which all lanes share. Each mark is a dotted line at one of these places, as high
+/// as a lane.
 fn add_marks(sheet: &mut Sheet, places: &[u64]) {
     sheet.markup("<g id=marks><path class=mark d=\"M0 0");
     for x in places {
@@ -96,7 +96,7 @@ fn add_cuts(sheet: &mut Sheet, bars: &Bars) {
     sheet.markup("</g>");
 }
 
-/// Begins the table. Its head has the signs, the axis, and the definitions that all lanes share.
+/// Begins the table. The head of the table has the signs, the axis, and the definitions that all lanes share.
 fn add_head(sheet: &mut Sheet, board: &Board<'_>, marks: &[u64]) {
     sheet.fill(
         "<div class=run><table><thead><tr><th></th><td><svg width=\"{}\" height=\"36\" aria-hidden=true><defs>",
@@ -138,7 +138,7 @@ fn add_name(sheet: &mut Sheet, names: &Names, manager: &Manager, lane: usize) {
     }
 }
 
-/// Adds the table row of a patch or a task. What is drawn later covers what was drawn before, so the order is: marks,
+/// Adds the table row of a patch or a task. Parts that are drawn later cover earlier parts, so the order is: marks,
 /// bars, stays, cuts, and all words. `Err` if memory runs out.
 fn add_lane(
     alloc: Global,
@@ -175,8 +175,8 @@ fn add_lane(
     Ok(())
 }
 
-/// Adds the note below the drawing. It explains the numbers of the axis and the zigzags. If one point shows several
-/// lines, it also says which of their bars is drawn.
+/// Adds the note below the drawing. The note explains the numbers of the axis and the zigzags. If one point shows
+/// several lines, the note also says which line's bar is drawn at the point.
 fn add_note(sheet: &mut Sheet, bars: &Bars) {
     let (numbers, cut) = if bars.scale.is_timed() {
         (

@@ -39,7 +39,7 @@ fn add_numbers(sheet: &mut Sheet, bars: &Bars) {
     }
 }
 
-/// Adds a table row that says how many tasks are idle, and which. Adds nothing if there are none.
+/// Adds a table row that says how many tasks are idle, and which. Adds nothing if no task is idle.
 pub(crate) fn add_idle(sheet: &mut Sheet, bars: &Bars) {
     let mut count = 0u64;
     for task in 0..MAX_TASKS {

@@ -33,7 +33,7 @@ pub(crate) fn add_bars(sheet: &mut Sheet, strips: &[Strip]) {
 }
 
 /// Returns the words of a bar in three parts: its shade, a comma, and for a task its mode. The shade or the mode may be
-/// empty, and then the comma is too.
+/// empty, and then the comma is empty too.
 fn words_of(look: Look, is_task: bool) -> [&'static str; 3] {
     let shade = shade_word(look.shade);
     let mode = if is_task { mode_word(look.mode) } else { "" };
@@ -45,7 +45,8 @@ fn words_of(look: Look, is_task: bool) -> [&'static str; 3] {
     [shade, join, mode]
 }
 
-/// Returns the CSS class and the height of a bar's words. If the bar is too thin for words, they stand above it.
+/// Returns the CSS class and the height of a bar's words. If the bar is too thin for words, the words are above the
+/// bar.
 fn place_of_words(shade: Shade, area: Area) -> (&'static str, u64) {
     let below = area.y.saturating_add(area.height);
     match area.height {
@@ -76,8 +77,8 @@ fn add_some(sheet: &mut Sheet, strip: &Strip, stops: &[Stop], words: &[&'static 
     true
 }
 
-/// Adds to each bar its words. If there isn't room for all of them, adds the first part alone. If the bar is a task's
-/// with a stay that has a label, adds no words.
+/// Adds to each bar its words. If there isn't room for all three parts, adds the first part alone. If the bar belongs
+/// to a stay that has a label, adds no words.
 pub(crate) fn add_words(sheet: &mut Sheet, strips: &[Strip], stops: &[Stop], is_task: bool) {
     for strip in strips {
         if strip.look.is_shown {

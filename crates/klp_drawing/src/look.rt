@@ -4,10 +4,10 @@ use klp_core::Manager;
 use klp_timeline::{Stay, View};
 use klp_types::{Mode, PatchId, TaskId};
 
-/// The colour of a bar: which version a task runs, or what state a patch is in.
+/// The colour of a bar. It shows which version a task runs, or the state of a patch.
 #[derive(Clone, Copy, PartialEq, Eq)]
 pub(crate) enum Shade {
-    /// There is no transition for the task.
+    /// The task isn't in a transition.
     Rest,
     /// The task runs without the patch in transition: its patch state is 0.
     Old,
@@ -20,12 +20,12 @@ pub(crate) enum Shade {
     Gone,
 }
 
-/// How a bar is drawn. The bar of a patch is as high as that of a task in the kernel.
+/// How a bar is drawn. The bar of a patch is as high as the bar of a task in the kernel.
 #[derive(Clone, Copy, PartialEq, Eq)]
 pub(crate) struct Look {
     pub shade: Shade,
     pub mode: Mode,
-    /// Whether the bar is part of a stay of the task, which a sentence reports. The stay has a label, so the bar gets
+    /// Whether the bar is part of a stay of the task that a sentence reports. Such a stay has a label, so the bar gets
     /// no words.
     pub is_shown: bool,
 }
@@ -45,7 +45,7 @@ pub(crate) fn look_of_task(manager: &Manager, task: TaskId, stay: &Option<Stay>)
     })
 }
 
-/// Returns the shade of an installed patch. `is_forced` is whether the transition under way was forced.
+/// Returns the shade of an installed patch. `is_forced` says whether the transition under way was forced.
 fn shade_of_patch(view: &View, patch: PatchId, is_forced: bool) -> Shade {
     match view.moving {
         Some(moving) if moving.patch != patch => Shade::Enabled,
@@ -56,8 +56,8 @@ fn shade_of_patch(view: &View, patch: PatchId, is_forced: bool) -> Shade {
     }
 }
 
-/// Returns the look of a patch. `is_forced` is whether the transition under way was forced, and `was_there` whether the
-/// patch was installed at an earlier line. Returns `None` if the patch isn't installed and never was.
+/// Returns the look of a patch. `is_forced` says whether the transition under way was forced. `was_there` says whether
+/// the patch was installed at an earlier line. Returns `None` if the patch isn't installed and never was.
 pub(crate) fn look_of_patch(
     view: &View,
     patch: PatchId,
@@ -79,7 +79,7 @@ pub(crate) fn look_of_patch(
 }
 
 /// Returns the height of a bar in points. A task in the kernel has the highest bar, and a task in user space the
-/// lowest. That of a sleeper is between them.
+/// lowest. The height of a sleeper's bar is between the two.
 pub(crate) fn height_of(look: Look) -> u64 {
     match look.mode {
         _ if look.shade == Shade::Gone => 2,

@@ -7,18 +7,18 @@ use std::alloc::{AllocError, Global};
 /// A stretch is cut if it is more than this many times as long as all shorter stretches together.
 const LONG: u64 = 12;
 
-/// No stretch is cut unless the shorter ones together last at least this long, in microseconds.
+/// If the shorter stretches together last less than this many microseconds, no stretch is cut.
 const SECOND: u64 = 1_000_000;
 
 /// A stretch of time in which nothing changes.
 #[derive(Clone, Copy)]
 struct Stretch {
-    /// How long the stretch is, in microseconds. `drawn` is how much of it is drawn.
+    /// How long the stretch is, in microseconds. `drawn` is the length of the part that is drawn.
     length: u64,
     drawn: u64,
     /// The time at which the stretch ends, in microseconds since the first time.
     end: u64,
-    /// The left end of the stretch in the drawing. `width` is its width there.
+    /// The left end of the stretch in the drawing. `width` is the width of the stretch in the drawing.
     x: u64,
     width: u64,
 }
@@ -52,8 +52,8 @@ pub(crate) struct Steps<'a> {
 }
 
 impl<'a> Steps<'a> {
-    /// Returns where a time is drawn. The times of successive calls must rise, since each call forgets the stretches
-    /// that ended before its time.
+    /// Returns where a time is drawn. Each call forgets the stretches that ended before its time, so the times of
+    /// successive calls must rise.
     pub(crate) fn place_of(&mut self, time: u64) -> u64 {
         while let [first, rest @ ..] = self.rest {
             if time < first.end || rest.is_empty() {
@@ -99,7 +99,8 @@ impl Pace {
         Ok(())
     }
 
-    /// Cuts each stretch that is longer than `longest`. Of such a stretch, half of that length is drawn.
+    /// Cuts each stretch that is longer than `longest`. Of such a stretch, a part of half the length `longest` is
+    /// drawn.
     fn cut(&mut self, longest: u64) {
         for stretch in &mut self.stretches {
             if stretch.length > longest {
@@ -141,8 +142,8 @@ fn add_stretch(stretches: &mut Vec<Stretch>, begin: u64, end: u64) -> Result<u64
     Ok(end)
 }
 
-/// Returns the stretches between the lines that change something, and the one from the last such line to the end of the
-/// run. If a line has no time, the list ends before it. `Err` if memory runs out.
+/// Returns the stretches between the lines that change something, and the stretch from the last such line to the end of
+/// the run. If a line has no time, the list ends before this line. `Err` if memory runs out.
 fn stretches_of(
     alloc: Global,
     changed: &[u64],
@@ -163,8 +164,8 @@ fn stretches_of(
     Ok(stretches)
 }
 
-/// Returns the scale by time of a run with `lines` lines, of which those in `changed` change something. Returns `None`
-/// if one of the latter has no time, or if no time passes. `Err` if memory runs out.
+/// Returns the scale by time of a run with `lines` lines. `changed` are the lines that change something. Returns `None`
+/// if a line in `changed` has no time, or if no time passes. `Err` if memory runs out.
 pub(crate) fn pace_of(
     alloc: Global,
     changed: &[u64],

@@ -38,7 +38,7 @@ impl Area {
     }
 }
 
-/// Returns how many digits a number has. It returns 7 for each number with six or more.
+/// Returns how many digits a number has. Returns 7 for each number with six or more digits.
 pub(crate) fn digits(number: u64) -> usize {
     match number {
         0..=9 => 1,

@@ -13,14 +13,15 @@ const KEPT: u64 = 4;
 /// The width of a cut in points.
 pub(crate) const CUT: u64 = 12;
 
-/// The width that a cut counts for when a drawing with cuts is compared with one whose lines are narrower.
+/// The width that a cut counts for when drawings are compared. A drawing with cuts is compared with a drawing whose
+/// lines are narrower.
 pub(crate) const COST: u64 = 40;
 
-/// The width that shows the state after the last line. Only a drawing to scale by time has it.
+/// The width that shows the state after the last line. Only a drawing to scale by time has this width.
 const TAIL: u64 = 30;
 
-/// The largest width of one line. `WIDTH` is the largest of all lines together: that of a sheet of paper at a readable
-/// size.
+/// The largest width of one line. `WIDTH` is the largest width of all lines together, which is that of a sheet of paper
+/// at a readable size.
 const LINE: u64 = 40;
 
 pub(crate) const WIDTH: u64 = 780;
@@ -32,7 +33,7 @@ const LEFT: u64 = 6;
 /// have the same width. A long stretch in which nothing changes is cut.
 #[derive(Drop)]
 pub(crate) struct Scale {
-    /// The left end of each line, with that of line 0 first.
+    /// The left end of each line. The list begins with the left end of line 0.
     places: Vec<u64>,
     /// The left end of each cut.
     pub cuts: Vec<u64>,
@@ -60,7 +61,8 @@ struct Extent {
 }
 
 impl Extent {
-    /// Returns the extent after one more stretch, which has `lines` lines. It is cut if these are more than `max_idle`.
+    /// Returns the extent after one more stretch, which has `lines` lines. If `lines` is more than `max_idle`, the
+    /// stretch is cut.
     fn with(self, lines: u64, max_idle: u64) -> Extent {
         let is_cut = lines > max_idle;
         Extent {
@@ -69,7 +71,7 @@ impl Extent {
         }
     }
 
-    /// Returns the width of all drawn lines together. Each cut leaves `cost` points less for them.
+    /// Returns the width of all drawn lines together. Each cut reduces this width by `cost` points.
     fn width(self, cost: u64) -> u64 {
         let room = WIDTH.saturating_sub(self.cuts.saturating_mul(cost));
         self.drawn.saturating_mul(LINE).min(room)
@@ -81,8 +83,8 @@ impl Extent {
     }
 }
 
-/// Returns the extent of a run with `lines` lines, of which those in `changed` change something. Stretches of more than
-/// `max_idle` lines are cut.
+/// Returns the extent of a run with `lines` lines. `changed` are the lines that change something. Stretches of more
+/// than `max_idle` lines are cut.
 fn extent_of(changed: &[u64], lines: u64, max_idle: u64) -> Extent {
     let mut extent = Extent { drawn: 0, cuts: 0 };
     let mut from = 1;
@@ -93,9 +95,9 @@ fn extent_of(changed: &[u64], lines: u64, max_idle: u64) -> Extent {
     extent.with(lines.saturating_add(1).saturating_sub(from), max_idle)
 }
 
-/// Returns the largest number of lines in a stretch that isn't cut. Tries [`FEWEST_IDLE`], and then the double of it
-/// again and again. Of these, takes the number that makes lines widest. If no cut makes lines wider, returns a number
-/// for which no stretch is cut.
+/// Returns the largest number of lines in a stretch that isn't cut. The function tries [`FEWEST_IDLE`], and doubles the
+/// number again and again. The result is the tried number that makes lines widest. If no cut makes lines wider, the
+/// result is a number for which no stretch is cut.
 fn max_idle_of(changed: &[u64], lines: u64) -> u64 {
     let mut max_idle = lines.max(FEWEST_IDLE);
     let mut widest = extent_of(changed, lines, max_idle).line_width();
@@ -127,7 +129,7 @@ impl Scale {
         }
     }
 
-    /// Computes the places of all lines of a run with `lines` lines, of which those in `changed` change something.
+    /// Computes the places of all lines of a run with `lines` lines. `changed` are the lines that change something.
     /// `Err` if memory runs out.
     pub(crate) fn measure(
         &mut self,
@@ -161,7 +163,7 @@ impl Scale {
         Ok(())
     }
 
-    /// Puts the lines side by side. All have the same width. `Err` if memory runs out.
+    /// Puts the lines side by side. All lines have the same width. `Err` if memory runs out.
     fn place_by_lines(&mut self, changed: &[u64], lines: u64) -> Result<(), AllocError> {
         self.max_idle = max_idle_of(changed, lines);
         let extent = extent_of(changed, lines, self.max_idle);
@@ -170,7 +172,7 @@ impl Scale {
         self.place(changed, lines)
     }
 
-    /// Puts the lines side by side. Their width must be known. `Err` if memory runs out.
+    /// Puts the lines side by side. The width of a line must be known. `Err` if memory runs out.
     fn place(&mut self, changed: &[u64], lines: u64) -> Result<(), AllocError> {
         let (mut from, mut drawn) = (1, 0);
         self.places.push(LEFT)?;
@@ -184,9 +186,9 @@ impl Scale {
         Ok(())
     }
 
-    /// Gives the next `lines` lines their places, behind the `before` lines that are drawn already. If there are more
-    /// than `max_idle`, draws only the first [`KEPT`], and puts all others at the cut. Returns how many lines are now
-    /// drawn. `Err` if memory runs out.
+    /// Gives the next `lines` lines their places, behind the `before` lines that are drawn already. If `lines` is more
+    /// than `max_idle`, draws only the first [`KEPT`] lines, and puts all further lines at the cut. Returns how many
+    /// lines are now drawn. `Err` if memory runs out.
     fn place_stretch(&mut self, lines: u64, before: u64) -> Result<u64, AllocError> {
         let drawn = drawn_of(lines, self.max_idle);
         for number in 0..lines {

@@ -28,7 +28,7 @@ pub(crate) struct Held {
     sentence: usize,
     /// Whether the stay's sentence is on the page.
     is_shown: bool,
-    /// Whether the task holds the transition up. If not, it sleeps in code that isn't called now.
+    /// Whether the task holds the transition up. If false, the task sleeps in code that isn't called now.
     is_holding: bool,
     /// Whether the stay still goes on at the end of the run.
     is_lasting: bool,
@@ -45,8 +45,8 @@ struct Gathered {
 }
 
 impl Gathered {
-    /// Adds the stay of one task. Leaves out the part that an earlier stay of the task covers. If that is all of it,
-    /// adds nothing. `Err` if memory runs out.
+    /// Adds the stay of one task. Leaves out the part that an earlier stay of the task covers. If the earlier stay
+    /// covers all of it, adds nothing. `Err` if memory runs out.
     fn add(&mut self, held: Held) -> Result<(), AllocError> {
         let number = usize::from(held.task.0);
         if number >= MAX_TASKS {
@@ -63,8 +63,8 @@ impl Gathered {
         Ok(())
     }
 
-    /// Adds the stays of all tasks of a sentence. `sentence` is its index among all sentences. The stays lie between
-    /// the places `from` and `to`. `Err` if memory runs out.
+    /// Adds the stays of all tasks of a sentence. `sentence` is the index of this sentence among all sentences. The
+    /// stays lie between the places `from` and `to`. `Err` if memory runs out.
     fn add_sleepers(
         &mut self,
         sentence: usize,
@@ -132,8 +132,8 @@ fn area_of(held: &Held) -> Area {
     }
 }
 
-/// Adds the rectangle of a stay. It is hatched if the task holds the transition up, and otherwise dotted. Its outline
-/// is black and white, so that one of the two contrasts with any colour below.
+/// Adds the rectangle of a stay. The rectangle is hatched if the task holds the transition up, and otherwise dotted.
+/// Its outline is black and white, so that one of the two contrasts with any colour below.
 fn add_area(sheet: &mut Sheet, held: &Held) {
     let area = area_of(held);
     if area.width < OUTLINED {
@@ -150,7 +150,7 @@ fn add_area(sheet: &mut Sheet, held: &Held) {
     add_rect(sheet, "inner", area.inside(2));
 }
 
-/// Adds the rectangles of a task's stays. These cover the words of the lane, so add the words afterwards.
+/// Adds the rectangles of a task's stays. The rectangles cover the words of the lane, so add the words afterwards.
 pub(crate) fn add_areas(sheet: &mut Sheet, all: &[Held], task: TaskId) {
     for held in all {
         if held.task == task {
@@ -166,8 +166,7 @@ struct Label {
     version: Version,
 }
 
-/// Returns the label of a stay, which it takes from the stay's sentence. Returns `None` if that sentence reports no
-/// stay.
+/// Returns the label of a stay, which is part of the stay's sentence. Returns `None` if that sentence reports no stay.
 fn label_of(sentences: &[Sentence], held: &Held) -> Option<Label> {
     let sentence = sentences.get(held.sentence)?;
     let Said::Slept(sleepers) = &sentence.said else {
@@ -180,7 +179,7 @@ fn label_of(sentences: &[Sentence], held: &Held) -> Option<Label> {
     })
 }
 
-/// Returns the name of a function, without that of its object or patch.
+/// Returns the name of a function, without the name of its object or patch.
 fn short_name(manager: &Manager, version: Version) -> &[u8] {
     match version {
         Version::Original(site) => match manager.modules().symbol(site) {
@@ -191,8 +190,8 @@ fn short_name(manager: &Manager, version: Version) -> &[u8] {
     }
 }
 
-/// Adds the name of a function, and that of its object or patch, as `NAME of the object OBJECT`. Adds no markup, since
-/// a tooltip may have none.
+/// Adds the name of a function and of its object or patch, as `NAME of the object OBJECT`. A tooltip may have no
+/// markup, so none is added.
 fn add_plain_version(sheet: &mut Sheet, manager: &Manager, version: Version) {
     let (owner, kind) = match version {
         Version::Original(site) => match manager.modules().symbol(site) {
@@ -238,10 +237,10 @@ fn label_width(letters: usize) -> u64 {
     (letters as u64).saturating_mul(30).saturating_add(43) / 4
 }
 
-/// Returns the left end of a label with this width. Returns `None` if there is no room between the stops. The label
-/// stands at the left of its stay. If the stay still goes on at the end of the run, the label stands at the right, and
-/// may extend beyond the stay: if a drawing is wider than the screen, a reader first sees its right end. In both cases
-/// [`SHOWN`] points of the stay are left free.
+/// Returns the left end of a label with this width. Returns `None` if there is no room between the stops. If the stay
+/// has ended, its label is at the left of the stay. If a drawing is wider than the screen, a reader first sees its
+/// right end. So the label of a stay that still lasts at the end of the run is at the right, and may extend beyond the
+/// stay. In both cases [`SHOWN`] points of the stay are left free.
 fn place_of_label(stops: &[Stop], held: &Held, width: u64) -> Option<u64> {
     let room = width.saturating_add(SHOWN);
     if !held.is_lasting {
@@ -272,8 +271,9 @@ fn add_plate(sheet: &mut Sheet, held: &Held, stops: &[Stop], letters: usize) -> 
     true
 }
 
-/// Adds the label of a stay. It is the function's name if there is room. Otherwise it is the number of the stay's first
-/// line, by which a reader finds the sentence. If there is no room for that either, adds nothing.
+/// Adds the label of a stay. If there is room for the function's name, the label is that name. Otherwise the label is
+/// the number of the stay's first line, by which a reader finds the sentence. If there is no room for the number, adds
+/// nothing.
 fn add_label(sheet: &mut Sheet, manager: &Manager, held: &Held, label: &Label, stops: &[Stop]) {
     let name = short_name(manager, label.version);
     if add_plate(sheet, held, stops, name.len()) {

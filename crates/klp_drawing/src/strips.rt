@@ -22,8 +22,8 @@ struct Strips {
 }
 
 impl Strips {
-    /// Puts the last strip behind the others, since it won't change any more. Drops it if it is empty. `Err` if memory
-    /// runs out.
+    /// Puts the last strip behind the finished strips, since it won't change any more. Drops the strip if it is empty.
+    /// `Err` if memory runs out.
     fn settle(&mut self) -> Result<(), AllocError> {
         match self.last.take() {
             Some(strip) if strip.from < strip.to => self.strips.push(strip)?,
@@ -32,7 +32,7 @@ impl Strips {
         Ok(())
     }
 
-    /// Adds a strip behind the last one. If the two overlap, the lower one loses the part that they share. `Err` if
+    /// Adds a strip behind the last one. If the two overlap, the lower strip loses the part that both share. `Err` if
     /// memory runs out.
     fn add(&mut self, mut strip: Strip) -> Result<(), AllocError> {
         let Some(mut last) = self.last else {

@@ -1,9 +1,9 @@
 //! The style of a drawing, its patterns and its legend.
 
-/// The part of a page's style that the drawing needs. Colour-blind people can tell blue from orange, and in grey one of
-/// the two is lighter. Print has no backgrounds, so whatever matters on paper is drawn or has a border. Print has
-/// letters of 7 points, so names have less room. On a narrow screen the drawing scrolls. It first shows its right end,
-/// which matters most, since its box has the direction from right to left.
+/// The part of a page's style that the drawing needs. Colour-blind people can distinguish blue from orange, and in grey
+/// one of the two colours is lighter. Print has no backgrounds, so whatever matters on paper is drawn or has a border.
+/// Print has letters of 7 points, so names have less room. On a narrow screen the drawing scrolls. The right end of the
+/// drawing matters most. The box of the drawing has the direction from right to left, so the right end is shown first.
 pub const STYLE: &str =
     ":root{--old:#004070;--oldink:#fff;--new:#c98200;--newink:#111;--rest:#7a848e}
 @media screen and (prefers-color-scheme:dark){:root{--old:#2f7ab8;--oldink:#111;--new:#ffcf66;--rest:#8a949e}}

@@ -9,11 +9,11 @@ pub(crate) enum Sign {
     Turns,
     Forced,
     Ends,
-    /// A rewind undid events, and the transition isn't the same as before it.
+    /// A rewind undid events and changed the transition.
     Back,
 }
 
-/// Returns what a line did to the transition. Returns `None` if the line did nothing to it.
+/// Returns the effect of a line on the transition. Returns `None` if the line had no effect on it.
 pub(crate) fn sign_of(before: &View, moment: &Moment) -> Option<Sign> {
     let after = &moment.view;
     match (moment.act, before.moving, after.moving) {

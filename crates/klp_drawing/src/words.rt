@@ -4,7 +4,7 @@ use crate::bars::Bars;
 use crate::scale::CUT;
 use std::alloc::{AllocError, Global};
 
-/// The place of a mark or a cut. No word may cross it.
+/// The place of a mark or a cut. No word may cross this place.
 #[derive(Clone, Copy, PartialEq, Eq, PartialOrd, Ord)]
 pub(crate) struct Stop {
     pub from: u64,
@@ -30,7 +30,7 @@ pub(crate) fn stops(alloc: Global, bars: &Bars, marks: &[u64]) -> Result<Vec<Sto
     Ok(stops)
 }
 
-/// Returns the width of this many letters, and of a gap on each side of them.
+/// Returns the width of this many letters and of a gap on each side of the letters.
 pub(crate) fn width_of(letters: usize) -> u64 {
     (letters as u64).saturating_mul(15).saturating_add(16) / 2
 }

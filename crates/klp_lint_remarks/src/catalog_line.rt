@@ -1,4 +1,4 @@
-//! Finds the lines of a catalog in which a patch, a target or a callback stands.
+//! Finds the lines of a catalog at which patches, targets and callbacks begin.
 
 use klp_catalog_text::words_of;
 use klp_types::Which;
@@ -13,9 +13,9 @@ pub(crate) fn word_of(which: Which) -> &'static [u8] {
     }
 }
 
-/// A place that is looked for in a catalog. `patch` is the number of a patch, and `target` the index of one of its
-/// targets. `word` is the first word of a line there, and `before` how many such lines stand before it. Without a
-/// target or a word, the place is the line with which the patch or the target begins.
+/// A place to look for in a catalog. `patch` is the number of a patch, and `target` the index of one of its targets.
+/// `word` is the first word of a line in the patch or target, and `before` is how many such lines precede this one.
+/// Without a target or a word, the place is the line with which the patch or the target begins.
 #[derive(Clone, Copy)]
 pub(crate) struct CatalogPlace<'a> {
     pub(crate) patch: usize,
@@ -24,7 +24,7 @@ pub(crate) struct CatalogPlace<'a> {
     pub(crate) before: usize,
 }
 
-/// How many patches have begun so far, and how many targets of the last of these.
+/// How many patches have begun so far, and how many targets of the last such patch have begun.
 #[derive(Clone, Copy)]
 struct Passed {
     patches: usize,
@@ -32,7 +32,7 @@ struct Passed {
 }
 
 impl Passed {
-    /// Counts the patch or target that begins in a line with this first word. Returns whether one begins.
+    /// If a patch or target begins in a line with this first word, counts it. Returns whether a patch or target begins.
     fn pass(&mut self, word: &[u8]) -> bool {
         match word {
             b"patch" => {
@@ -48,7 +48,8 @@ impl Passed {
         }
     }
 
-    /// Whether a line with this first word is at the place. `begins` is whether a patch or a target begins in the line.
+    /// Whether a line with this first word is at the place. `begins` says whether a patch or a target begins in the
+    /// line.
     fn is_at(self, place: CatalogPlace<'_>, word: &[u8], begins: bool) -> bool {
         let targets = match place.target {
             Some(target) => target.saturating_add(1),

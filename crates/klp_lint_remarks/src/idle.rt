@@ -1,4 +1,4 @@
-//! What in a patch can't work, or does nothing, whatever the state is.
+//! Finds parts of a patch that can't work, or do nothing, whatever the state is.
 
 use crate::catalog_line::word_of;
 use crate::remark::{Kind, Remark};
@@ -14,7 +14,7 @@ pub(crate) fn names(patch: &PlanPatch, id: u64) -> bool {
     patch.states.iter().any(|state| state.id == id)
 }
 
-/// An edit of a system state that does nothing, and why.
+/// An edit of a system state that does nothing, and the reason why.
 #[derive(Clone, Copy)]
 struct IdleChange {
     id: u64,
@@ -51,7 +51,7 @@ fn idle_state(patch: &PlanPatch, patches: &[PlanPatch], edit: &Edit) -> Option<I
     }
 }
 
-/// Reports the edits of a callback that do nothing. Returns how many findings that is.
+/// Reports the edits of a callback that do nothing. Returns the number of findings.
 fn say_idle_edits<W: Write>(
     own: &LintedPatch<'_>,
     place: usize,
@@ -73,7 +73,7 @@ fn say_idle_edits<W: Write>(
     Ok(count)
 }
 
-/// Reports the edits of a patch that do nothing. Returns how many findings that is.
+/// Reports the edits of a patch that do nothing. Returns the number of findings.
 pub(crate) fn say_idle<W: Write>(own: &LintedPatch<'_>, out: &mut W) -> io::Result<u64> {
     let mut count = 0u64;
     let patch = own.patch;
@@ -110,7 +110,7 @@ impl fmt::Display for Unpicked<'_> {
     }
 }
 
-/// Reports the functions of a patch whose name and position pick no symbol. Returns how many findings that is.
+/// Reports the functions of a patch whose name and position pick no symbol. Returns the number of findings.
 pub(crate) fn say_unpicked<W: Write>(
     own: &LintedPatch<'_>,
     modules: &Modules,

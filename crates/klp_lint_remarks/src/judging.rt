@@ -65,7 +65,7 @@ fn do_lines(alloc: Global, manager: &mut Manager, script: &[u8]) -> Result<(), F
     Ok(())
 }
 
-/// Reports how a patch was judged. Returns how many findings that is.
+/// Reports how a patch was judged. Returns the number of findings.
 fn say<W: Write>(
     own: &LintedPatch<'_>,
     manager: &Manager,
@@ -96,8 +96,8 @@ fn judge_one<W: Write>(own: &LintedPatch<'_>, manager: &Manager, out: &mut W) ->
     )
 }
 
-/// Reports what in a patch is near a limit, and whether the patch is just like another one. Returns how many findings
-/// that is.
+/// Reports what in a patch is near a limit, and whether the patch is just like another one. Returns the number of
+/// findings.
 fn say_limits<W: Write>(own: &LintedPatch<'_>, out: &mut W) -> io::Result<u64> {
     let near = say_near(own, out)?;
     let room = say_room(own, out)?;
@@ -139,7 +139,8 @@ fn judge<W: Write>(
     }
 }
 
-/// Serves the script, seals the journal, and judges the patches. So the journal has room for the events that are tried.
+/// Serves the script, seals the journal, and judges the patches. Sealing makes room in the journal for the events that
+/// are tried.
 fn lint<W: Write>(
     alloc: Global,
     manager: &mut Manager,
@@ -167,7 +168,8 @@ fn lint_by<W: Write>(
     ended
 }
 
-// Boots a manager over a plan, and judges the patches by it. The callbacks are made here, as for watching a trace.
+// Boots a manager over a plan, and judges the patches with the manager. The callbacks are made here, as for watching a
+// trace.
 fn lint_over_plan<W: Write>(
     alloc: Global,
     plan: Plan,
@@ -211,11 +213,11 @@ fn lint_parts<W: Write>(
     Ok(alone.saturating_add(together))
 }
 
-/// Judges each patch of the catalog by itself. Then loads the patches over each other. Both begin in the state after
-/// the script. Returns how many findings there are.
+/// Judges each patch of the catalog by itself. Then loads the patches over each other. Both steps begin in the state
+/// after the script. Returns the number of findings.
 ///
-/// Two managers do this, since loading patches raises the counts of their callbacks. The catalog is read again for
-/// each, since booting takes the plan.
+/// Loading patches raises the counts of their callbacks, so each step has its own manager. Booting consumes the plan,
+/// so the catalog is read again for each manager.
 pub fn lint_over_text<W: Write>(
     alloc: Global,
     text: CatalogText<'_>,

@@ -1,13 +1,13 @@
-//! What can be said of a catalog's patches before any is loaded. It says three things: whether each patch would leave a
-//! trace after it was withdrawn, what of it can't work or does nothing, and what becomes of patches that are loaded
-//! over others.
+//! Reports about a catalog's patches before any patch is loaded. A report has three parts: whether each patch would
+//! leave a trace after it was withdrawn, which parts of a patch can't work or do nothing, and what happens to patches
+//! that are loaded over others.
 //!
-//! [`lint_over_text`] boots a manager over the catalog, and serves a script. It says all this of the state after the
-//! script, in words or as JSON ([`Form`]). `judging` goes through the patches. On one patch alone, `idle` says what
-//! does nothing, and `limits` what is near a limit. `loaded_over` loads patches over others. `replacing` says what a
-//! cumulative patch does to those that it takes out. `state_conflict` finds the system state that keeps a patch from
-//! being loaded. `orders` counts the orders in which all patches can be loaded. Whether a patch leaves a trace is
-//! decided by `klp_lint`. What is said has no contract.
+//! [`lint_over_text`] boots a manager with the catalog, and serves a script. It reports on the state after the script,
+//! in words or as JSON ([`Form`]). `judging` goes through the patches. For one patch alone, `idle` finds the parts that
+//! do nothing, and `limits` the parts that are near a limit. `loaded_over` loads patches over others. `replacing`
+//! reports what a cumulative patch does to the patches that it removes. `state_conflict` finds the system state that
+//! keeps a patch from being loaded. `orders` counts the orders in which all patches can be loaded. `klp_lint` decides
+//! whether a patch leaves a trace. The reports have no contract.
 #![tactic(auto)]
 
 mod catalog_line;

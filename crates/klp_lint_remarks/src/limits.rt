@@ -11,7 +11,7 @@ use std::{fmt, io};
 /// The distance that a call reaches: 2 GiB.
 const REACH: u64 = 0x8000_0000;
 
-/// A call is reported if it is nearer than this to the end of its reach: 1 MiB.
+/// A call is reported if it is less than this distance from the end of its reach: 1 MiB.
 const NEAR: u64 = 0x10_0000;
 
 /// The instruction ENDBR64. It stands in front of an entry site if a kernel tracks indirect branches.
@@ -32,7 +32,7 @@ fn picked<'a>(object: &'a ObjectText, function: &PlanFunction) -> Option<&'a Sym
     None
 }
 
-/// By how many bytes the call at a symbol's entry site falls short of the reach of a call.
+/// How many bytes are left between the call at a symbol's entry site and the end of the call's reach.
 fn left_at(handler: u64, symbol: &SymbolText) -> u64 {
     let offset = if symbol.body.as_slice().starts_with(&ENDBR64) {
         ENDBR64.len()
@@ -106,7 +106,7 @@ pub(crate) fn say_near<W: Write>(own: &LintedPatch<'_>, out: &mut W) -> io::Resu
     Ok(count)
 }
 
-/// How many variables a patch's callbacks need room for, if that may be too many.
+/// The number of variables for which a patch's callbacks need room, if there may be too many.
 #[derive(Clone, Copy)]
 struct NoRoom {
     own: usize,
@@ -137,8 +137,8 @@ fn count_wanted(patch: &PlanPatch) -> usize {
     count
 }
 
-/// Reports a patch whose callbacks may find no room for their variables. That is so if all variables that the catalog's
-/// callbacks add don't fit together. Returns how many findings that is.
+/// Reports a patch whose callbacks may find no room for their variables. This may happen if the variables that all
+/// callbacks of the catalog add don't fit together. Returns the number of findings.
 pub(crate) fn say_room<W: Write>(own: &LintedPatch<'_>, out: &mut W) -> io::Result<u64> {
     let mut all = 0usize;
     for patch in own.linted.patches {

@@ -1,4 +1,5 @@
-//! What becomes of patches that are loaded over others. Each is loaded alone, over another patch, and over two.
+//! Finds out what happens to patches that are loaded over others. Each patch is loaded alone, over one other patch, and
+//! over two others.
 ghost use Rattle.std.specs.Prelude.{◌≡◌};
 ghost use Rattle.klp_core.specs.Journaled.{IsWellFormed};
 
@@ -16,7 +17,7 @@ use klp_types::{MAX_PATCHES, ObjId, PatchId, Which};
 use std::io::Write;
 use std::{fmt, io};
 
-/// The most events with which patches are loaded: an `Enable` and a poll for each patch, and four more behind them.
+/// The most events with which patches are loaded: an `Enable` and a poll for each patch, and four further events.
 pub(crate) const MAX_LOADING: usize = 2 * MAX_PATCHES + 4;
 
 /// Patches in the order in which they are loaded.
@@ -30,7 +31,7 @@ pub(crate) struct Loading {
 }
 
 impl Loading {
-    /// Adds an event. Does nothing if there are [`MAX_LOADING`] already.
+    /// Adds an event. Does nothing if there are [`MAX_LOADING`] events already.
     pub(crate) fn push(&mut self, event: Event) {
         if let Some(place) = self.events.get_mut(self.len) {
             *place = event;
@@ -54,7 +55,7 @@ pub(crate) enum Outcome {
     Refused,
 }
 
-/// How the transition of a loaded patch ends, or why it doesn't.
+/// How the transition of a loaded patch ends, or why it doesn't end.
 #[derive(Clone, Copy, PartialEq, Eq)]
 pub(crate) enum End {
     Completed,
@@ -128,7 +129,7 @@ pub(crate) fn stands_over(manager: &mut Manager, below: &[PatchId], patch: Patch
     end_over(manager, below, patch) == End::Completed
 }
 
-/// The patches that aren't installed, of the first `count`.
+/// Those of the first `count` patches that aren't installed.
 fn not_installed(manager: &Manager, count: usize) -> Order {
     let mut free = ArrayVec::new();
     for number in 0..count {
@@ -188,7 +189,7 @@ impl fmt::Display for NotLoaded<'_> {
     }
 }
 
-/// How often loading a patch was tried, and how often that started a transition.
+/// How often loading a patch was tried, and how often a try started a transition.
 #[derive(Clone, Copy)]
 struct Tally {
     tried: u64,
@@ -204,7 +205,7 @@ impl Tally {
     }
 }
 
-/// What becomes of all patches together.
+/// The result of loading all patches together.
 #[derive(Drop)]
 struct Together<'a> {
     alone: Tally,
@@ -232,7 +233,7 @@ impl fmt::Display for Together<'_> {
 }
 
 impl Together<'_> {
-    /// The first order found in which all patches can be loaded. It is empty if none was.
+    /// The first order found in which all patches can be loaded. It is empty if no such order was found.
     fn first(&self) -> &[PatchId] {
         match &self.orders {
             Some(orders) => orders.first.as_slice(),
@@ -241,7 +242,7 @@ impl Together<'_> {
     }
 }
 
-/// Why a patch can't be loaded over the patches in `below`. The outcome of loading it is known.
+/// Returns why a patch can't be loaded over the patches in `below`. `outcome` is the outcome of loading it.
 fn why_of<'a>(
     linted: Linted<'a>,
     manager: &Manager,
@@ -282,8 +283,8 @@ fn line_of_why(own: &LintedPatch<'_>, outcome: Outcome, why: Why<'_>) -> u64 {
     }
 }
 
-/// Reports that a patch can't be loaded over the patches in `below`. Reports nothing if a symbol is missing, since
-/// `say_unpicked` does. Returns how many findings that is.
+/// Reports that a patch can't be loaded over the patches in `below`. `say_unpicked` reports a missing symbol, so this
+/// function doesn't. Returns the number of findings.
 fn say_outcome<W: Write>(
     own: &LintedPatch<'_>,
     manager: &Manager,
@@ -330,7 +331,8 @@ fn say_not_loaded<W: Write>(
     own.say(remark, &NotLoaded { below: names, why }, out)
 }
 
-/// Loads a patch alone. If it can't be loaded, or stays in transition, reports that. Returns how many findings that is.
+/// Loads a patch alone. If the patch can't be loaded, or stays in transition, reports that. Returns the number of
+/// findings.
 fn try_alone<W: Write>(
     own: &LintedPatch<'_>,
     manager: &mut Manager,
@@ -351,8 +353,8 @@ fn try_alone<W: Write>(
     }
 }
 
-/// Loads a patch over another one that stands alone. If it can't be loaded, reports that, unless the outcome is the
-/// same without the other patch. Returns how many findings that is.
+/// Loads a patch over another one that stays loaded alone. If the patch can't be loaded, reports that. Reports nothing
+/// if the outcome is the same without the other patch. Returns the number of findings.
 fn try_over_one<W: Write>(
     own: &LintedPatch<'_>,
     manager: &mut Manager,
@@ -372,8 +374,8 @@ fn try_over_one<W: Write>(
     say_outcome(own, manager, &[below], outcome, out)
 }
 
-/// Loads a patch over two others that stand. If it can't be loaded, reports that, unless the outcome is the same over
-/// one of the two. Returns how many findings that is.
+/// Loads a patch over two other patches that stay loaded together. If the patch can't be loaded, reports that. Reports
+/// nothing if the outcome is the same over one of the two. Returns the number of findings.
 fn try_over_two<W: Write>(
     own: &LintedPatch<'_>,
     manager: &mut Manager,
@@ -393,7 +395,7 @@ fn try_over_two<W: Write>(
     say_outcome(own, manager, &pair, outcome, out)
 }
 
-/// Whether two patches stand together: the second can be loaded over the first, and doesn't replace it.
+/// Whether two patches stay loaded together: the second can be loaded over the first, and doesn't replace it.
 fn is_pair(linted: Linted<'_>, manager: &mut Manager, first: PatchId, second: PatchId) -> bool {
     let replaces = match linted.patch(second) {
         Some(own) => {
@@ -408,7 +410,7 @@ fn is_pair(linted: Linted<'_>, manager: &mut Manager, first: PatchId, second: Pa
         && stands_over(manager, &[first], second)
 }
 
-/// Loads each patch over each two others that stand together. Returns how many findings there are.
+/// Loads each patch over each pair of other patches that stay loaded together. Returns the number of findings.
 fn try_pairs<W: Write>(
     linted: Linted<'_>,
     manager: &mut Manager,
@@ -428,7 +430,7 @@ fn try_pairs<W: Write>(
     Ok(count)
 }
 
-/// Loads each patch that isn't in the pair over the pair. Returns how many findings there are.
+/// Loads each patch that isn't in the pair over the pair. Returns the number of findings.
 fn try_over<W: Write>(
     linted: Linted<'_>,
     manager: &mut Manager,
@@ -448,7 +450,7 @@ fn try_over<W: Write>(
     Ok(count)
 }
 
-/// Loads a patch alone, and over each other patch. Returns how many findings there are.
+/// Loads a patch alone, and over each other patch. Returns the number of findings.
 fn try_one<W: Write>(
     own: &LintedPatch<'_>,
     manager: &mut Manager,
@@ -464,9 +466,9 @@ fn try_one<W: Write>(
     Ok(count.saturating_add(say_replacing(own, manager, free, out)?))
 }
 
-/// Loads each patch that isn't installed: alone, over each other one, and over each two that stand together. Also loads
-/// all of them in each order. Reports those that can't be loaded, and at last how many can. Returns how many findings
-/// there are.
+/// Loads each patch that isn't installed: alone, over each other such patch, and over each pair of such patches that
+/// stay loaded together. Also loads all such patches in each order. Reports the patches that can't be loaded, and at
+/// the end the number of those that can. Returns the number of findings.
 ///
 /// The manager is only asked for its replies. Afterwards its state is as before, except for the counts of its
 /// callbacks.

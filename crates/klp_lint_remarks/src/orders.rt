@@ -10,7 +10,7 @@ use klp_model::{Event, Reply};
 use klp_types::PatchId;
 use std::fmt;
 
-/// At most this many loadings are tried. All orders of six patches need 1,956.
+/// At most this many loadings are tried. Trying all orders of six patches needs 1,956.
 const MAX_LOADINGS: u32 = 2000;
 
 /// At most this many steps are done. A step loads a patch, skips one that is loaded already, or goes back.
@@ -19,8 +19,8 @@ const MAX_STEPS: u32 = 40_000;
 /// How many events load a patch: an `Enable`, and a poll that completes its transition.
 const LOADING: u32 = 2;
 
-/// The number of orders in which each of some patches can be loaded over those before it. Also has the first such
-/// order, and whether the search was cut off.
+/// The number of orders in which all of some patches can be loaded one after another. Also has the first such order,
+/// and whether the search was cut off.
 #[derive(Drop)]
 pub(crate) struct Orders<'a> {
     patches: &'a [PlanPatch],
@@ -53,7 +53,7 @@ impl fmt::Display for Orders<'_> {
     }
 }
 
-/// Loads a patch. Returns whether its transition completes. If it doesn't, undoes the events.
+/// Loads a patch. Returns whether its transition completes. If the transition doesn't complete, undoes the events.
 fn load(manager: &mut Manager, patch: PatchId) -> bool
     requires { IsWellFormed manager.old }
 {
@@ -74,7 +74,7 @@ fn take_back(manager: &mut Manager, mark: u32)
 }
 
 /// A search for orders. `order` is the beginning of an order, and its patches are loaded. `next` is the place of the
-/// patch that is tried next, among those that are to be ordered.
+/// patch that is tried next. The place counts over the patches that are to be ordered.
 #[derive(Drop)]
 struct Search {
     mark: u32,
@@ -86,7 +86,7 @@ struct Search {
 }
 
 impl Search {
-    /// Undoes the loading of the last patch. Returns false if none is loaded.
+    /// Undoes the loading of the last patch. Returns false if no patch is loaded.
     fn step_back(&mut self, manager: &mut Manager, free: &[PatchId]) -> bool {
         let Some(last) = self.order.pop() else {
             return false;
@@ -126,7 +126,7 @@ impl Search {
     }
 }
 
-/// Does steps until the search ends. Returns whether it was cut off: there were too many loadings or steps.
+/// Does steps until the search ends. Returns whether the search was cut off because of too many loadings or steps.
 fn search_all(search: &mut Search, manager: &mut Manager, free: &[PatchId]) -> bool {
     for _ in 0..MAX_STEPS {
         if search.loadings == MAX_LOADINGS {
@@ -150,8 +150,8 @@ fn standing_alone(manager: &mut Manager, free: &Order) -> Order {
     standing
 }
 
-/// Counts the orders in which certain patches can be loaded, so that each transition completes. They are those of
-/// `free` that stand if they are loaded alone. `None` if there are fewer than two.
+/// Counts the orders in which certain patches can be loaded, so that each transition completes. The patches are those
+/// of `free` whose transition completes if they are loaded alone. `None` if there are fewer than two such patches.
 pub(crate) fn count_orders<'a>(
     patches: &'a [PlanPatch],
     manager: &mut Manager,

@@ -1,4 +1,4 @@
-//! What is reported, in words or for programs.
+//! Reports, in words or for programs.
 
 use klp_catalog_text::PlanPatch;
 use klp_types::{PatchId, ShadowKey};
@@ -12,7 +12,7 @@ pub enum Form {
     Json,
 }
 
-/// The kind of a report. The last one is about all patches together, each other one about one patch.
+/// The kind of a report. The last kind is about all patches together, and each other kind about one patch.
 #[derive(Clone, Copy, PartialEq, Eq)]
 pub(crate) enum Kind {
     Clean,
@@ -56,8 +56,8 @@ impl Kind {
         }
     }
 
-    /// Whether a report of this kind is a finding: something may be wrong with the patch. The others only say how
-    /// things are.
+    /// Whether a report of this kind is a finding. If so, something may be wrong with the patch. Reports of other kinds
+    /// only describe the patches.
     pub(crate) fn is_finding(self) -> bool {
         !matches!(
             self,
@@ -71,7 +71,7 @@ impl Kind {
     }
 }
 
-/// A report: its kind, the line of the catalog, and the names and numbers of what it is about.
+/// A report: its kind, the line of the catalog, and the names and numbers that it is about.
 #[derive(Clone, Copy)]
 pub(crate) struct Remark<'a> {
     pub(crate) kind: Kind,
@@ -114,7 +114,7 @@ impl fmt::Display for Escaped<'_> {
     }
 }
 
-/// The name of a patch. Empty if there is no such patch.
+/// The name of a patch. The name is empty if there is no such patch.
 pub(crate) fn name_of_patch(patches: &[PlanPatch], patch: PatchId) -> &str {
     match patches.get(usize::from(patch.0)) {
         Some(found) => found.name.as_str(),
@@ -122,7 +122,7 @@ pub(crate) fn name_of_patch(patches: &[PlanPatch], patch: PatchId) -> &str {
     }
 }
 
-/// Writes the names of patches as a sentence has them: `p`, `p and q`, `p, q and r`.
+/// Writes the names of patches as they are listed in a sentence: `p`, `p and q`, `p, q and r`.
 #[derive(Clone, Copy)]
 pub(crate) struct Names<'a> {
     pub(crate) patches: &'a [PlanPatch],
@@ -145,7 +145,8 @@ impl fmt::Display for Names<'_> {
     }
 }
 
-/// Writes the names and numbers that a report is about, as JSON. No byte of a catalog's names must be escaped there.
+/// Writes the names and numbers that a report is about, as JSON. A catalog's names have no byte that must be escaped in
+/// JSON.
 pub(crate) fn write_about<W: Write>(
     remark: Remark<'_>,
     patches: &[PlanPatch],

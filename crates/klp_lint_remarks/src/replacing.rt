@@ -1,4 +1,4 @@
-//! What a cumulative patch does to those that it takes out.
+//! Reports what a cumulative patch does to the patches that it removes.
 ghost use Rattle.std.specs.Prelude.{◌≡◌};
 ghost use Rattle.klp_core.specs.Journaled.{IsWellFormed};
 
@@ -15,7 +15,7 @@ use klp_types::{PatchId, ShadowKey, ShadowValue};
 use std::io::Write;
 use std::{fmt, io};
 
-/// The patches that a cumulative one takes out, and those of their system states that it takes over.
+/// The patches that a cumulative patch removes, and those of their system states whose values it takes over.
 #[derive(Clone, Copy)]
 struct TakesOut<'a> {
     patch: &'a PlanPatch,
@@ -59,7 +59,7 @@ impl fmt::Display for ForgetsState<'_> {
     }
 }
 
-/// A shadow variable that nobody frees any more after its patch was taken out.
+/// A shadow variable that nobody frees after its patch was removed.
 #[derive(Clone, Copy)]
 struct LeavesVariable<'a> {
     key: ShadowKey,
@@ -103,8 +103,8 @@ fn taken_out(own: &LintedPatch<'_>, manager: &mut Manager, free: &Order) -> Orde
     gone
 }
 
-/// Reports those system states of a patch whose values are lost when `own` takes the patch out. Returns how many
-/// findings that is.
+/// Reports those system states of a patch whose values are lost when `own` replaces the patch. Returns the number of
+/// findings.
 fn say_forgotten<W: Write>(own: &LintedPatch<'_>, other: PatchId, out: &mut W) -> io::Result<u64> {
     let mut count = 0u64;
     let Some(gone) = own.linted.patch(other) else {
@@ -132,15 +132,15 @@ fn say_forgotten<W: Write>(own: &LintedPatch<'_>, other: PatchId, out: &mut W) -
     Ok(count)
 }
 
-/// Events that load `below`, load `patch` over it, and then disable `patch`. The last poll isn't among them.
+/// Events that load `below`, load `patch` over it, and then disable `patch`. The last poll isn't part of the list.
 fn replacing(below: PatchId, patch: PatchId) -> Loading {
     let mut events = events_for(&[below, patch]);
     events.push(Event::SetEnabled(patch, false));
     events
 }
 
-/// Reports the shadow variables of a patch that are still there after `own` has taken the patch out, and has left
-/// itself. Returns how many findings that is.
+/// Reports the shadow variables of a patch that still exist after `own` has replaced the patch, and was itself removed.
+/// Returns the number of findings.
 fn say_left<W: Write>(
     own: &LintedPatch<'_>,
     manager: &mut Manager,
@@ -175,7 +175,7 @@ fn say_left<W: Write>(
     Ok(count)
 }
 
-/// Reports which patches a cumulative one takes out, and what stays behind of them.
+/// Reports which patches a cumulative patch removes, and what stays behind of the removed patches.
 pub(crate) fn say_replacing<W: Write>(
     own: &LintedPatch<'_>,
     manager: &mut Manager,

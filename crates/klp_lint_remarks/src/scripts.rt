@@ -1,4 +1,4 @@
-//! What the scripts of a patch change.
+//! Finds what the scripts of a patch change.
 
 use arrayvec::ArrayVec;
 use klp_catalog_text::{PlanCallback, PlanPatch};
@@ -7,7 +7,7 @@ use klp_types::{Edit, MAX_EDITS, MAX_TARGETS, ShadowKey, Which};
 /// The most shadow variables that the callbacks of a patch can add while it is applied.
 const MAX_ADDED: usize = 2 * MAX_TARGETS * MAX_EDITS;
 
-/// The edits that a callback makes. It makes none if its status isn't 0.
+/// Returns the edits that a callback makes. A callback whose status isn't 0 makes no edits.
 pub(crate) fn edits_made(callback: &PlanCallback) -> &[Edit] {
     if callback.script.status == 0 {
         callback.script.edits.as_slice()
@@ -16,7 +16,7 @@ pub(crate) fn edits_made(callback: &PlanCallback) -> &[Edit] {
     }
 }
 
-/// Whether callbacks of this kind run while their patch is applied.
+/// Whether callbacks of this kind run when an object is patched.
 pub(crate) fn is_coming(which: Which) -> bool {
     which == Which::Pre || which == Which::Post
 }
@@ -40,7 +40,7 @@ pub(crate) fn count_all_added(patch: &PlanPatch) -> usize {
     count
 }
 
-/// The shadow variables that the callbacks of a patch may add while it is applied, each once.
+/// The shadow variables that the callbacks of a patch may add while it is applied. Each variable is listed once.
 pub(crate) fn keys_added(patch: &PlanPatch) -> ArrayVec<ShadowKey, MAX_ADDED> {
     let mut keys = ArrayVec::new();
     for target in patch.targets.iter() {
@@ -79,8 +79,8 @@ fn change_by(id: u64, edit: &Edit) -> Change {
     }
 }
 
-/// What the callbacks of a patch do with this system state while the patch is applied. If they take over its value and
-/// also set it, the result is that they take it over.
+/// Returns what the callbacks of a patch do with this system state while the patch is applied. If the callbacks take
+/// over the state's value and also set it, the result is that they take it over.
 pub(crate) fn change_of(patch: &PlanPatch, id: u64) -> Change {
     let mut change = Change::Nothing;
     for target in patch.targets.iter() {

@@ -6,15 +6,15 @@ use klp_catalog_text::{PlanPatch, SystemState};
 use klp_types::{MAX_PATCHES, PatchId};
 use std::fmt;
 
-/// A system state of an installed patch that doesn't fit another patch. The other patch has it in a lower version, or
-/// is cumulative and doesn't have it.
+/// A system state of an installed patch that doesn't fit another patch. The other patch either has the state in a lower
+/// version, or is cumulative and doesn't have the state.
 #[derive(Clone, Copy)]
 pub(crate) struct Conflict<'a> {
     pub(crate) id: u64,
-    /// The version that the installed patch has.
+    /// The version of the system state in the installed patch.
     there: u32,
     installed: &'a str,
-    /// The version that the other patch has, if it has the system state.
+    /// The version of the system state in the other patch, if that patch has the state.
     own: Option<u32>,
     /// The index of this system state among those of the other patch.
     pub(crate) place: Option<usize>,
@@ -36,7 +36,8 @@ impl fmt::Display for Conflict<'_> {
     }
 }
 
-/// The patches that are installed after those in `below` are loaded. A cumulative one takes out all older ones.
+/// Returns the patches that are installed after the patches in `below` are loaded. A cumulative patch removes all older
+/// ones.
 fn standing(
     patches: &[PlanPatch],
     installed: &[PatchId],
@@ -57,7 +58,7 @@ fn standing(
     standing
 }
 
-/// The conflict between a patch and this system state of an installed one. `None` if they fit.
+/// Returns the conflict between a patch and this system state of an installed patch. `None` if there is no conflict.
 fn conflict_of<'a>(
     own: &PlanPatch,
     state: &SystemState,
@@ -84,8 +85,8 @@ fn conflict_of<'a>(
     })
 }
 
-/// The first system state that keeps `patch` from being loaded after those in `below`. The patches in `installed` are
-/// installed before these. `None` if there is no such state.
+/// Returns the first system state that keeps `patch` from being loaded after the patches in `below`. The patches in
+/// `installed` are installed before the patches in `below`. `None` if there is no such state.
 pub(crate) fn conflict_with<'a>(
     patches: &'a [PlanPatch],
     installed: &[PatchId],

@@ -26,7 +26,7 @@ pub(crate) struct Linted<'a> {
     pub(crate) patches: &'a [PlanPatch],
 }
 
-/// Writes the value of a shadow variable as a catalog spells it, or that it isn't there.
+/// Writes the value of a shadow variable as a catalog spells it. If the variable doesn't exist, says so.
 #[derive(Clone, Copy)]
 struct Shown(Option<ShadowValue>);
 
@@ -66,8 +66,8 @@ pub(crate) fn name_of(which: Which) -> &'static str {
     }
 }
 
-/// A pair of callbacks behind which a shadow variable has another value than before. `first` is the line of the first
-/// callback. It is 0 if the catalog has no such line, or if the report itself names it.
+/// A pair of callbacks after which a shadow variable has another value than before. `first` is the line of the first
+/// callback. It is 0 if the catalog has no such line, or if the report itself names the line.
 #[derive(Clone, Copy)]
 struct NotUndone<'a> {
     object: &'a str,
@@ -98,7 +98,7 @@ impl fmt::Display for NotUndone<'_> {
     }
 }
 
-/// Two objects whose callbacks change the same shadow variable. `line` is that of the first object's target.
+/// Two objects whose callbacks change the same shadow variable. `line` is the line of the first object's target.
 #[derive(Clone, Copy)]
 struct NotApart<'a> {
     one: &'a str,
@@ -131,7 +131,8 @@ impl<'a> LintedPatch<'a> {
         self.line_behind(target, word, 0)
     }
 
-    /// The line of a target or of the whole patch that begins with this word, behind `before` others that do.
+    /// Returns the line of a target, or of the whole patch, that begins with this word. `before` is how many lines that
+    /// begin with the word precede it.
     pub(crate) fn line_behind(
         &self,
         target: Option<usize>,
@@ -156,7 +157,7 @@ impl<'a> LintedPatch<'a> {
         }
     }
 
-    /// Reports something about the patch. Returns how many findings that is: 1 or 0.
+    /// Reports something about the patch. Returns the number of findings, which is 1 or 0.
     pub(crate) fn say<W: Write, S: fmt::Display>(
         &self,
         remark: Remark<'_>,
@@ -281,7 +282,7 @@ impl fmt::Display for NotJudged<'_> {
 }
 
 impl<'a> Linted<'a> {
-    /// The patch of this number. `None` if there is none.
+    /// The patch with this number. `None` if there is no such patch.
     pub(crate) fn patch(&self, patch: PatchId) -> Option<LintedPatch<'a>> {
         let number = usize::from(patch.0);
         let own = self.patches.get(number)?;
@@ -299,7 +300,8 @@ impl<'a> Linted<'a> {
         }
     }
 
-    /// Reports something about all patches together. A program also gets the names of those in `others`.
+    /// Reports something about all patches together. In the form for programs, the report also has the names of the
+    /// patches in `others`.
     pub(crate) fn say<W: Write, S: fmt::Display>(
         &self,
         sentence: &S,

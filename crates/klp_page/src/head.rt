@@ -1,4 +1,4 @@
-//! What stands on a page above its rows, and below them.
+//! The parts of a page above its rows and below them.
 ghost use Rattle.std.specs.Prelude.{◌≡◌, [], ◌++◌, codes, count_by, Some, if◌then◌else◌};
 ghost use Rattle.std.specs.Fmt.{decimal};
 ghost use Rattle.klp_markup.specs.Adds.{Adds};
@@ -17,8 +17,8 @@ use klp_names::Names;
 use klp_story::{add_end, add_story};
 use klp_timeline::{Fact, Said, Sentence, View};
 
-/// What the head of a page says: the name of the run and the names of tasks; how many lines there were, and how many of
-/// these were refused; how many transitions started, and whether one is still under way.
+/// The contents of a page's head. They are the name of the run, the names of tasks, the number of lines and the number
+/// of refused lines. The head also says how many transitions started, and whether a transition is still under way.
 #[derive(Clone, Copy)]
 pub(crate) struct Title<'a> {
     pub name: &'a [u8],
@@ -33,8 +33,8 @@ pub(crate) struct Title<'a> {
     pub differing: Option<Differing>,
 }
 
-/// At how many rows of a trace the kernel differs from the rules, and the number of the first such row. The number is 0
-/// if there is no such row.
+/// How many rows of a trace differ from the rules, and the number of the first such row. If there is no such row, the
+/// number of the first row is 0.
 #[derive(Clone, Copy)]
 pub struct Differing {
     pub rows: u64,
@@ -61,7 +61,7 @@ pub(crate) fn transitions(sentences: &[Sentence]) -> u64
     count as u64
 }
 
-/// Adds a number, and behind it the name of what it counts: `one` for 1, `many` for any other number.
+/// Adds a number and a noun behind it. The noun is `one` for 1, and `many` for any other number.
 fn add_count(sheet: &mut Sheet, count: u64, one: &'static str, many: &'static str)
     ensures { Adds sheet.old sheet.new (count_text count one.now many.now) }
 {
@@ -81,7 +81,7 @@ fn add_refusals(sheet: &mut Sheet, count: u64)
     }
 }
 
-/// Adds the words that say that a transition is still under way. Adds nothing if none is.
+/// Adds the words that say that a transition is still under way. Adds nothing if no transition is.
 fn add_under_way(sheet: &mut Sheet, is_moving: bool)
     ensures { Adds sheet.old sheet.new (if is_moving then codes ", one still under way" else []) }
 {
@@ -125,7 +125,7 @@ fn add_trace_style(sheet: &mut Sheet, differing: &Option<Differing>)
     }
 }
 
-/// Adds the style of the page, and those of its drawing and its cards.
+/// Adds the style of the page, and the styles of its drawing and its cards.
 fn add_style(sheet: &mut Sheet, names: &Names, differing: &Option<Differing>)
     ensures { Adds sheet.old sheet.new (style_text names.now differing.now) }
 {
@@ -149,8 +149,8 @@ fn add_first(sheet: &mut Sheet, first: u64)
     sheet.markup(FIRST_END);
 }
 
-/// Adds the number of rows at which the kernel differs from the rules, with a link to the first. Adds nothing if there
-/// is no such row.
+/// Adds the number of rows at which the kernel differs from the rules, with a link to the first such row. Adds nothing
+/// if there is no such row.
 fn add_different(sheet: &mut Sheet, differing: Differing)
     ensures { Adds sheet.old sheet.new (different_text differing) }
 {
@@ -160,7 +160,8 @@ fn add_different(sheet: &mut Sheet, differing: Differing)
     add_first(sheet, differing.first);
 }
 
-/// Adds the sentence that says at how many rows the kernel differs from the rules, or that it agrees with them.
+/// Adds the sentence that says at how many rows the kernel differs from the rules. If there is no such row, the
+/// sentence says that the kernel agrees with the rules.
 fn add_differing(sheet: &mut Sheet, differing: Differing)
     ensures { Adds sheet.old sheet.new (compared_text (Some differing)) }
 {
@@ -194,7 +195,8 @@ fn add_opening(sheet: &mut Sheet, title: &Title<'_>)
     sheet.markup(STYLE_END);
 }
 
-/// Returns the number of lines if all of them were refused. Returns `None` if one wasn't, or if there is no line.
+/// Returns the number of lines if all lines were refused. Returns `None` if a line wasn't refused, or if there is no
+/// line.
 fn all_refused(title: &Title<'_>) -> Option<u64>
     ensures { result ≡ all_refused title.now }
 {
@@ -205,7 +207,8 @@ fn all_refused(title: &Title<'_>) -> Option<u64>
     }
 }
 
-/// Adds what stands above the sentences: the beginning of the document, how the run ends, and the title once more.
+/// Adds the part of the page above the sentences: the beginning of the document, the end of the run, and the title once
+/// more.
 pub(crate) fn add_front(
     sheet: &mut Sheet,
     title: &Title<'_>,

@@ -26,8 +26,8 @@ pub struct Layout<'a> {
     lines: u64,
 }
 
-/// Whether a row is open at first. It is if a patch, a transition or a callback did something. It also is if the line
-/// did something that can't be seen in the state.
+/// Whether a row is open at first. A row is open if a patch, a transition or a callback did something. It is also open
+/// if its line did something that can't be seen in the state.
 fn stands_open(parts: &RowParts, act: &Option<Fact>) -> bool {
     parts.patches || parts.callbacks || act.is_some()
 }
@@ -54,8 +54,8 @@ impl<'a> Layout<'a> {
         self.bars.open()
     }
 
-    /// Updates the drawing with a line, and returns the line's cards. There are none if the line neither did nor undid
-    /// an event. `Err` if memory runs out.
+    /// Updates the drawing with a line, and returns the line's cards. If the line neither did nor undid an event, it
+    /// has no cards. `Err` if memory runs out.
     pub fn see(
         &mut self,
         alloc: Global,

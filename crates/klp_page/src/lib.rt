@@ -1,17 +1,17 @@
 //! A page that shows the run of a script: which task holds a transition up, in which function, and what is live
 //! meanwhile.
 //!
-//! [`page_over_text`] boots a manager over a catalog's text, and serves the script line by line. It returns a page with
-//! a row for each line, in order (`specs/Pages`, `Rows`). After each line it notes a moment: what the line did, and
-//! what the manager shows now. Above the rows the page says how the run ends, and whatever there is to say about the
-//! moments (`klp_timeline`, `klp_story`). A row has the line and the console's answer. Where that changed, it also has
-//! the tasks that hold the transition up. The page folds away only lines about which it has nothing to say. All text
-//! from the catalog, the script or the names is escaped (`specs/Text`).
+//! [`page_over_text`] boots a manager with a catalog's text, and serves the script line by line. It returns a page with
+//! a row for each line, in order (`specs/Pages`, `Rows`). After each line it notes a moment: the effect of the line,
+//! and what the manager then shows. Above the rows, the page says how the run ends, and has sentences about the moments
+//! (`klp_timeline`, `klp_story`). A row has the line and the console's answer. If the stays changed with the line, the
+//! row also has the tasks that hold the transition up. The page folds away only lines about which it has nothing to
+//! say. All text from the catalog, the script or the names is escaped (`specs/Text`).
 //!
-//! An observer may know what tasks are called, and when lines were ([`klp_names::Names`]). The page shows that beside
-//! their numbers. Without these the page only has the numbers.
+//! An observer may know the names of tasks and the times of lines ([`klp_names::Names`]). The page shows known names
+//! and times beside the numbers of tasks and lines. If no names and times are known, the page has only the numbers.
 //!
-//! The drawing, and what an open row shows, are layout. `klp_drawing` and `klp_page_layout` make them.
+//! The drawing, and the contents of an open row, are layout. `klp_drawing` and `klp_page_layout` make them.
 #![tactic(auto)]
 
 mod head;

@@ -1,4 +1,4 @@
-//! Boots a manager over a catalog's text, and makes the page of a script that the manager serves.
+//! Boots a manager with a catalog's text, and makes the page of a script that the manager serves.
 ghost use Rattle.std.specs.Prelude.{◌≡◌, length, count_by, IfOk, IfErr};
 ghost use Rattle.klp_catalog_text.specs.Within.{AreTargetsWithin};
 ghost use Rattle.klp_page.specs.Rows.{last_view};
@@ -140,8 +140,8 @@ fn paged(
     )?)
 }
 
-// Serves a script with a manager, drops the manager, and returns the page. Managers are dropped only by `close`, so
-// that the drop is proved once.
+// Serves a script with a manager, drops the manager, and returns the page. Only `close` drops managers, so the drop is
+// proved once.
 fn page_over_manager(
     alloc: Global,
     mut manager: Manager,
@@ -158,8 +158,8 @@ fn page_over_manager(
     page
 }
 
-// Boots a manager over a plan, serves the script with it, and returns the page. The callbacks are made in this
-// function, since no function may return a boxed value that it makes.
+// Boots a manager over a plan, serves the script with it, and returns the page. No function may return a boxed value
+// that it makes, so the callbacks are made in this function.
 fn page_over_plan(
     alloc: Global,
     plan: Plan,
@@ -198,8 +198,8 @@ pub fn page_over_text(
     page_over_plan(alloc, plan, name, names, script)
 }
 
-/// Writes the page of a script to `out` after all lines are served. If there is a fault before that, writes nothing. If
-/// the page can't be written, returns the fault of a failed write.
+/// Writes the page of a script to `out` after all lines are served. If a fault is found before the page is complete,
+/// writes nothing. If the page can't be written, returns the fault of a failed write.
 pub fn write_page<W: Write>(
     alloc: Global,
     catalog: &[u8],

@@ -29,7 +29,7 @@ struct Answered {
     outcome: Outcome,
 }
 
-/// The rows of the lines that were served, with what each line did and the state after it.
+/// The rows of the lines that were served, with the effect of each line and the state after it.
 #[derive(Drop)]
 pub struct Recorded {
     pub rows: Vec<Row>,
@@ -67,8 +67,8 @@ fn answer<M: Ledger>(
     }
 }
 
-/// Returns what a line did, and the state after it. `before` is the state before the line, `from` the number of events
-/// before it, and `outcome` its outcome.
+/// Returns the effect of a line, and the state after it. `before` is the state before the line, `from` is the number of
+/// events before the line, and `outcome` is the line's outcome.
 fn moment_of(manager: &Manager, before: &View, outcome: &Outcome, from: u32) -> Moment
     ensures seen { IsView (setting_of manager.now.managed) manager.now.managed.state result.view }
     ensures did { result.act ≡ act_of before.now.moving outcome.now from (length manager.now.groups) }
@@ -79,8 +79,8 @@ fn moment_of(manager: &Manager, before: &View, outcome: &Outcome, from: u32) -> 
     }
 }
 
-/// Adds those tasks that hold the transition up. `number` is the number of the task that has the first of `stays`.
-/// `Err` if memory runs out.
+/// Adds those tasks that hold the transition up. `number` is the number of the task to which the first of `stays`
+/// belongs. `Err` if memory runs out.
 fn add_holders(
     tasks: &mut Vec<TaskId>,
     number: usize,
@@ -98,8 +98,8 @@ fn add_holders(
     add_holders(tasks, number + 1, rest)
 }
 
-/// Returns the tasks that a row shows as holding the transition up. If no stay changed with this line, there are none,
-/// even if a task holds the transition up. `Err` if memory runs out.
+/// Returns the tasks that a row shows as holding the transition up. If no stay changed with this line, the row shows no
+/// task, even if a task holds the transition up. `Err` if memory runs out.
 fn holders_shown(alloc: Global, before: &View, after: &View) -> Result<Vec<TaskId>, AllocError>
     ensures { IfOk result (λ tasks. tasks.items ≡ holders_shown before.now after.now) }
 {
@@ -110,7 +110,7 @@ fn holders_shown(alloc: Global, before: &View, after: &View) -> Result<Vec<TaskI
     Ok(tasks)
 }
 
-/// Serves one line. Returns its row, what the line did, and the state after it. `Err` if memory runs out.
+/// Serves one line. Returns the line's row, its effect, and the state after it. `Err` if memory runs out.
 pub fn record_line(
     alloc: Global,
     manager: &mut Manager,
@@ -192,8 +192,8 @@ fn record_lines(
     Ok(())
 }
 
-/// Serves a script. Returns a row for each of its lines, and what each line did. `Err` if a line is too long, or if
-/// memory runs out.
+/// Serves a script. Returns a row for each line of the script, and the effect of each line. `Err` if a line is too
+/// long, or if memory runs out.
 pub(crate) fn record(
     alloc: Global,
     manager: &mut Manager,

@@ -22,9 +22,10 @@ pub struct Row {
     pub line: Vec<u8>,
     pub answer: Vec<u8>,
     pub is_refused: bool,
-    /// Whether the page may fold the row away: the line wasn't refused, and there is nothing to say about it.
+    /// Whether the page may fold the row away. It may if the line wasn't refused and there is nothing to say about the
+    /// line.
     pub is_quiet: bool,
-    /// The tasks that hold the transition up after the line. It is empty also if no stay changed with this line.
+    /// The tasks that hold the transition up after the line. The list is also empty if no stay changed with this line.
     pub holders: Vec<TaskId>,
     /// Whether the row's cards are shown at first.
     pub is_open: bool,
@@ -36,7 +37,7 @@ pub struct Row {
     pub differs: bool,
 }
 
-/// Adds the names of the tasks that hold the transition up. Adds nothing if there are none.
+/// Adds the names of the tasks that hold the transition up. Adds nothing if no task does.
 fn add_mark(sheet: &mut Sheet, names: &Names, tasks: &[TaskId])
     ensures { Adds sheet.old sheet.new (mark_text names.now tasks.now) }
 {
@@ -202,7 +203,8 @@ fn add_row(sheet: &mut Sheet, names: &Names, number: u64, row: &Row)
     }
 }
 
-/// Begins a fold if `quiet` is [`QUIET_ROWS`]. `quiet` is how many quiet rows stand in succession before the next one.
+/// Begins a fold in front of the next quiet row if `quiet` is [`QUIET_ROWS`]. `quiet` is how many quiet rows stand in
+/// succession before the next row.
 fn add_fold_start(sheet: &mut Sheet, quiet: usize)
     ensures { Adds sheet.old sheet.new (fold_start quiet) }
 {
@@ -212,8 +214,8 @@ fn add_fold_start(sheet: &mut Sheet, quiet: usize)
     }
 }
 
-/// Ends a fold behind `quiet` successive quiet rows, and says how many of these are folded away. Adds nothing if none
-/// is.
+/// Ends a fold behind `quiet` successive quiet rows, and says how many of these rows are folded away. Adds nothing if
+/// no row is folded away.
 fn add_fold_end(sheet: &mut Sheet, quiet: usize)
     ensures { Adds sheet.old sheet.new (fold_end quiet) }
 {
@@ -225,7 +227,8 @@ fn add_fold_end(sheet: &mut Sheet, quiet: usize)
     }
 }
 
-/// Adds the rows in order. Of successive quiet rows, shows the first [`QUIET_ROWS`], and folds the others away.
+/// Adds the rows in order. Of successive quiet rows, shows the first [`QUIET_ROWS`], and folds away the rows behind
+/// them.
 pub(crate) fn add_rows(sheet: &mut Sheet, names: &Names, rows: &[Row])
     ensures { Adds sheet.old sheet.new (rows_text names.now rows.now) }
 {

@@ -1,6 +1,6 @@
-//! The markup of every page: its beginning and its end, its style, and what a row is made of.
+//! The markup of every page: its beginning and its end, its style, and the parts of a row.
 
-/// How many successive quiet rows a page shows. Any further ones are folded away.
+/// How many successive quiet rows a page shows. If there are more, the page folds away the further rows.
 pub(crate) const QUIET_ROWS: usize = 10;
 
 pub(crate) const HEAD: &str = "<!doctype html><html lang=en><meta charset=utf-8>
@@ -61,7 +61,7 @@ pub(crate) const STYLE_END: &str = "</style>
 
 pub(crate) const COUNTS: &str = "<p class=soft>";
 
-/// What a trace's page says behind its title if the kernel nowhere differs from the rules.
+/// The sentence behind the title of a trace's page, if the kernel nowhere differs from the rules.
 pub(crate) const AGREES: &str = ". Whatever the trace says of the kernel is as the rules say.";
 
 /// The text in front of the number of the first row at which the kernel differs from the rules.

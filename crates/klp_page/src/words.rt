@@ -12,7 +12,7 @@ const NAME: &str = "klppage";
 /// The word in front of a trace.
 const TRACE: &str = "--trace";
 
-/// The paths of the files that a page is made of.
+/// The paths of the files from which a page is made.
 #[derive(Clone, Copy)]
 pub struct PageFiles<'a> {
     pub catalog: &'a str,
@@ -30,8 +30,8 @@ fn begins_with_dash(word: &str) -> bool
     word.as_bytes().first() == Some(&b'-')
 }
 
-/// Returns the paths that follow the catalog's, with what each is for. Returns `None` if there are too few or too many,
-/// or if one is an option.
+/// Returns the paths that follow the catalog's path, each with its purpose. Returns `None` if there are too few or too
+/// many paths, or if one is an option.
 fn files_with<'a>(catalog: &'a str, words: &'a [String], is_trace: bool) -> Option<PageFiles<'a>>
     ensures { option_map meaning result ≡ files_with is_trace catalog.now (map string_bytes words.now) }
 {
@@ -57,8 +57,8 @@ fn files_with<'a>(catalog: &'a str, words: &'a [String], is_trace: bool) -> Opti
     }
 }
 
-/// Returns the paths that these arguments name: those of a catalog, of a script or a trace, and perhaps of names.
-/// Returns `None` for any other arguments.
+/// Returns the paths that these arguments name: the path of a catalog, the path of a script or a trace, and perhaps the
+/// path of a file of names. Returns `None` for any other arguments.
 fn files_in<'a>(given: &'a [String]) -> Option<PageFiles<'a>>
     ensures { option_map meaning result ≡ page_files (map string_bytes given.now) }
 {
@@ -71,9 +71,9 @@ fn files_in<'a>(given: &'a [String]) -> Option<PageFiles<'a>>
     }
 }
 
-/// Reads the program's arguments: the path of a catalog, then that of a script, or `--trace` and that of a trace, and
-/// last that of names, which may be left out. If they aren't these, writes a message to `err`, and returns the exit
-/// status as `Err`.
+/// Reads the program's arguments. The first one is the path of a catalog. The path of a script follows, or `--trace`
+/// and the path of a trace. The last one is the path of a file of names, and may be left out. For any other arguments,
+/// writes a message to `err`, and returns the exit status as `Err`.
 pub fn page_words<'a, W: Write>(given: &'a [String], err: &mut W) -> Result<PageFiles<'a>, u8>
     ensures { MatchResult result
         (λ files. page_files (map string_bytes given.now) ≡ Some (meaning files))

@@ -36,8 +36,8 @@ impl Callbacks {
         self.watched.open(manager)
     }
 
-    /// Reads the watched shadow variables that an event without callbacks changed. Otherwise a later event would seem
-    /// to have changed them. Does nothing if the catalog has no callback. `Err` if memory runs out.
+    /// Reads the watched shadow variables that an event without callbacks changed. If they weren't read now, a later
+    /// event would seem to have changed them. Does nothing if the catalog has no callback. `Err` if memory runs out.
     pub(crate) fn hear(&mut self, manager: &Manager, outcome: &Outcome) -> Result<(), AllocError> {
         match outcome {
             Outcome::Answered(event, Ok(_)) if !self.calls.is_empty() => {

@@ -9,8 +9,8 @@ use std::alloc::{AllocError, Global};
 /// The kinds of callbacks, in the order in which a patch runs those of one object.
 const KINDS: [Which; 4] = [Which::Pre, Which::Post, Which::PreUn, Which::PostUn];
 
-/// How many values `turn_of` can return: for callbacks of applied patches, and again for those of removed ones, one for
-/// each installed patch and one for a new patch.
+/// How many values `turn_of` can return. The callbacks of applied patches have one value for each installed patch and
+/// one for a new patch. The callbacks of removed patches have as many further values.
 const TURNS: usize = 2 * (MAX_PATCHES + 1);
 
 /// A callback of the catalog, and how often it had run after the last event.
@@ -22,30 +22,31 @@ struct Call {
     runs: u64,
 }
 
-/// A callback that ran in an event, and its turn among those that did. Callbacks with the same turn ran in the order in
-/// which the catalog has them.
+/// A callback that ran in an event, and its turn among the callbacks that ran in the event. Callbacks with the same
+/// turn ran in the order in which the catalog lists them.
 #[derive(Clone, Copy)]
 struct Ran {
     call: Call,
     turn: usize,
 }
 
-/// All callbacks of a catalog, ordered by patch, by object and by kind; and those that ran in the last event.
+/// All callbacks of a catalog, ordered by patch, by object and by kind. Also has the callbacks that ran in the last
+/// event.
 #[derive(Drop)]
 pub(crate) struct Calls {
     calls: Vec<Call>,
     ran: Vec<Ran>,
 }
 
-/// Whether callbacks of this kind run when an object is patched. The other two kinds run when it is unpatched. If one
-/// event does both, the callbacks of the objects that it patches run first.
+/// Whether callbacks of this kind run when an object is patched. Callbacks of the other two kinds run when an object is
+/// unpatched. If one event both patches and unpatches objects, the callbacks of the patched objects run first.
 fn comes(which: Which) -> bool {
     matches!(which, Which::Pre | Which::Post)
 }
 
-/// Returns the turn of a callback among those of one event. Callbacks of applied patches come before those of removed
-/// ones. In each of the two groups, those of older patches come before those of newer ones. `installed` are the patches
-/// that were installed before the event, oldest first.
+/// Returns the turn of a callback among the callbacks of one event. Callbacks of applied patches run before callbacks
+/// of removed patches. In each of the two groups, the callbacks of an older patch run before those of a newer patch.
+/// `installed` are the patches that were installed before the event, oldest first.
 fn turn_of(call: &Call, installed: &[PatchId]) -> usize {
     let place = installed.iter().position(|patch| *patch == call.patch);
     let place = place.unwrap_or(MAX_PATCHES).min(MAX_PATCHES);
@@ -126,8 +127,9 @@ impl Calls {
         self.calls.is_empty()
     }
 
-    /// Finds the callbacks that ran in an event: their counts of runs have changed. Returns whether a callback ran.
-    /// `installed` are the patches that were installed before the event, oldest first. `Err` if memory runs out.
+    /// Finds the callbacks that ran in an event. A callback ran if its count of runs has changed. Returns whether any
+    /// callback ran. `installed` are the patches that were installed before the event, oldest first. `Err` if memory
+    /// runs out.
     pub(crate) fn look(
         &mut self,
         manager: &Manager,

@@ -1,4 +1,4 @@
-//! The cards of what a line itself did, and those of the patches.
+//! The cards of the effect of a line, and the cards of patches.
 
 use klp_core::Manager;
 use klp_markup::Value::{Markup, Name};
@@ -7,7 +7,7 @@ use klp_names::Names;
 use klp_timeline::{Fact, View, lagging};
 use klp_types::{Mode, PatchId};
 
-/// Adds a card of a patch or a module: its name, and what it did.
+/// Adds a card of a patch or a module. The card has the name and the text `what`.
 fn add_card(sheet: &mut Sheet, class: &'static str, name: &[u8], what: &'static str) {
     sheet.fill(
         "<div class={}><b>{}</b> {}</div>",
@@ -15,7 +15,7 @@ fn add_card(sheet: &mut Sheet, class: &'static str, name: &[u8], what: &'static 
     );
 }
 
-/// Adds a card of what a line did. Adds nothing if the cards of patches and tasks show that.
+/// Adds a card of the effect of a line. Adds nothing if the cards of patches and tasks show the effect.
 pub(crate) fn add_act(sheet: &mut Sheet, manager: &Manager, act: &Option<Fact>) {
     let (catalog, modules) = (manager.catalog(), manager.modules());
     let (name, what) = match *act {
@@ -52,8 +52,8 @@ fn standing(manager: &Manager, view: &View, patch: PatchId) -> (&'static str, &'
     }
 }
 
-/// Returns the words that say where lagging tasks in this mode are, and when each will switch. `count` is the number of
-/// these tasks, and decides between singular and plural.
+/// Returns the words for tasks that lag in this mode. The words say where the tasks are, and when each task will
+/// switch. If `count` is 1, the words are in the singular.
 fn switching(mode: Mode, count: usize) -> &'static str {
     match mode {
         Mode::User => plural(
@@ -75,7 +75,7 @@ fn switching(mode: Mode, count: usize) -> &'static str {
 }
 
 /// Adds a list item for those tasks in this mode that lag without holding the transition up. Adds nothing if there are
-/// none.
+/// no such tasks.
 fn add_waiting(sheet: &mut Sheet, names: &Names, view: &View, mode: Mode) {
     let laggards = lagging(mode, &view.waits);
     let tasks = laggards.as_slice();
@@ -86,7 +86,7 @@ fn add_waiting(sheet: &mut Sheet, names: &Names, view: &View, mode: Mode) {
     }
 }
 
-/// Adds a card of the tasks that lag without holding the transition up. Adds nothing if there are none.
+/// Adds a card of the tasks that lag without holding the transition up. Adds nothing if there are no such tasks.
 fn add_lagging(sheet: &mut Sheet, names: &Names, view: &View) {
     if view.waits.iter().all(|waits| waits.is_none()) {
         return;
@@ -98,8 +98,8 @@ fn add_lagging(sheet: &mut Sheet, names: &Names, view: &View) {
     sheet.markup("</ul></div>");
 }
 
-/// Adds a card for each patch that is installed after a line, and for each that the line removed. Adds another card for
-/// the tasks that lag.
+/// Adds a card for each patch that is installed after a line, and for each patch that the line removed. Also adds a
+/// card for the tasks that lag.
 pub(crate) fn add_patches(
     sheet: &mut Sheet,
     names: &Names,

@@ -1,4 +1,4 @@
-//! What each line of a run changed.
+//! The changes that each line of a run made.
 
 use crate::callbacks::Callbacks;
 use crate::cards::{add_act, add_patches, are_patches_changed};
@@ -18,7 +18,7 @@ use klp_timeline::{Moment, View};
 use klp_types::{Entry, MAX_PATCHES, MAX_TASKS, Site, TaskId};
 use std::alloc::{AllocError, Global};
 
-/// At most this many tasks have a card at one line.
+/// The largest number of tasks that have a card at one line.
 const MAX_CARDS: u64 = 12;
 
 /// What a line changed, and the cards that show it.
@@ -34,7 +34,7 @@ pub struct RowParts {
     pub holders: bool,
     /// Whether a callback ran.
     pub callbacks: bool,
-    /// The cards, which stand side by side. There are none if nothing changed.
+    /// The cards, which are shown side by side. There are no cards if nothing changed.
     pub cards: Sheet,
 }
 
@@ -58,8 +58,9 @@ pub struct Chronicle<'a> {
     callbacks: Callbacks,
 }
 
-/// What tasks did at one line. It has whether a task changed, and whether one began or stopped to hold the transition
-/// up. It also counts the tasks that have a card, and those for which there was no room.
+/// The changes of tasks at one line. Says whether a task changed, and whether a task began to hold the transition up or
+/// stopped holding it up. Also has the number of tasks with a card, and the number of tasks for which there was no
+/// room.
 #[derive(Clone, Copy)]
 struct Crowd {
     is_changed: bool,
@@ -80,8 +81,8 @@ impl<'a> Chronicle<'a> {
         }
     }
 
-    /// Begins to watch the shadow variables that the scripts of a plan change. This must be the plan over which the
-    /// manager will be booted. `Err` if memory runs out.
+    /// Begins to watch the shadow variables that the scripts of a plan change. The manager must be booted over the same
+    /// plan later. `Err` if memory runs out.
     pub fn watch(&mut self, plan: &Plan) -> Result<(), AllocError> {
         self.callbacks.watch(plan)
     }
@@ -95,8 +96,8 @@ impl<'a> Chronicle<'a> {
         self.callbacks.open(manager)
     }
 
-    /// Returns what a line changed, and its cards. Call this for each line that did an event or undid some. Other lines
-    /// change nothing. `Err` if memory runs out.
+    /// Returns the changes that a line made, and the line's cards. Other lines than those that did or undid an event
+    /// change nothing, so call this only for lines that did. `Err` if memory runs out.
     pub fn describe(
         &mut self,
         alloc: Global,
@@ -160,7 +161,7 @@ impl<'a> Chronicle<'a> {
         Ok(false)
     }
 
-    /// Adds the cards of the tasks that did something. Returns what these tasks did, taken together.
+    /// Adds the cards of the tasks that did something. Returns the changes of all these tasks together.
     fn describe_tasks(
         &mut self,
         sheet: &mut Sheet,

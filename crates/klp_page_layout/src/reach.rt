@@ -1,10 +1,10 @@
-//! What a line can have changed.
+//! The parts of the state that a line can have changed.
 
 use klp_console::Outcome;
 use klp_model::{Event, Reply};
 use klp_types::TaskId;
 
-/// What a line may have changed. Nothing else needs to be compared.
+/// The parts of the state that a line may have changed. No other part needs to be compared.
 #[derive(Clone, Copy)]
 pub(crate) enum Reach {
     /// Nothing that is on a card.

@@ -1,4 +1,4 @@
-//! What is noted of a task after a line. The next line's task is compared with it.
+//! What is noted of a task after a line. After the next line, the task is compared with what was noted.
 
 use klp_core::Manager;
 use klp_timeline::Stay;
@@ -17,7 +17,7 @@ pub(crate) struct TaskShot {
     pub frames: Frames,
 }
 
-/// Returns what is noted of a task now. Returns `None` if there is no such task.
+/// Returns what is to be noted of a task now. Returns `None` if there is no such task.
 pub(crate) fn task_shot(manager: &Manager, task: TaskId, stay: &Option<Stay>) -> Option<TaskShot> {
     let mode = manager.mode(task)?;
     let state = manager.patch_state(task)?;
@@ -57,8 +57,9 @@ fn are_frames_same(before: &TaskShot, after: &TaskShot) -> bool {
     before.frames.as_slice() == after.frames.as_slice()
 }
 
-/// Whether a task did something. It did if it began or ended, if its mode or its functions changed, if it switched, or
-/// if it began or ceased to be in a stay. The beginning or end of a transition doesn't count.
+/// Whether a task did something. A task did something if it began or ended, if its mode or its functions changed, or if
+/// it switched. It also did something if a stay of the task began or ended. The beginning or end of a transition
+/// doesn't count.
 pub(crate) fn did_something(before: &Option<TaskShot>, after: &Option<TaskShot>) -> bool {
     match (before, after) {
         (Some(before), Some(after)) => {
@@ -73,7 +74,7 @@ pub(crate) fn did_something(before: &Option<TaskShot>, after: &Option<TaskShot>)
     }
 }
 
-/// Whether the patch state of a task changed. Here the beginning or end of a transition counts too.
+/// Whether the patch state of a task changed. A change by the beginning or end of a transition counts too.
 pub(crate) fn has_other_state(before: &Option<TaskShot>, after: &Option<TaskShot>) -> bool {
     match (before, after) {
         (Some(before), Some(after)) => before.state != after.state,

@@ -1,6 +1,6 @@
 //! The style of cards.
 
-/// The style of cards. They stand in a box of the class `now`. Whatever a card says by a colour, it also says in words.
+/// The style of cards. Cards are in a box of the class `now`. Whatever a card says by a colour, it also says in words.
 pub const STYLE: &str =
     ".now{display:grid;grid-template-columns:repeat(auto-fill,minmax(16rem,1fr));gap:.6rem;
 padding:.2rem .2rem 1rem 4rem}

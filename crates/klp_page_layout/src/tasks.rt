@@ -38,8 +38,9 @@ fn mode_text(mode: Mode) -> &'static str {
     }
 }
 
-/// Returns the words that say whether a task is at the target of the transition under way. If the task isn't, they say
-/// when it will switch, or that it holds the transition up. Without a transition, returns no words.
+/// Returns the words that say whether a task is at the target of the transition under way. If the task isn't at the
+/// target, the words say when it will switch, or that it holds the transition up. Without a transition, returns no
+/// words.
 fn progress(actor: &Actor<'_>) -> &'static str {
     let Some(moving) = actor.moving else {
         return "";
@@ -57,8 +58,8 @@ fn progress(actor: &Actor<'_>) -> &'static str {
     }
 }
 
-/// Returns the words that say why it matters that a task sleeps in this version. Returns no words if it doesn't matter.
-/// If the task is at the target, no version blocks the transition.
+/// Returns the words that say why it matters that a task sleeps in this version. Returns no words if the version
+/// doesn't matter. If the task is at the target, no version blocks the transition.
 fn why_it_matters(manager: &Manager, actor: &Actor<'_>, version: Version) -> &'static str {
     match *actor.stay {
         Some(Stay::Outdated(outdated)) if outdated == version => {
@@ -119,7 +120,7 @@ pub(crate) fn add_ended_card(sheet: &mut Sheet, names: &Names, task: TaskId) {
     sheet.markup("</b> has ended</div>");
 }
 
-/// Adds a card with the number of tasks for which there was no room. Adds nothing if there was room for all.
+/// Adds a card with the number of tasks for which there was no room. Adds nothing if there was room for all tasks.
 pub(crate) fn add_uncarded(sheet: &mut Sheet, count: u64) {
     match count {
         0 => {}

@@ -8,11 +8,11 @@ use klp_model::Event;
 use klp_types::{Edit, MAX_PATCHES, MAX_TARGETS, MAX_VALUE_BYTES, PatchId, ShadowKey, ShadowValue};
 use std::alloc::{AllocError, Global};
 
-/// The largest number of scripts in a catalog. There may be one for each kind of callback, for each object of each
-/// patch.
+/// The largest number of scripts in a catalog. Each patch may have a script for each of its objects and each kind of
+/// callback.
 const MAX_SCRIPTS: usize = 4 * MAX_TARGETS * MAX_PATCHES;
 
-/// At most this many shadow variables are watched. A manager never has so many at one time.
+/// The largest number of shadow variables that are watched. A manager never has so many at one time.
 const MAX_WATCHED: usize = 1_024;
 
 /// A shadow variable, with its value before the last event and its value after it.
@@ -43,8 +43,8 @@ pub(crate) struct Watched {
     is_full: bool,
 }
 
-/// Adds the value of a shadow variable, spelled as in a script. A value of eight bytes is a number. Any other is `x`
-/// and its bytes in hexadecimal.
+/// Adds the value of a shadow variable, spelled as in a script. A value of eight bytes is spelled as a number. Any
+/// other value is spelled as `x` and its bytes in hexadecimal.
 fn add_value(sheet: &mut Sheet, value: &Option<ShadowValue>) {
     let Some(value) = value else {
         sheet.markup("none");
@@ -62,7 +62,7 @@ fn add_value(sheet: &mut Sheet, value: &Option<ShadowValue>) {
 }
 
 impl Variable {
-    /// Reads the variable's value after an event. The value that it had is now the one before the event.
+    /// Reads the variable's value after an event. The value that was stored becomes the value before the event.
     fn look(&mut self, manager: &Manager) {
         self.was = self.value;
         self.value = manager.shadow_get(self.key);
@@ -81,14 +81,15 @@ impl Variable {
 }
 
 impl State {
-    /// Reads the state's value after an event. The value that it had is now the one before the event.
+    /// Reads the state's value after an event. The value that was stored becomes the value before the event.
     fn look(&mut self, manager: &Manager) {
         self.was = self.value;
         self.value = manager.state_of(self.patch, self.id);
     }
 
-    /// If a callback changed the state, returns its value before and after. For a patch that was just installed, the
-    /// value before is 0. Returns `None` if the value is the same, or if the patch left and has no value any more.
+    /// If a callback changed the state, returns its values before and after the event. For a patch that was just
+    /// installed, the value before is 0. Returns `None` if the value is the same as before. Also returns `None` if the
+    /// patch was removed, since it then has no value.
     fn change(&self) -> Option<(u64, u64)> {
         let value = self.value?;
         let was = self.was.unwrap_or(0);
@@ -134,8 +135,8 @@ impl Watched {
         false
     }
 
-    /// Begins to watch a shadow variable. Does nothing if it is watched already. If [`MAX_WATCHED`] others are, only
-    /// notes that some variable isn't. `Err` if memory runs out.
+    /// Begins to watch a shadow variable. Does nothing if the variable is watched already. If [`MAX_WATCHED`] other
+    /// variables are watched, only notes that some variable isn't watched. `Err` if memory runs out.
     fn add_variable(&mut self, key: ShadowKey) -> Result<(), AllocError> {
         if self.is_watched(key) {
             return Ok(());
@@ -192,8 +193,8 @@ impl Watched {
         Ok(())
     }
 
-    /// Begins to watch the shadow variable that an event adds if some script removes all variables of its id. `Err` if
-    /// memory runs out.
+    /// Begins to watch the shadow variable that an event adds, if some script removes all variables with the same id.
+    /// `Err` if memory runs out.
     fn add_named(&mut self, event: &Event) -> Result<(), AllocError> {
         match *event {
             Event::ShadowAlloc(key, _) | Event::ShadowGetOrAlloc(key, _)

@@ -16,7 +16,7 @@ use std::{env, io};
 /// The name by which the program calls itself.
 const NAME: &str = "klpsim";
 
-/// The command that runs two task threads. Behind it stand the names of the arguments.
+/// The command that runs two task threads. The names of its arguments follow in the code below.
 const LIVE: &str = "live";
 
 const CATALOG: &str = "CATALOG";
@@ -29,7 +29,7 @@ const USAGE: u8 = 2;
 /// The status of any other fault.
 const FAULT: u8 = 1;
 
-// Returns the command `console`. It has one argument, a catalog, which may be left out.
+// Returns the command `console`. The command has one argument, a catalog, which may be left out.
 fn console_command<'a>(alloc: Global) -> Result<Command<'a>, AllocError>
     ensures { IfOk result (λ command. IsCommand command console_app) }
 {
@@ -56,7 +56,7 @@ fn command<'a>(alloc: Global) -> Result<Command<'a>, AllocError>
     command.subcommand(live_command(alloc)?)
 }
 
-// Returns the path that was given for the argument of this name. Returns `None` if none was given.
+// Returns the path that was given for the argument of this name. Returns `None` if no path was given.
 fn path_of(
     alloc: Global,
     matches: &ArgMatches<'_>,
@@ -87,7 +87,7 @@ fn wanted(alloc: Global, matches: &ArgMatches<'_>) -> Result<Option<Wanted>, All
     }
 }
 
-// Returns the arguments of the program. `Err` if one of them isn't text, or if memory runs out.
+// Returns the arguments of the program. Returns `Err` if an argument isn't text, or if memory runs out.
 fn words_given<R: Env + AllocGlobal>(rt: &R) -> io::Result<Vec<String>> {
     let mut given = Vec::new(rt.alloc());
     for word in env::args(rt)?.skip(1) {
@@ -96,8 +96,9 @@ fn words_given<R: Env + AllocGlobal>(rt: &R) -> io::Result<Vec<String>> {
     Ok(given)
 }
 
-/// Returns the arguments of the program, which calls itself `name`. If one isn't text, or if memory runs out, writes a
-/// line to `err`. Then returns the exit status as `Err`: 2 for arguments, 1 for memory.
+/// Returns the arguments of the program, which calls itself `name`. If an argument isn't text, or if memory runs out,
+/// writes a line to `err` and returns the exit status as `Err`. The exit status is 2 for a refused argument, and 1 for
+/// lack of memory.
 pub fn program_arguments<R: Env + AllocGlobal, W: Write>(
     rt: &R,
     name: &str,
@@ -131,8 +132,8 @@ fn parse(alloc: Global, given: &[String]) -> Result<Wanted, Option<Fault>>
     }
 }
 
-/// Reads klpsim's arguments. If they are refused, as `--help` is, or if memory runs out, writes a line to `err`. Then
-/// returns the exit status as `Err`: 2 for arguments, 1 for memory.
+/// Reads klpsim's arguments. If they are refused, or if memory runs out, writes a line to `err` and returns the exit
+/// status as `Err`. The exit status is 2 for refused arguments, and 1 for lack of memory. `--help` is refused too.
 pub fn parse_arguments<W: Write>(alloc: Global, given: &[String], err: &mut W) -> Result<Wanted, u8>
     ensures meant { IfOk result (λ words. asked_of (map string_bytes given.now) ≡ Some (meaning words)) }
     ensures refused { IfErr result (λ status. status ≡ 2 → asked_of (map string_bytes given.now) ≡ None) }
@@ -152,8 +153,9 @@ fn begins_with_dash(word: &str) -> bool
     word.as_bytes().first() == Some(&b'-')
 }
 
-/// Returns a program's two arguments, which are its files. `name` is what the program calls itself. If there aren't
-/// exactly two, or if one begins with `-`, writes a line to `err` and returns the exit status 2 as `Err`.
+/// Returns a program's two arguments, which are the paths of its files. `name` is what the program calls itself. If
+/// there aren't exactly two arguments, or if one begins with `-`, writes a line to `err` and returns the exit status 2
+/// as `Err`.
 pub fn file_words<'a, W: Write>(
     name: &str,
     given: &'a [String],
@@ -186,8 +188,8 @@ pub fn report_usage<W: Write>(err: &mut W) -> u8
     report_usage_as(NAME, err)
 }
 
-/// Returns what a program writes if its arguments are refused: how to call it, and where to read more. For klpsim that
-/// is only the word `usage`, since scripts wait for it.
+/// Returns what a program writes if its arguments are refused: how to call the program, and where to read more. Scripts
+/// wait for the word `usage` of klpsim, so klpsim writes only this word.
 fn usage_of(name: &str) -> &'static str {
     match name.as_bytes() {
         b"klpwatch" => "usage: klpwatch CATALOG TRACE (man klpwatch)",

@@ -16,8 +16,8 @@ use klp_modules::Modules;
 use klp_text::Image;
 use std::alloc::Global;
 
-/// Makes the image of a plan's objects, and the table of their names. The plan has no objects afterwards. `Err` if no
-/// image can be made of them, or if memory runs out.
+/// Makes the image of a plan's objects, and the table of their names. The plan has no objects afterwards. Returns `Err`
+/// if no image can be made of the objects, or if memory runs out.
 pub fn opened(alloc: Global, plan: &mut Plan) -> Result<(Image, Modules), Fault>
     ensures rest { plan.new ≡ record plan.old { objects = [] } }
     ensures sound { OnOk result (image_fault plan.old.handler plan.old.objects ≡ None) }
@@ -31,12 +31,12 @@ pub fn opened(alloc: Global, plan: &mut Plan) -> Result<(Image, Modules), Fault>
     Ok((image, modules))
 }
 
-/// Boots a manager over a plan. The manager's text is the image of the plan's objects. Its catalog has the plan's
-/// patches, and none of them is installed. If several things are wrong, a fault of the image is returned before one of
-/// the catalog, and that before one of the manager.
+/// Boots a manager over a plan. The manager's text is the image of the plan's objects. The manager's catalog has the
+/// plan's patches, and no patch is installed. If several things are wrong, a fault of the image is returned first, then
+/// a fault of the catalog, then a fault of the manager.
 ///
-/// The caller makes the callbacks: one for each script of the plan, in the order of the text. They aren't made here,
-/// since the check can't follow a box that a function makes and returns.
+/// The caller makes the callbacks: one for each script of the plan, in the order of the text. The check can't follow a
+/// box that a function makes and returns, so the callbacks aren't made in a function of their own.
 pub fn boot(alloc: Global, mut plan: Plan, callbacks: Vec<Boxed>) -> Result<Manager, Fault>
     requires targets { AreTargetsWithin (length plan.objects) plan.patches }
     requires callbacks { callbacks.items ≡ map never_ran (scripts_of plan.patches) }

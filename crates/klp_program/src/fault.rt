@@ -35,8 +35,8 @@ pub enum Fault {
     Trace(TraceFault),
 }
 
-// These conversions aren't derived: a derived one has no clause, but `boot` and `over_text` promise which fault they
-// return.
+// These conversions aren't derived, since a derived conversion has no clause. `boot` and `over_text` promise which
+// fault they return.
 impl From<TextFault> for Fault {
     ghost from_gives = { λ fault own. own ≡ Text fault };
 

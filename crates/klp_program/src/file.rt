@@ -1,4 +1,4 @@
-//! Reads the catalog over which the console is served, from its file.
+//! Reads the console's catalog from its file.
 ghost use Rattle.std.specs.Prelude.{◌≡◌, ◌⊎◌, IsSome, IfOk, IfErr};
 ghost use Rattle.klp_program.specs.declared.fault.Fault.TheVariants.{CannotRead, NoMemory};
 
@@ -8,8 +8,8 @@ use std::fs;
 use std::io::ErrorKind;
 use std::rt::Files;
 
-/// Returns the whole text of the file at this path. If there is no path, returns the built-in catalog. `Err` if the
-/// file can't be read, or if memory runs out. What a file contains can't be said by a clause.
+/// Returns the whole text of the file at this path. If there is no path, returns the built-in catalog. Returns `Err` if
+/// the file can't be read, or if memory runs out. No clause can say what a file contains.
 pub fn catalog_in<R: Files + AllocGlobal>(rt: &R, path: Option<String>) -> Result<Vec<u8>, Fault>
     ensures built_in { path ≡ None → IfOk result (λ catalog. catalog.items ≡ CATALOG.now) }
     ensures fault { IfErr result (λ fault. (fault ≡ NoMemory) ⊎ ((fault ≡ CannotRead) × IsSome path)) }
@@ -20,7 +20,7 @@ pub fn catalog_in<R: Files + AllocGlobal>(rt: &R, path: Option<String>) -> Resul
     bytes_in(rt, path.as_str())
 }
 
-/// Returns the bytes of the file at this path. `Err` if the file can't be read, or if memory runs out.
+/// Returns the bytes of the file at this path. Returns `Err` if the file can't be read, or if memory runs out.
 pub fn bytes_in<R: Files + AllocGlobal>(rt: &R, path: &str) -> Result<Vec<u8>, Fault>
     ensures { IfErr result (λ fault. (fault ≡ NoMemory) ⊎ (fault ≡ CannotRead)) }
 {
@@ -30,7 +30,7 @@ pub fn bytes_in<R: Files + AllocGlobal>(rt: &R, path: &str) -> Result<Vec<u8>, F
     })
 }
 
-/// Returns the bytes of two files. `Err` if one can't be read, or if memory runs out.
+/// Returns the bytes of two files. Returns `Err` if a file can't be read, or if memory runs out.
 pub fn bytes_in_both<R: Files + AllocGlobal>(
     rt: &R,
     first: &str,

@@ -10,8 +10,8 @@ use std::alloc::{AllocError, Global};
 
 /// A callback that runs a script, in a box whose type says which kind of callback it is.
 ///
-/// A manager needs boxes that don't say the kind. But the check can't follow such a box if a function makes and returns
-/// it. So whoever boots a manager turns a box of this type into one without a kind.
+/// A manager needs boxes whose type doesn't say the kind. The check can't follow such a box if a function makes and
+/// returns it. So the function that boots a manager turns a box of this type into a box without a kind.
 #[derive(Drop)]
 pub(crate) enum Kind {
     Scripted(Box<Scripted>),
@@ -19,7 +19,8 @@ pub(crate) enum Kind {
     Quiet(Box<Quiet>),
 }
 
-// Makes a callback that does what the script says, of the simplest kind that can. `Err` if memory runs out.
+// Makes a callback that does what the script says, of the simplest kind that can run the script. Returns `Err` if
+// memory runs out.
 fn kind_of(alloc: Global, script: &Script) -> Result<Kind, AllocError>
     ensures { IfOk result (λ kind. lent_by kind ≡ never_ran script.now) }
 {
@@ -34,9 +35,9 @@ fn kind_of(alloc: Global, script: &Script) -> Result<Kind, AllocError>
     }
 }
 
-/// Makes a callback for the script with this number, counted in the order of the text. The callback is always of the
-/// kind that can run any script, for callers that want to handle only one kind. Returns `None` if the plan has no such
-/// script.
+/// Makes a callback for the script with this number, counted in the order of the text. Some callers want to handle only
+/// one kind of callback, so the callback is always of the kind that can run any script. Returns `None` if the plan has
+/// no such script.
 pub fn scripted(
     alloc: Global,
     plan: &Plan,

@@ -1,7 +1,6 @@
-//! What the programs do, except for what needs the process. They read their arguments and the catalog's file, and boot
-//! a manager over the catalog's text. `klpsim` lets this manager serve the console (`src/serve.rt`). `klpwatch` checks
-//! a trace against the consistency model, and compares what a kernel answered and showed with the rules
-//! (`src/watch.rt`).
+//! The parts of the programs that don't need the process. They read arguments and the catalog's file, and boot a
+//! manager with the catalog's text. In `klpsim`, this manager serves the console (`src/serve.rt`). `klpwatch` checks a
+//! trace against the consistency model, and compares with the rules what a kernel answered and showed (`src/watch.rt`).
 #![tactic(auto)]
 
 mod arguments;

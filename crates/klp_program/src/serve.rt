@@ -1,4 +1,4 @@
-//! Boots a manager over a catalog's text, and lets it serve the console.
+//! Boots a manager with a catalog's text, and serves the console with the manager.
 ghost use Rattle.std.specs.Prelude.{◌≡◌, ◌≤◌, length};
 ghost use Rattle.klp_catalog_text.specs.Within.{AreTargetsWithin};
 ghost use Rattle.klp_program.specs.Runs.{Exits, Runs, RunsOver, RunsPlan, ServesBy};
@@ -18,8 +18,8 @@ use std::io::{Read, Write};
 use std::marker::Brand;
 use std::sync::ledger::{Blank, Ledger};
 
-/// Drops a manager. Each function that owns a manager ends with this call. That a manager may be dropped is costly to
-/// prove, so it is proved only here.
+/// Drops a manager. It is costly to prove that a manager may be dropped. So each function that owns a manager calls
+/// this function at its end, and the proof is done only here.
 pub fn close(_manager: Manager) {}
 
 // Serves the console with a manager, and then drops the manager.
@@ -41,8 +41,8 @@ fn over_manager<R: Source, W: Sink>(
 
 // Boots a manager over a plan, and serves the console with it.
 //
-// Each script of the text gets a callback of the simplest kind that can run it. The boxes are made here, and none of
-// them is returned: what is proved of a box is lost when the function that makes it returns it.
+// Each script of the text gets a callback of the simplest kind that can run the script. If a function makes a box and
+// returns it, what is proved of the box is lost. So the boxes are made here, and no box is returned.
 fn over_plan<R: Source, W: Sink>(
     alloc: Global,
     plan: Plan,
@@ -100,9 +100,10 @@ fn over_std<R: Read, W: Write, L: Ledger, M: Ledger>(
     over_text(alloc, catalog, &mut reader, &mut writer)
 }
 
-/// Serves the console over a catalog's text until the input ends. Returns the exit status: 0, or 1 after a fault, about
-/// which it writes a line to `err`. If the catalog has a fault, writes nothing to `out`. No clause says what the
-/// streams contain afterwards (docs/DECISIONS.md, "What gathers answers, and its sink"). Tests show that.
+/// Serves the console with a catalog's text until the input ends, and returns the exit status. The status is 0, or 1
+/// after a fault. After a fault, writes a line about the fault to `err`. If the catalog has a fault, writes nothing to
+/// `out`. No clause says what the streams contain afterwards (docs/DECISIONS.md, "What gathers answers, and its sink").
+/// Tests show what they contain.
 pub fn console<R: Read, W: Write, E: Write>(
     alloc: Global,
     catalog: &[u8],

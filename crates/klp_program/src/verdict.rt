@@ -6,8 +6,8 @@ pub struct Counts {
     pub events: usize,
     pub calls: usize,
     pub returns: usize,
-    /// How many answers and sights there are. These were compared with the rules. An event with an answer is counted
-    /// here and as an event.
+    /// How many answers and sights were compared with the rules. An event with an answer is counted both here and as an
+    /// event.
     pub compared: usize,
 }
 

@@ -29,7 +29,8 @@ use std::io::Write;
 /// The name by which the program calls itself.
 const NAME: &str = "klpwatch";
 
-/// The exit status for an honest trace whose kernel does as the rules say. `REFUTED` is that for any other trace.
+/// The exit status for an honest trace whose kernel does as the rules say. `REFUTED` is the exit status for any other
+/// trace.
 const HONEST: u8 = 0;
 
 const REFUTED: u8 = 3;
@@ -59,7 +60,7 @@ fn counted(items: &[Observed]) -> Counts
     counts
 }
 
-/// Returns the verdict that a trace breaks a premise, or that its kernel differs from the rules, as `differs` says.
+/// Returns the verdict that `differs` gives: the trace breaks a premise, or its kernel differs from the rules.
 fn reported(differs: Differs) -> Verdict
     ensures { result ≡ reported differs }
 {
@@ -72,7 +73,7 @@ fn reported(differs: Differs) -> Verdict
     }
 }
 
-/// Returns the verdict on `items`. `ended` is the result of their comparison.
+/// Returns the verdict on `items`. `ended` is the result of comparing the items with the rules.
 fn verdict_of(ended: Result<(), Differs>, items: &[Observed]) -> Verdict
     ensures { MatchResult ended (λ _. result ≡ Honest (counted items.now)) (λ differs. result ≡ reported differs) }
 {
@@ -91,8 +92,8 @@ fn watch_items(mut manager: Manager, items: &[Observed]) -> Verdict
     verdict_of(ended, items)
 }
 
-// Reads a trace by the names of the manager's catalog, and compares it with what the manager does. Drops the manager,
-// even if the trace can't be read.
+// Reads a trace with the names of the manager's catalog, and compares the trace with what the manager does. Drops the
+// manager, even if the trace can't be read.
 fn watch_over_manager(alloc: Global, manager: Manager, trace: &[u8]) -> Result<Verdict, Fault>
     ensures { WatchesBy manager trace.now result }
 {
@@ -105,8 +106,8 @@ fn watch_over_manager(alloc: Global, manager: Manager, trace: &[u8]) -> Result<V
     }
 }
 
-// Boots a manager over a plan, and judges the trace with it. The boxes of the callbacks are made here, as in
-// `over_plan` of serve.rt, but they are all of one kind.
+// Boots a manager over a plan, and judges the trace by what that manager does. The boxes of the callbacks are made
+// here, as in `over_plan` of serve.rt. Here all boxes are of one kind.
 fn watch_over_plan(alloc: Global, plan: Plan, trace: &[u8]) -> Result<Verdict, Fault>
     requires { AreTargetsWithin (length plan.objects) plan.patches }
     ensures { WatchesPlan plan trace.now result }
@@ -119,10 +120,10 @@ fn watch_over_plan(alloc: Global, plan: Plan, trace: &[u8]) -> Result<Verdict, F
     watch_over_manager(alloc, manager, trace)
 }
 
-/// Boots a manager over the catalog's text, and judges a trace with it. There are two questions: whether each item
-/// keeps the premises of the consistency model, and whether the kernel answered and showed what the rules say. The
-/// verdict is on the whole trace, even on a long one: no event is refused because the journal is full. `Err` if the
-/// catalog or the trace has a fault, or if memory runs out.
+/// Boots a manager with the catalog's text, and judges a trace by what that manager does. Two questions are answered:
+/// whether each item keeps the premises of the consistency model, and whether the kernel answered and showed what the
+/// rules say. No event is refused because the journal is full, so the verdict is on the whole trace, even on a long
+/// one. Returns `Err` if the catalog or the trace has a fault, or if memory runs out.
 pub fn watch_over_text(alloc: Global, catalog: &[u8], trace: &[u8]) -> Result<Verdict, Fault>
     ensures { Watches catalog.now trace.now result }
 {
@@ -146,7 +147,7 @@ fn name_of(cause: Cause) -> &'static str
     }
 }
 
-/// Returns the word for what the kernel does otherwise than the rules, or for the premise that is broken.
+/// Returns the word for a difference between the kernel and the rules, or for a premise that is broken.
 fn name_of_difference(difference: Difference) -> &'static str
     ensures { result.now ≡ difference_text difference }
 {
@@ -185,7 +186,8 @@ fn print<W: Write>(verdict: Verdict, out: &mut W) -> io::Result<()>
     }
 }
 
-/// Returns the exit status of a verdict: 0 if the trace is honest and the kernel does as the rules say, and else 3.
+/// Returns the exit status of a verdict. The status is 0 if the trace is honest and the kernel does as the rules say,
+/// otherwise 3.
 pub fn status_of(verdict: Verdict) -> u8
     ensures { result ≡ verdict_status verdict }
 {
@@ -195,8 +197,8 @@ pub fn status_of(verdict: Verdict) -> u8
     }
 }
 
-/// Judges a trace, and writes the verdict to `out` as one line. `Err` if there is no verdict, or if the line can't be
-/// written.
+/// Judges a trace, and writes the verdict to `out` as one line. Returns `Err` if there is no verdict, or if the line
+/// can't be written.
 pub fn watch_trace<W: Write>(
     alloc: Global,
     catalog: &[u8],
@@ -215,8 +217,8 @@ pub fn watch_trace<W: Write>(
     }
 }
 
-/// Returns klpwatch's two arguments: the files of a catalog and of a trace. If the arguments aren't these, writes a
-/// line to `err` and returns the exit status 2 as `Err`.
+/// Returns klpwatch's two arguments: the files of a catalog and of a trace. If the arguments are others, writes a line
+/// to `err` and returns the exit status 2 as `Err`.
 pub fn trace_words<'a, W: Write>(given: &'a [String], err: &mut W) -> Result<(&'a str, &'a str), u8>
     ensures { MatchResult result
         (λ files. two_files (map string_bytes given.now) ≡ Some (files.0.now ∷ files.1.now ∷ []))

@@ -23,7 +23,7 @@ use klp_timeline::{Said, Sentence, Sleepers, Stay, View, is_lasting, latest_cour
 /// How many sentences about sleepers the end of a run shows at most.
 const MAX_HOLDERS: usize = 8;
 
-/// Adds the function that tasks sleep in, and why that matters.
+/// Adds the function that tasks sleep in, and why it matters that they sleep there.
 fn add_reason(sheet: &mut Sheet, catalog: &Catalog, modules: &Modules, stay: &Stay)
     requires { catalog.now.names ≡ modules.now.names }
     ensures { Adds sheet.old sheet.new (reason_text catalog.now stay.now) }
@@ -128,7 +128,7 @@ fn add_lasting(
     }
 }
 
-/// Returns how many of the sleepers are in none of the first [`MAX_HOLDERS`] sentences that last to the end.
+/// Returns how many sleepers aren't named by any of the first [`MAX_HOLDERS`] sentences that last to the end.
 fn others(sleepers: usize, sentences: &[Sentence]) -> usize
     ensures { result ≡ sleepers - sum_by tasks_of (first_lasting MAX_HOLDERS sentences.now) }
 {
@@ -143,7 +143,7 @@ fn others(sleepers: usize, sentences: &[Sentence]) -> usize
     left
 }
 
-/// Adds how many sleepers aren't named here. Adds nothing if all are named.
+/// Adds the number of sleepers that aren't named here. Adds nothing if all sleepers are named.
 fn add_others(sheet: &mut Sheet, count: usize)
     ensures { Adds sheet.old sheet.new (others_text count) }
 {
@@ -190,8 +190,8 @@ fn add_all_sleepers(
     add_others(sheet, others(sleeping(stays), sentences));
 }
 
-/// Adds the sentence that nothing was done, if all lines were refused. Then `refused` is the number of lines, otherwise
-/// `None`.
+/// Adds the sentence that nothing was done, if all lines were refused. `refused` is the number of lines if all were
+/// refused, otherwise `None`.
 fn add_refused(sheet: &mut Sheet, refused: &Option<u64>)
     ensures { Adds sheet.old sheet.new (refused_text refused.now) }
 {
@@ -232,9 +232,9 @@ fn add_first(
     sheet.markup("</h1>");
 }
 
-/// Adds how a run ends. First comes the transition under way, with its direction and since when. If there is none, the
-/// enabled patches come first. Then come the tasks that hold the transition up, or sleep in code that isn't called now.
-/// Last come the tasks that merely lag.
+/// Adds how a run ends. If a transition is under way, its direction and its beginning are added first. If no transition
+/// is under way, the enabled patches are added first. After that, the tasks are added that hold the transition up, or
+/// sleep in code that isn't called now. At the end, the tasks are added that merely lag.
 ///
 /// `view` is the state after the last line, and `sentences` are all sentences of the run. If every line was refused,
 /// `refused` is the number of lines. The catalog must have been assembled over these modules.

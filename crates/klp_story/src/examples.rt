@@ -1,5 +1,5 @@
-//! Worked examples of what a page says. A function here does nothing: its contract is the example, and it is proved by
-//! computing the definitions. So the proof fails if a definition gives something else.
+//! Worked examples of what a page says. A function here does nothing: its contract is the example. The contract is
+//! proved by computing the definitions, so the proof fails if a definition gives something else.
 ghost use Rattle.std.specs.Prelude.{◌≡◌, ◌++◌, ◌∷◌, [], codes, true, false, Some, None};
 ghost use Rattle.klp_types.specs.declared.task.Mode.TheVariants.{User, Kernel};
 ghost use Rattle.klp_timeline.specs.declared.moment.Fact.TheVariants.{Undoes, Completes};
@@ -11,7 +11,7 @@ ghost use Rattle.klp_story.specs.Sentences.{fact_text, span_text};
 ghost use Rattle.klp_story.specs.Examples.{seen, hostile};
 ghost use Rattle.klp_story.specs.End.{rest_text, held_text, lagging_text, refused_text};
 
-/// Shows how lists of tasks are written. Of more than nine tasks the first eight are named.
+/// Shows how lists of tasks are written. If a list has more than nine tasks, only the first eight are named.
 pub fn tasks_are_shown_like_this()
     ensures one { tasks_text nothing_known (5 ∷ []) ≡ codes "task 5" }
     ensures two { tasks_text nothing_known (1 ∷ 12 ∷ []) ≡ codes "tasks 1 and 12" }
@@ -21,8 +21,8 @@ pub fn tasks_are_shown_like_this()
         ≡ codes "tasks 1, 2, 3, 4, 5, 6, 7, 8 and 2 more" }
 {}
 
-/// Shows the sentences on a completed transition, with and without sleepers in code that isn't called now, and the one
-/// on undone events.
+/// Shows the sentences on a completed transition, with and without sleepers in code that isn't called now. Also shows
+/// the sentence on undone events.
 pub fn facts_are_shown_like_this()
     ensures complete { (catalog : AnyCatalog) → fact_text catalog (Completes (record { patch = 0; target = true }) 0)
         ≡ quoted_text catalog 0 ++ codes ": patching complete" ++ codes ": each task calls its functions." }
@@ -33,8 +33,8 @@ pub fn facts_are_shown_like_this()
         ≡ codes "1 event is undone: all is as it was at mark 2." }
 {}
 
-/// Shows how the lines of a stay are written, and the sentences that say who holds a transition up, who lags, and that
-/// nothing was done.
+/// Shows how the lines of a stay are written. Also shows the sentences that say who holds a transition up, who lags,
+/// and that nothing was done.
 pub fn stays_are_shown_like_this()
     ensures line { span_text nothing_known 7 (Some 7) ≡ codes "<li><a href=\"#line-7\">Line 7</a>: " }
     ensures lines { span_text nothing_known 7 (Some 12) ≡ codes "<li><a href=\"#line-7\">Lines 7</a> to 12: " }
@@ -51,8 +51,7 @@ pub fn stays_are_shown_like_this()
         ≡ codes "No patch is in transition. No patch is enabled." }
 {}
 
-/// Shows how names and times are written, for an observer who knows the name of task 2, and the times of lines 7 and
-/// 13.
+/// Shows how names and times are written. In the example, the name of task 2 and the times of lines 7 and 13 are known.
 pub fn names_and_times_are_shown_like_this()
     ensures named { tasks_text seen (1 ∷ 2 ∷ [])
         ≡ codes "tasks 1 and 2 <bdi class=m>indexer[92]</bdi>" }

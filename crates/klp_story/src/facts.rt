@@ -77,7 +77,7 @@ fn add_meaning(sheet: &mut Sheet, target: bool, sleepers: usize)
     }
 }
 
-/// Adds the sentence that a transition completed, and what that guarantees.
+/// Adds the sentence that a transition completed, and what a completed transition guarantees.
 fn add_complete(sheet: &mut Sheet, catalog: &Catalog, moved: &Transition, sleepers: usize)
     ensures { Adds sheet.old sheet.new (fact_text catalog.now (Fact.Completes moved.now sleepers)) }
 {
@@ -108,8 +108,8 @@ fn add_of_object(sheet: &mut Sheet, modules: &Modules, object: ObjId, what: &'st
     sheet.markup(what);
 }
 
-/// Adds the sentence that a rewind undid events. It says how many, and to which mark. `from` is the number of events
-/// before, `to` the number after.
+/// Adds the sentence that a rewind undid events. The sentence says how many events were undone, and to which mark.
+/// `from` is the number of events before the rewind, `to` the number after it.
 fn add_undone(sheet: &mut Sheet, from: u32, to: u32)
     ensures { Adds sheet.old sheet.new (undone_text (from - to) ++ decimal to ++ codes ".") }
 {
@@ -126,8 +126,8 @@ fn add_undone(sheet: &mut Sheet, from: u32, to: u32)
     sheet.markup(".");
 }
 
-/// Adds the sentence on what a line did. If the kernel logs a message for it, the sentence has the words of that
-/// message.
+/// Adds the sentence on what a line did. If the kernel logs a message for what happened, the sentence has the words of
+/// that message.
 pub(crate) fn add_fact(sheet: &mut Sheet, catalog: &Catalog, modules: &Modules, fact: &Fact)
     requires { catalog.now.names ≡ modules.now.names }
     ensures { Adds sheet.old sheet.new (fact_text catalog.now fact.now) }

@@ -1,4 +1,4 @@
-//! Who merely lags behind a transition.
+//! The tasks that merely lag behind a transition.
 ghost use Rattle.std.specs.Prelude.{◌≡◌, ◌++◌, ◌∷◌, [], codes, length};
 ghost use Rattle.klp_markup.specs.Adds.{Adds};
 ghost use Rattle.klp_markup.specs.Tasks.{plural, tasks_text};
@@ -33,7 +33,7 @@ fn switching(mode: Mode, count: usize) -> &'static str
     }
 }
 
-/// Adds a list item that names the tasks which lag in this mode. Adds nothing if there are none.
+/// Adds a list item with the names of the tasks that lag in this mode. Adds nothing if no task does.
 fn add_item(sheet: &mut Sheet, names: &Names, mode: Mode, tasks: &[TaskId])
     ensures { Adds sheet.old sheet.new (item_text names.now mode tasks.now) }
 {

@@ -1,4 +1,4 @@
-//! Sentences on the sleepers that matter.
+//! Sentences on sleepers that hold a transition up, or sleep in code that isn't called.
 ghost use Rattle.std.specs.Prelude.{◌≡◌, ◌++◌, ◌∷◌, [], codes, length};
 ghost use Rattle.std.specs.Fmt.{decimal};
 ghost use Rattle.klp_markup.specs.Adds.{Adds};
@@ -27,7 +27,7 @@ pub(crate) fn add_linked(sheet: &mut Sheet, before: &'static str, word: &'static
     add_link(sheet, word, line);
 }
 
-/// Begins a list item with the lines of a stay that ended. `to` is the last of them.
+/// Begins a list item with the lines of a stay that ended. `to` is the last line of the stay.
 fn add_lines(sheet: &mut Sheet, line: u64, to: u64)
     ensures { Adds sheet.old sheet.new (lines_text line to) }
 {
@@ -41,8 +41,8 @@ fn add_lines(sheet: &mut Sheet, line: u64, to: u64)
     }
 }
 
-/// Begins a list item with the lines of a stay, when it began and how long it lasted. If `to` is `None`, the stay goes
-/// on at the end of the run.
+/// Begins a list item with the lines of a stay, when the stay began and how long it lasted. If `to` is `None`, the stay
+/// still lasts at the end of the run.
 fn add_span(sheet: &mut Sheet, names: &Names, line: u64, to: &Option<u64>)
     ensures { Adds sheet.old sheet.new (span_text names.now line to.now) }
 {
@@ -61,7 +61,7 @@ fn add_span(sheet: &mut Sheet, names: &Names, line: u64, to: &Option<u64>)
     }
 }
 
-/// Adds an empty element, to which the label of this stay in the drawing links.
+/// Adds an empty element as an anchor. In the drawing, the label of this stay links to the anchor.
 #[tactic(auto, unfolding(crate::specs::Sentences::anchor_text))]
 fn add_anchor(sheet: &mut Sheet, line: u64, task: TaskId)
     ensures { Adds sheet.old sheet.new (anchor_text line task) }
@@ -82,7 +82,8 @@ fn add_anchors(sheet: &mut Sheet, line: u64, tasks: &[TaskId])
     }
 }
 
-/// Returns the verb for tasks that hold a transition up. If `to` is `None`, they still do so at the end of the run.
+/// Returns the verb for tasks that hold a transition up. If `to` is `None`, the tasks still hold it up at the end of
+/// the run.
 fn holding(to: &Option<u64>, count: usize) -> &'static str
     ensures { result.now ≡ holding to.now count }
 {
@@ -92,8 +93,8 @@ fn holding(to: &Option<u64>, count: usize) -> &'static str
     }
 }
 
-/// Returns the verb for tasks that sleep in code that isn't called. If `to` is `None`, they still do so at the end of
-/// the run.
+/// Returns the verb for tasks that sleep in code that isn't called. If `to` is `None`, the tasks still sleep there at
+/// the end of the run.
 fn sleeping(to: &Option<u64>, count: usize) -> &'static str
     ensures { result.now ≡ sleeping to.now count }
 {
@@ -103,8 +104,8 @@ fn sleeping(to: &Option<u64>, count: usize) -> &'static str
     }
 }
 
-/// Returns what it means that a task sleeps in code that isn't called. If `to` is `None`, the task still does so at the
-/// end of the run.
+/// Returns what it means that a task sleeps in code that isn't called. If `to` is `None`, the task still sleeps there
+/// at the end of the run.
 fn warning(to: &Option<u64>) -> &'static str
     ensures { result.now ≡ warning to.now }
 {
@@ -166,7 +167,7 @@ fn add_stay(
     }
 }
 
-/// Adds a sentence about sleepers, whose stay begins with this line.
+/// Adds a sentence about sleepers. `line` is the line with which their stay begins.
 pub(crate) fn add_sleepers(
     sheet: &mut Sheet,
     names: &Names,

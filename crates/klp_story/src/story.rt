@@ -1,4 +1,4 @@
-//! What happened, in sentences.
+//! The sentences about what happened in a run.
 ghost use Rattle.std.specs.Prelude.{◌≡◌, ◌++◌, ◌∷◌, [], codes};
 ghost use Rattle.klp_markup.specs.Adds.{Adds};
 ghost use Rattle.klp_markup.specs.Times.{line_time};
@@ -76,7 +76,7 @@ fn add_shown(
     }
 }
 
-/// Adds how many of the oldest sentences the page leaves out. Adds nothing if it shows all.
+/// Adds how many of the oldest sentences the page leaves out. Adds nothing if the page shows all sentences.
 fn add_earlier(sheet: &mut Sheet, count: usize)
     ensures { Adds sheet.old sheet.new (earlier_text count) }
 {

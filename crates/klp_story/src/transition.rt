@@ -1,4 +1,4 @@
-//! The transition under way at the end of a run, or that there is none.
+//! Sentences on the transition under way at the end of a run, or on the lack of one.
 ghost use Rattle.std.specs.Prelude.{◌≡◌, ◌++◌, ◌∷◌, [], codes, count_by};
 ghost use Rattle.std.specs.Fmt.{decimal};
 ghost use Rattle.klp_markup.specs.Adds.{Adds};
@@ -26,7 +26,7 @@ fn way(target: bool) -> &'static str
     }
 }
 
-/// Adds since which line and time the transition has had its target. Adds nothing if that isn't known.
+/// Adds the line and the time at which the transition got its present target. Adds nothing if the line isn't known.
 fn add_since(sheet: &mut Sheet, names: &Names, since: &Option<Since>)
     ensures { Adds sheet.old sheet.new (since_text names.now since.now) }
 {
@@ -47,7 +47,7 @@ fn add_since(sheet: &mut Sheet, names: &Names, since: &Option<Since>)
     }
 }
 
-/// Returns the words for a forced transition. They are empty if it wasn't forced.
+/// Returns the words for a forced transition. Returns no words if the transition wasn't forced.
 fn forced(is_forced: bool) -> &'static str
     ensures { result.now ≡ forced_text is_forced }
 {
@@ -85,8 +85,8 @@ fn add_held(sheet: &mut Sheet, count: usize)
     }
 }
 
-/// Adds the transition under way: its patch, its target, since when it has had this target, whether it was forced, and
-/// how many tasks hold it up.
+/// Adds the transition under way. Says its patch, its target, since when it has had this target, whether it was forced,
+/// and how many tasks hold it up.
 fn add_moving(
     sheet: &mut Sheet,
     names: &Names,
@@ -133,7 +133,7 @@ fn add_enabled(sheet: &mut Sheet, catalog: &Catalog, patches: &[PatchId])
     }
 }
 
-/// Adds the sentence that no transition is under way, and the one that lists the enabled patches.
+/// Adds the sentence that no transition is under way, and the sentence that lists the enabled patches.
 fn add_rest(sheet: &mut Sheet, catalog: &Catalog, patches: &[PatchId])
     ensures { Adds sheet.old sheet.new (rest_text catalog.now patches.now) }
 {
@@ -142,8 +142,8 @@ fn add_rest(sheet: &mut Sheet, catalog: &Catalog, patches: &[PatchId])
     add_enabled(sheet, catalog, patches);
 }
 
-/// Adds the sentence on the transition under way. If there is none, adds the sentences that say so and list the enabled
-/// patches.
+/// Adds the sentence on the transition under way. If no transition is under way, adds a sentence that says so and a
+/// sentence that lists the enabled patches.
 pub(crate) fn add_state(
     sheet: &mut Sheet,
     names: &Names,
@@ -162,7 +162,7 @@ pub(crate) fn add_state(
     }
 }
 
-/// Adds how many tasks sleep in code that isn't called now. Adds nothing if none does.
+/// Adds how many tasks sleep in code that isn't called now. Adds nothing if no task does.
 pub(crate) fn add_outdated(sheet: &mut Sheet, count: usize)
     ensures { Adds sheet.old sheet.new (outdated_text count) }
 {

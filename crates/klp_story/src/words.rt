@@ -19,7 +19,7 @@ pub(crate) fn add_number(sheet: &mut Sheet, before: &'static str, number: u64, b
     sheet.markup(behind);
 }
 
-/// Adds the text `before`, a number, and the singular or the plural of what it counts.
+/// Adds the text `before`, a number, and a noun: `one` for the number 1, otherwise `more`.
 pub(crate) fn add_counted(
     sheet: &mut Sheet,
     before: &'static str,
@@ -44,7 +44,7 @@ pub(crate) fn add_link(sheet: &mut Sheet, word: &'static str, line: u64)
     sheet.markup("</a>");
 }
 
-/// Adds the name of a patch in single quotes, as the kernel's log has it.
+/// Adds the name of a patch in single quotes, as the kernel's log writes it.
 #[tactic(auto, unfolding(crate::specs::Words::quoted_text))]
 pub(crate) fn add_patch(sheet: &mut Sheet, catalog: &Catalog, patch: PatchId)
     ensures { Adds sheet.old sheet.new (quoted_text catalog.now patch) }
@@ -55,7 +55,7 @@ pub(crate) fn add_patch(sheet: &mut Sheet, catalog: &Catalog, patch: PatchId)
     sheet.markup("'");
 }
 
-/// Returns why a sleeper in this function holds the transition up.
+/// Returns the reason why a sleeper in this function holds the transition up.
 pub(crate) fn why(moving: &Transition, version: &Version) -> &'static str
     ensures { result.now ≡ why moving.now.target version.now }
 {

@@ -1,4 +1,4 @@
-//! The kernel's answer to an event, as a line of a trace has it.
+//! The kernel's answer to an event, as a line of a trace spells it.
 ghost use Rattle.std.specs.Prelude.{◌≡◌, ◌^◌, IfOk, option_map};
 ghost use Rattle.klp_model.specs.declared.event.Reply.TheVariants.{Pending, Completed, Value, Freed, Woken};
 ghost use Rattle.klp_words.specs.Words.{decimal_of, shadow_value_of};
@@ -15,7 +15,7 @@ use klp_model::{Refusal, Reply};
 use klp_words::{LineWords, Separators, number64, shadow_value, signed};
 use std::alloc::{AllocError, Global};
 
-/// All refusals. They are few, so the refusal of a text is found by trying each.
+/// All refusals. There are few refusals, so the one that a text spells is found by trying each.
 static REFUSALS: [Refusal; 18] = [
     Refusal::NoPatch,
     Refusal::Busy,
@@ -37,7 +37,7 @@ static REFUSALS: [Refusal; 18] = [
     Refusal::SameValue,
 ];
 
-/// Reads the word behind `pending`: how many tasks aren't at the target.
+/// Reads the word behind `pending`: the number of tasks that aren't at the target.
 fn pending_of(words: &mut LineWords<'_>) -> Option<Reply>
     ensures { result ≡ option_map Pending (next_as (decimal_of (2 ^ 8)) words.old) }
 {
@@ -115,8 +115,8 @@ fn reply_with(first: &[u8], words: &mut LineWords<'_>, manager: &Manager) -> Opt
     }
 }
 
-/// Reads the reply that a text has, however the numbers in the text are spelled. Doesn't compare the text with what the
-/// console writes.
+/// Reads the reply that a text spells, however the numbers in the text are spelled. Doesn't compare the text with what
+/// the console writes.
 fn reply_in(text: &[u8], manager: &Manager) -> Option<Reply>
     ensures { result ≡ reply_in manager.now (words_between (separates Spaces) text.now) }
 {

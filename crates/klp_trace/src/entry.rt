@@ -1,4 +1,4 @@
-//! What one line of a trace says.
+//! The meaning of one line of a trace.
 ghost use Rattle.std.specs.Prelude.{◌≡◌, ◌≤◌, Some, IfOk, IfErr, option_map, unwrap_or};
 ghost use Rattle.klp_trace.specs.Traces.{entry_at, entry_of, IsLineFault};
 
@@ -18,11 +18,11 @@ pub struct Timed<T> {
     pub time: Option<Microseconds>,
 }
 
-/// What a line of a trace says.
+/// The meaning of a line of a trace: an item, and its time if the line has one.
 pub type Entry = Timed<Observed>;
 
-/// Puts a time beside an item. Returns `None` if there is no item. The function is generic, since the borrow checker
-/// doesn't cover it for [`Observed`].
+/// Puts a time beside an item. Returns `None` if there is no item. The borrow checker doesn't cover a function that has
+/// this type of item, [`Observed`], so the function is generic.
 fn with_time<T: Drop>(item: Option<T>, time: Option<Microseconds>) -> Option<Timed<T>>
     ensures { result ≡ option_map (λ own. record { item = own; time = time }) item }
 {
@@ -32,8 +32,8 @@ fn with_time<T: Drop>(item: Option<T>, time: Option<Microseconds>) -> Option<Tim
     }
 }
 
-/// Reads an item. `time` is the time of its line, if it has one. Returns `None` if the text is no item, and `Err` if
-/// memory runs out.
+/// Reads an item. `time` is the time of the item's line, if the line has one. Returns `None` if the text is no item,
+/// and `Err` if memory runs out.
 fn entry_at(
     alloc: Global,
     text: &[u8],
@@ -46,8 +46,8 @@ fn entry_at(
     Ok(with_time(item, time))
 }
 
-/// Reads a line: an item, and its time if it has one. Returns `None` if the line is no item or its time is misspelled,
-/// and `Err` if memory runs out.
+/// Reads a line: an item, and the line's time if it has one. Returns `None` if the line has no item or its time is
+/// misspelled, and `Err` if memory runs out.
 fn entry_of(alloc: Global, line: &[u8], manager: &Manager) -> Result<Option<Entry>, AllocError>
     ensures { IfOk result (λ entry. entry ≡ entry_of manager.now line.now) }
 {
@@ -60,8 +60,8 @@ fn entry_of(alloc: Global, line: &[u8], manager: &Manager) -> Result<Option<Entr
     }
 }
 
-/// Reads a line that follows other lines. `last` is the last time among these. Returns as `Err` what is wrong if the
-/// line is no item, if its time is before `last`, or if memory runs out.
+/// Reads a line that follows other lines. `last` is the last time among the lines before. If the line has no item, if
+/// its time is before `last`, or if memory runs out, returns the kind of the fault as `Err`.
 pub(crate) fn entry_behind(
     alloc: Global,
     last: Microseconds,

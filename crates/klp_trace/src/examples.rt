@@ -29,7 +29,7 @@ pub fn answers_are_spelled_as_on_the_console()
     ensures no_number { (manager : Journaled) → answer_of manager (codes "error Busy") ≡ None }
 {}
 
-/// A line is an event with or without its answer, a return, or something that was seen.
+/// The item of a line is an event with or without its answer, a return, or something that was seen.
 pub fn lines_are_items()
     ensures event { (manager : Journaled) → item_of manager (codes "poll") ≡ Some (Item (Happens Poll)) }
     ensures answered { (manager : Journaled) → item_of manager (codes "poll => pending 1")

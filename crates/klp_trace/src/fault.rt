@@ -5,10 +5,10 @@ use std::alloc::{AllocError, AllocFailed};
 use std::{error, fmt};
 use thiserror::Error;
 
-/// What is wrong with a line of a trace. If a line has both faults, `BadItem` is reported.
+/// What is wrong with a line of a trace. If a line is both `BadItem` and `OutOfOrder`, `BadItem` is reported.
 #[derive(Clone, Copy, Debug, PartialEq, Eq)]
 pub enum TraceFaultKind {
-    /// The line is no item, names an impossible name, symbol or task, or has a misspelled time.
+    /// The line has no item, names an impossible name, symbol or task, or has a misspelled time.
     BadItem,
     /// The time of the line is before that of an earlier line, as happens if two logs are joined.
     OutOfOrder,
@@ -16,7 +16,7 @@ pub enum TraceFaultKind {
     NoMemory,
 }
 
-/// Writes the fault's name, as `Debug` does: both use one table of names.
+/// Writes the fault's name, as `Debug` does. Both use one table of names.
 impl fmt::Display for TraceFaultKind {
     fn fmt<W: fmt::Write>(&self, f: &mut fmt::Formatter<W>) -> fmt::Result {
         fmt::Debug::fmt(self, f)

@@ -35,8 +35,8 @@ fn return_of(words: &mut LineWords<'_>) -> Option<Observed>
     Some(Observed::Seen(Seen::Return(task_of(task)?)))
 }
 
-/// Reads an item that has no answer. `event` is the event that the text asks for as a console line, if it asks for one.
-/// Names are looked up in the manager's catalog. The manager's state isn't used.
+/// Reads an item that has no answer. If the text asks for an event as a console line, `event` is that event. Names are
+/// looked up in the manager's catalog. The manager's state isn't used.
 fn item_alone(text: &[u8], event: Option<Event>, manager: &Manager) -> Option<Observed>
     requires { event ≡ event_of manager.now text.now }
     ensures { result ≡ item_alone manager.now text.now }
@@ -60,8 +60,8 @@ fn item_alone(text: &[u8], event: Option<Event>, manager: &Manager) -> Option<Ob
     }
 }
 
-/// Reads what the kernel answered to an event. `?` stands for no answer, so the item is then the event alone. Returns
-/// `None` if the console writes no such answer, and `Err` if memory runs out.
+/// Reads the kernel's answer to an event. If the answer is `?`, it isn't known, and the item is the event alone.
+/// Returns `None` if the console writes no such answer, and `Err` if memory runs out.
 fn event_answered(
     alloc: Global,
     event: Event,
@@ -77,8 +77,8 @@ fn event_answered(
     Ok(answer.map(|answer| Observed::Answered(event, answer)))
 }
 
-/// Reads an event with its answer. Returns `None` if the text asks for no event or the answer isn't one, and `Err` if
-/// memory runs out.
+/// Reads an event with its answer. Returns `None` if the text asks for no event or if `answer` isn't an answer. Returns
+/// `Err` if memory runs out.
 fn item_answered(
     alloc: Global,
     text: &[u8],
@@ -93,7 +93,7 @@ fn item_answered(
     }
 }
 
-/// Reads a text as an item. Returns `None` if it is none, and `Err` if memory runs out.
+/// Reads a text as an item. Returns `None` if the text is no item, and `Err` if memory runs out.
 pub(crate) fn item_of(
     alloc: Global,
     text: &[u8],

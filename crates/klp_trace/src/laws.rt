@@ -1,4 +1,4 @@
-//! What is proved of the definitions. A function here does nothing: its contract is the law.
+//! Laws about the definitions. A function here does nothing: its contract is the law.
 ghost use Rattle.std.specs.Prelude.{◌≡◌, ℕ, List, ◌++◌, codes, Result, Some, Err};
 ghost use Rattle.klp_model.specs.declared.event.Reply.{Reply};
 ghost use Rattle.klp_model.specs.declared.event.Refusal.{Refusal};

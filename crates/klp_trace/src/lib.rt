@@ -1,13 +1,13 @@
 //! Traces: what was seen of a kernel, as text with one item on each line.
 //!
-//! [`Trace::read`] reads a text, with names from a manager's catalog. An item is one of these: an event, as a console
-//! line asks for it, with or without the kernel's answer; a call; a return; or what the kernel showed at that place
-//! (`specs/Items`). An answer is spelled byte by byte as the console writes it (`specs/Answers`). A line may have its
-//! time in front, and no time is before that of an earlier line (`specs/Traces`). The first line that is no item or is
-//! out of order is reported.
+//! [`Trace::read`] reads a text, with names from a manager's catalog. There are four kinds of items (`specs/Items`). An
+//! event is spelled as a console line asks for it, with or without the kernel's answer. A call and a return are what a
+//! task did. A sight is what the kernel showed at that place of the trace. An answer is spelled byte by byte as the
+//! console writes it (`specs/Answers`). A line may begin with its time, and no time is before the time of an earlier
+//! line (`specs/Traces`). The first line that has no item or is out of order is reported.
 //!
 //! [`answer_text`] returns what the console writes for an answer. [`LineParts`] are the parts of a line, for messages
-//! to people. `examples` has lines of each kind, and refused ones. `laws` says what is proved of answers.
+//! to people. `examples` has lines of each kind, and refused ones. `laws` has the laws about answers.
 #![tactic(auto)]
 
 mod answer;

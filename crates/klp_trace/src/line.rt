@@ -6,7 +6,7 @@ ghost use Rattle.klp_trace.specs.Traces.{is_space};
 
 use klp_words::cut;
 
-/// A line of a trace in its parts, each as it is spelled.
+/// The parts of a line of a trace, each as the line spells it.
 #[derive(Clone, Copy)]
 pub struct LineParts<'a> {
     /// The seconds after an `@` at the front of the line.
@@ -19,8 +19,8 @@ pub struct LineParts<'a> {
     pub answer: Option<&'a [u8]>,
 }
 
-/// Splits a text at its first `=`, if `> ` follows it: into an item and its answer. Otherwise the whole text is the
-/// item, and there is no answer.
+/// If a text has `> ` right behind its first `=`, splits the text there into an item and its answer. Otherwise the
+/// whole text is the item, and there is no answer.
 pub(crate) fn item_and_answer(text: &[u8]) -> (&[u8], Option<&[u8]>)
     ensures { MatchOption result.1
         ((starts_with nat_eq (after_first is_equals_sign text.now) (codes "> ") ≡ false) × (result.0.now ≡ text.now))
@@ -35,8 +35,8 @@ pub(crate) fn item_and_answer(text: &[u8]) -> (&[u8], Option<&[u8]>)
     }
 }
 
-/// Splits a line that begins with `@` into its time and the text after the time, which ends at the first space. Returns
-/// `None` if the line has no time.
+/// Splits a line that begins with `@` into its time and the text after the time. The time ends at the first space.
+/// Returns `None` if the line has no time.
 pub(crate) fn time_and_rest(line: &[u8]) -> Option<(&[u8], &[u8])>
     ensures { MatchOption result (starts_with nat_eq line.now (codes "@") ≡ false)
         (λ parts. (starts_with nat_eq line.now (codes "@") ≡ true)
@@ -48,8 +48,8 @@ pub(crate) fn time_and_rest(line: &[u8]) -> Option<(&[u8], &[u8])>
 }
 
 impl<'a> LineParts<'a> {
-    /// Splits a line into its parts, even if the line is no item. It is used for messages to people, and has no
-    /// contract.
+    /// Splits a line into its parts, even if the line has no item. The function is used for messages to people, and has
+    /// no contract.
     pub fn of(line: &'a [u8]) -> LineParts<'a> {
         let (time, text) = match time_and_rest(line) {
             Some((time, text)) => (Some(time), text),

@@ -1,4 +1,4 @@
-//! What the names and numbers of a trace mean.
+//! Reads the names and numbers of a trace.
 ghost use Rattle.std.specs.Prelude.{◌≡◌};
 ghost use Rattle.klp_trace.specs.Names.{task_of, patch_of, object_of, new_function_of, version_of, versions_of};
 ghost use Rattle.klp_trace.specs.Names.{frames_of, site_of_version, state_of, flag_of};
@@ -41,7 +41,7 @@ pub(crate) fn object_of(word: &[u8], manager: &Manager) -> Option<ObjId>
     manager.modules().object(text(word))
 }
 
-/// Reads `PATCH:INDEX`, a new function of a patch. It isn't checked that the patch has this function. Returns `None` if
+/// Reads `PATCH:INDEX`, a new function of a patch. Doesn't check that the patch has this function. Returns `None` if
 /// the catalog has no such patch.
 fn new_function_of(word: &[u8], manager: &Manager) -> Option<Version>
     ensures { result ≡ new_function_of manager.now word.now }
@@ -53,7 +53,7 @@ fn new_function_of(word: &[u8], manager: &Manager) -> Option<Version>
 }
 
 /// Reads a function as `task sleep` spells it: the original function of a symbol, or a new function of a patch. Returns
-/// `None` if the word is neither.
+/// `None` if the word spells no function.
 pub(crate) fn version_of(word: &[u8], manager: &Manager) -> Option<Version>
     ensures { result ≡ version_of manager.now word.now }
 {
@@ -63,8 +63,8 @@ pub(crate) fn version_of(word: &[u8], manager: &Manager) -> Option<Version>
     }
 }
 
-/// Reads the functions that a task is inside of, innermost last. Returns `None` if a word is no function, or if there
-/// are more than 32 words.
+/// Reads the functions that a task is inside of, innermost last. Returns `None` if a word spells no function, or if
+/// there are more than 32 words.
 pub(crate) fn frames_of(words: &mut LineWords<'_>, manager: &Manager) -> Option<Frames>
     ensures { result ≡ frames_of manager.now words.old }
 {
@@ -91,7 +91,7 @@ pub(crate) fn site_of_version(version: Version, manager: &Manager) -> Option<Sit
     }
 }
 
-/// Reads what a task's `patch_state` file has: `-1`, `0` or `1`.
+/// Reads the contents of a task's `patch_state` file: `-1`, `0` or `1`.
 pub(crate) fn state_of(word: &[u8]) -> Option<PatchState>
     ensures { result ≡ state_of word.now }
 {
@@ -106,7 +106,7 @@ pub(crate) fn state_of(word: &[u8]) -> Option<PatchState>
     }
 }
 
-/// Reads what a file of a patch has: `0` or `1`.
+/// Reads the contents of a patch's file: `0` or `1`.
 pub(crate) fn flag_of(word: &[u8]) -> Option<bool>
     ensures { result ≡ flag_of word.now }
 {

@@ -1,4 +1,4 @@
-//! What a kernel showed, read from the words of a line.
+//! Reads what a kernel showed from the words of a line.
 ghost use Rattle.std.specs.Prelude.{◌≡◌};
 ghost use Rattle.klp_trace.specs.Items.{state_seen, gone_seen, files_seen, saw_of, version_seen, ran_of, text_of};
 
@@ -17,14 +17,14 @@ fn state_seen(task: &[u8], state: &[u8]) -> Option<Sight>
     Some(Sight::State(task, Some(state_of(state)?)))
 }
 
-/// Reads the name of a patch that has no files: it is gone.
+/// Reads the name of a patch that was seen without files, so it isn't installed.
 fn gone_seen(patch: &[u8], manager: &Manager) -> Option<Sight>
     ensures { result ≡ gone_seen manager.now patch.now }
 {
     Some(Sight::Files(patch_of(patch, manager)?, None))
 }
 
-/// Reads a patch, and what its files `enabled` and `transition` have.
+/// Reads a patch and the contents of its files `enabled` and `transition`.
 fn files_seen(patch: &[u8], enabled: &[u8], transition: &[u8], manager: &Manager) -> Option<Sight>
     ensures { result ≡ files_seen manager.now patch.now enabled.now transition.now }
 {
@@ -40,7 +40,7 @@ fn files_seen(patch: &[u8], enabled: &[u8], transition: &[u8], manager: &Manager
     ))
 }
 
-/// Reads the words that follow `saw`: a task and its state, or a patch and what its files have.
+/// Reads the words that follow `saw`: a task and its state, or a patch and the contents of its files.
 pub(crate) fn saw_of(words: &mut LineWords<'_>, manager: &Manager) -> Option<Sight>
     ensures { result ≡ saw_of manager.now words.old }
 {

@@ -1,4 +1,4 @@
-//! Returns an answer as text, as the console writes it. The text has definitions of its own.
+//! Returns the text that the console writes for an answer. The text has definitions of its own.
 ghost use Rattle.std.specs.Prelude.{◌≡◌, ◌++◌, codes, string_bytes, IfOk};
 ghost use Rattle.std.specs.Fmt.{decimal, signed_decimal};
 ghost use Rattle.klp_types.specs.declared.version.Version.TheVariants.{Original};
@@ -73,8 +73,8 @@ fn symbol_text(
     Ok(text)
 }
 
-/// Writes a space and an original function, named by its symbol and the symbol's position among those of that name,
-/// from 1.
+/// Writes a space and an original function. The function is spelled as its symbol and the symbol's position, which
+/// counts from 1 over the symbols of that name.
 fn original_text(alloc: Global, manager: &Manager, site: Site) -> Result<String, AllocError>
     ensures { IfOk result (λ text. string_bytes text ≡ frame_text manager.now.managed.catalog (Original site)) }
 {
@@ -140,7 +140,7 @@ fn value_text(alloc: Global, value: &ShadowValue) -> Result<String, AllocError>
     }
 }
 
-/// Writes the answer line of a patch that wasn't enabled because its pre-patch callback for an object returned this
+/// Writes the answer line of a patch that wasn't enabled, since its pre-patch callback for an object returned this
 /// status.
 fn pre_failed_text(
     alloc: Global,

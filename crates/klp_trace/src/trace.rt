@@ -14,15 +14,15 @@ use klp_types::{Frames, ObjId, PatchId, PatchState, ShadowValue, Site, TaskId, V
 use klp_watch::{Observed, PatchFiles, Sight};
 use std::alloc::Global;
 
-/// The types of which an item is made. The borrow checker covers a function that moves items only if it names all of
-/// these.
+/// The types that are parts of an item. The borrow checker covers a function that moves items only if the function
+/// names all these types.
 type Happening = (Seen, Event, Reply, Refusal, Frames, ShadowValue);
 
 type Showing = (Sight, PatchFiles, PatchState, Version);
 
 type Named = (ObjId, PatchId, Site, TaskId);
 
-/// What was seen of a kernel, one item for each line of a text.
+/// What was seen of a kernel. Each line of a text is one item.
 #[derive(Drop)]
 pub struct Trace {
     /// The item of each line, in order.
@@ -31,9 +31,9 @@ pub struct Trace {
     pub times: Vec<Option<Microseconds>>,
 }
 
-/// Adds an item that was read, with its time. Returns the last time so far: the item's own, or `last` if it has none.
-/// Returns the fault as `Err` if no item was read, or if memory runs out. The function is generic, since the borrow
-/// checker doesn't cover it for [`Observed`].
+/// Adds an item that was read, with its time. Returns the last time so far, which is the item's time, or `last` if the
+/// item has none. If no item was read or memory runs out, returns the fault as `Err`. The borrow checker doesn't cover
+/// a function that has this type of item, [`Observed`], so the function is generic.
 fn take<T: Drop>(
     items: &mut Vec<T>,
     times: &mut Vec<Option<Microseconds>>,
@@ -57,8 +57,9 @@ fn take<T: Drop>(
 }
 
 impl Trace {
-    /// Reads a trace, which has one item on each line. Returns the first line at fault as `Err`. Names are looked up in
-    /// the manager's catalog. The manager's state isn't used. Memory is allocated for the items as they are read.
+    /// Reads a trace, which has one item on each line. If a line is at fault, returns the first such line as `Err`.
+    /// Names are looked up in the manager's catalog. The manager's state isn't used. Memory is allocated for the items
+    /// as they are read.
     pub fn read(alloc: Global, text: &[u8], manager: &Manager) -> Result<Trace, TraceFault>
         ensures read { IfOk result (λ trace. IsTraceOf manager.now text.now trace.items.items trace.times.items) }
         ensures fault { IfErr result (λ fault. IsTraceFault manager.now (lines text.now) fault.line fault.kind) }

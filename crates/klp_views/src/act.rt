@@ -1,4 +1,4 @@
-//! What a line did that views don't show.
+//! The effects of a line that views don't show.
 ghost use Rattle.std.specs.Prelude.{◌≡◌};
 ghost use Rattle.klp_views.specs.Views.{fact_of, act_of};
 
@@ -7,7 +7,8 @@ use klp_model::{Event, Reply};
 use klp_timeline::Fact;
 use klp_types::Transition;
 
-/// Returns what an accepted event did that views don't show. `moving` is the transition before the event.
+/// Returns the effect of an accepted event, if views don't show that effect. `moving` is the transition before the
+/// event.
 fn fact_of(moving: &Option<Transition>, event: &Event, reply: &Reply) -> Option<Fact>
     ensures { result ≡ fact_of moving.now event.now reply.now }
 {

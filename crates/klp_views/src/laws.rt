@@ -12,7 +12,7 @@ pub fn a_booted_manager_is_quiet()
         → IsQuiet view × (view.moving ≡ None) }
 {}
 
-/// A view has an element for each task number: the stay of that task.
+/// A view has an element for each task number, and the element is the stay of that task.
 pub fn a_view_has_each_stay()
     ensures { IsStayAtEach }
 {}

@@ -1,10 +1,10 @@
-//! What a page reads from a manager: a view after each line, and what the line did (`specs/Views`).
+//! A page's view of a manager: a view after each line, and the effect of the line (`specs/Views`).
 //!
-//! A view shows the transition, the installed patches, and the stay of each task. A stay says why it matters where a
-//! task sleeps: the task blocks the transition, or it sleeps inside of a version that it wouldn't run if it called the
-//! function now. [`view_of`] reads a manager, and [`act_of`] the outcome of a line. `klp_timeline` makes sentences of a
-//! list of views. Its laws need a quiet view at the beginning of the list, and a manager that was just booted shows one
-//! (`laws`).
+//! A view shows the transition, the installed patches, and the stay of each task. A task has a stay if it blocks the
+//! transition, or if it sleeps inside of an outdated version. A version is outdated if the task wouldn't run it if it
+//! called the function now. [`view_of`] reads a manager, and [`act_of`] the outcome of a line. `klp_timeline` makes
+//! sentences of a list of views. The laws of `klp_timeline` need a quiet view at the beginning of the list. A manager
+//! that was just booted shows a quiet view (`laws`).
 #![tactic(auto)]
 
 mod act;

@@ -38,7 +38,7 @@ fn site_of(manager: &Manager, version: &Version) -> Option<Site>
     }
 }
 
-/// Whether the version is that of the target.
+/// Whether the version is the version that the target runs.
 fn is_picked(version: &Version, target: &Option<Target>) -> bool
     ensures { result ≡ is_picked version.now target.now }
 {
@@ -48,7 +48,7 @@ fn is_picked(version: &Version, target: &Option<Target>) -> bool
     }
 }
 
-/// Whether this task would run the version if it called the version's function now.
+/// Whether this task would run the version if it now called the function that the version replaces.
 fn is_current(manager: &Manager, task: TaskId, version: &Version) -> bool
     ensures { result ≡ is_current (setting_of manager.now.managed) manager.now.managed.state
         (task_at manager.now.managed.state.tasks task) version.now }
@@ -82,8 +82,8 @@ fn outdated(manager: &Manager, task: TaskId) -> Option<Version>
     outdated_among(manager, task, manager.frames(task).as_slice())
 }
 
-/// Returns the stay of a task: it blocks the transition, or else it sleeps inside of a version that it wouldn't run
-/// now. Returns `None` if neither is so.
+/// Returns the stay of a task that blocks the transition, or else of a task that sleeps inside of a version that it
+/// wouldn't run now. Returns `None` for any other task.
 fn stay_of(
     manager: &Manager,
     task: TaskId,
@@ -115,7 +115,7 @@ fn stay_in(
     ensures { result ≡ stay_in (setting_of manager.now.managed) manager.now.managed.state
         (task_at manager.now.managed.state.tasks number) }
 {
-    // called for its contract: there is a row for each number
+    // `mode` is called for its contract, which says that there is a row for each number
     let _rows = manager.mode(TaskId(0));
     stay_of(manager, TaskId(number as u8), moving, &lags[number])
 }
