@@ -26,7 +26,7 @@ fn task_of(alloc: Global, task: &Followed<'_>) -> Result<TaskReport, AllocError>
     })
 }
 
-/// Returns the name of the function that this version is. Returns `None` if the log doesn't have its name.
+/// Returns the name of the function that this version is. Returns `None` if the log doesn't have the name.
 fn name_of<'a>(run: &Run<'a>, version: Version) -> Option<&'a [u8]> {
     let Version::New(patch, index) = version else {
         return None;
@@ -72,8 +72,8 @@ fn holder_of(
     })
 }
 
-/// Returns the stays in which tasks held a transition up. If the transition goes on, `holding` are the tasks that hold
-/// it up in the last sample.
+/// Returns the stays in which tasks held a transition up. If the transition hasn't ended, `holding` are the tasks that
+/// hold it up in the last sample.
 fn holders_of(
     alloc: Global,
     run: &Run<'_>,
@@ -98,7 +98,8 @@ fn holders_of(
     Ok(holders)
 }
 
-/// Returns the stay in which a task holds a transition up in the last sample. It began when samples first show it.
+/// Returns the stay in which a task holds a transition up in the last sample. The stay began with the first sample that
+/// shows it.
 fn stay_of(task: &Followed<'_>, transition: usize, moved: &Moved, version: Version) -> Stay {
     let from = match task.stays.last() {
         Some(stay) if stay.transition == transition && stay.to == moved.to => stay.from,
@@ -128,7 +129,7 @@ fn lagging_of(alloc: Global, run: &Run<'_>) -> Result<Vec<Lagging>, AllocError> 
 }
 
 /// Returns the tasks that a force left asleep in a function that is no longer called. If nothing was forced, returns
-/// the tasks that a force would leave so.
+/// the tasks that a force would leave asleep in such a function.
 fn left_of(alloc: Global, run: &Run<'_>, holding: &[Holding]) -> Result<Vec<Left>, AllocError> {
     let mut left = Vec::new(alloc);
     for holder in holding {
@@ -142,7 +143,7 @@ fn left_of(alloc: Global, run: &Run<'_>, holding: &[Holding]) -> Result<Vec<Left
     Ok(left)
 }
 
-/// Returns how a transition ended, or `None` if it goes on. If the log shows a force, the force ended the last
+/// Returns how a transition ended, or `None` if it hasn't ended. If the log shows a force, the force ended the last
 /// transition.
 fn end_of(found: &Explained<'_>, moved: &Moved, is_last: bool) -> Option<EndReport> {
     if let Some(end) = moved.end {
@@ -240,7 +241,7 @@ fn missing_of(alloc: Global, capture: &Capture<'_>) -> Result<Vec<String>, Alloc
     Ok(missing)
 }
 
-/// Gathers what was found out about a log.
+/// Gathers the findings about a log.
 pub fn report_of(
     alloc: Global,
     capture: &Capture<'_>,

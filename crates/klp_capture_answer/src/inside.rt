@@ -4,7 +4,8 @@ use crate::report::{Inside, TaskReport};
 use klp_capture::{Activity, Capture, Sample, SeenTask};
 use std::alloc::{AllocError, Global};
 
-/// A task as it was last seen, and the number of samples in which it was inside of such a function.
+/// A task as it was last seen. Also has the number of samples in which the task was inside of a function for which
+/// `klpcap` was told to look.
 #[derive(Clone, Copy)]
 struct Seen<'a> {
     task: SeenTask<'a>,
@@ -22,7 +23,7 @@ fn asked_of<'a>(capture: &Capture<'a>, seen: &SeenTask<'a>) -> Option<&'a [u8]> 
     None
 }
 
-/// Adds what a sample shows. A task that the sample doesn't name is where it was before.
+/// Adds what a sample shows. A task that the sample doesn't name is inside of the same functions as before.
 fn take_sample<'a>(
     capture: &Capture<'a>,
     sample: &Sample,
@@ -59,8 +60,8 @@ fn take_sample<'a>(
     Ok(())
 }
 
-/// Returns the tasks that the last sample shows inside of functions for which `klpcap` was told to look. The list is
-/// empty if it wasn't told to look for any.
+/// Returns the tasks that the last sample shows inside of functions for which `klpcap` was told to look. If `klpcap`
+/// wasn't told to look for any function, the list is empty.
 pub(crate) fn inside_of(alloc: Global, capture: &Capture<'_>) -> Result<Vec<Inside>, AllocError> {
     let mut inside = Vec::new(alloc);
     let mut all = Vec::new(alloc);

@@ -1,4 +1,4 @@
-//! The sample that none of the tried runs shows: what the log has there, and what the rules have.
+//! The sample that none of the tried runs shows: the state in the log at this sample, and the state by the rules.
 use crate::report::Refused;
 use klp_capture::{Capture, Text};
 use klp_capture_run::{Explained, Followed};
@@ -8,7 +8,8 @@ use klp_program::Verdict;
 use std::alloc::{AllocError, Global};
 use std::fmt;
 
-/// A sentence, printed with names: each `task N` in it is printed as the task's name and its thread's number.
+/// A sentence, printed with names. Each `task N` in the sentence is printed as the task's name and the number of its
+/// thread.
 #[derive(Clone, Copy)]
 struct WithNames<'r, 'a> {
     text: &'r str,
@@ -54,7 +55,7 @@ impl fmt::Display for WithNames<'_, '_> {
     }
 }
 
-/// Returns in words what a line of the trace says was seen.
+/// Returns in words what was seen, by a line of the trace.
 fn seen_at(alloc: Global, tasks: &[Followed<'_>], line: &str) -> Result<String, AllocError> {
     let words = line.split_once(' ');
     let shown = match words {
@@ -72,7 +73,8 @@ fn seen_at(alloc: Global, tasks: &[Followed<'_>], line: &str) -> Result<String, 
     format!(in alloc; "{}", WithNames { text, tasks })
 }
 
-/// Returns both sides at the line of the trace where the run ends: first what the log has, then what the rules have.
+/// Returns both sides at the line of the trace where the run ends. The first is the state in the log, and the second
+/// the state by the rules.
 fn both_sides(
     alloc: Global,
     found: &Explained<'_>,
@@ -98,7 +100,7 @@ fn both_sides(
     Ok((log, rules))
 }
 
-/// Returns the sample that none of the tried runs shows, or `None` if there is none.
+/// Returns the sample that none of the tried runs shows, or `None` if there is no such sample.
 pub(crate) fn refused_of(
     alloc: Global,
     capture: &Capture<'_>,

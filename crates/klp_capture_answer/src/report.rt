@@ -1,11 +1,11 @@
-//! What was found out about a log, as data. Times are microseconds since the machine booted.
+//! The findings about a log, as data. Times are microseconds since the machine booted.
 use klp_capture::Moment;
 use serde::Serialize;
 use std::alloc::Global;
 use std::io;
 use std::io::Write;
 
-/// A task: its name, and its thread's number.
+/// A task: its name, and the number of its thread.
 #[derive(Drop, Serialize)]
 pub struct TaskReport {
     pub(crate) name: String,
@@ -13,15 +13,15 @@ pub struct TaskReport {
     pub(crate) is_kernel_thread: bool,
 }
 
-/// A time in which a task held a transition up: asleep in one function, without running.
+/// A period in which a task held a transition up. The task slept in one function all this time, and didn't run.
 #[derive(Drop, Serialize)]
 pub struct Holder {
     pub(crate) task: TaskReport,
     pub(crate) function: String,
-    /// The first sample that shows it, and the last.
+    /// The time of the first sample that shows the stay. `to_us` is the time of the last one.
     pub(crate) from_us: u64,
     pub(crate) to_us: u64,
-    /// Whether the task held the transition up in the last sample and the transition goes on.
+    /// Whether the task held the transition up in the last sample, and the transition hasn't ended.
     pub(crate) holds_still: bool,
 }
 
@@ -29,9 +29,9 @@ pub struct Holder {
 #[derive(Clone, Copy, PartialEq, Eq, Serialize)]
 #[serde(rename_all = "snake_case")]
 pub(crate) enum Why {
-    /// It runs.
+    /// The task runs.
     Runs,
-    /// It sleeps in none of those functions of the patch that the log names.
+    /// The task sleeps, but in none of those functions of the patch that the log names.
     AsleepElsewhere,
 }
 
@@ -72,7 +72,8 @@ pub struct TransitionReport {
     pub(crate) patch: String,
     pub(crate) becomes: Becomes,
     pub(crate) since_us: u64,
-    /// Whether the kernel's log has the start of the transition. If not, it started at this time or before.
+    /// Whether the kernel's log has the start of the transition. If false, the transition started at this time or
+    /// before.
     pub(crate) is_start_known: bool,
     pub(crate) first_sample_us: u64,
     pub(crate) last_sample_us: u64,
@@ -89,14 +90,14 @@ pub struct Left {
     pub(crate) function: String,
 }
 
-/// The sample that none of the tried runs shows, with what the log and the rules have there.
+/// The sample that none of the tried runs shows, with the states of the log and of the rules at this sample.
 #[derive(Drop, Serialize)]
 pub struct Refused {
     pub(crate) from_us: u64,
     pub(crate) to_us: u64,
-    /// What the log has.
+    /// The state in the log.
     pub(crate) log: Option<String>,
-    /// What the rules have there, and why.
+    /// The state by the rules, and why it is so.
     pub(crate) rules: Option<String>,
 }
 
@@ -105,36 +106,39 @@ pub struct Refused {
 pub struct Inside {
     pub(crate) task: TaskReport,
     pub(crate) function: String,
-    /// Whether it sleeps there. If so, it would hold a transition up. A task that runs may leave the function first.
+    /// Whether the task sleeps in the function. If so, it would hold a transition up. A running task may leave the
+    /// function before a transition starts.
     pub(crate) is_asleep: bool,
-    /// The number of samples in which the task was there.
+    /// The number of samples in which the task was inside of the function.
     pub(crate) samples: u64,
 }
 
-/// How many tasks the last sample shows, and how many of them lag without being followed.
+/// How many tasks the last sample shows, and how many of these tasks lag without being followed.
 #[derive(Clone, Copy, Serialize)]
 pub struct Counts {
     pub(crate) tasks: u64,
     pub(crate) running: u64,
     pub(crate) sleeping: u64,
-    /// How many followed tasks are left out, since at most 64 are reported.
+    /// How many followed tasks are left out. At most 64 tasks are reported.
     pub(crate) left_out: u64,
-    /// How many functions of the log's patches the catalog has no room for.
+    /// How many functions of the log's patches are left out, since the catalog has no room for them.
     pub(crate) functions_left_out: u64,
     /// How many names of functions were cut because they are too long.
     pub(crate) names_cut: u64,
 }
 
-/// How many samples a run of the rules shows, and how many were left out because a patch changed while they were taken.
+/// How many samples a run of the rules shows. Also has the number of samples that were left out, since a patch changed
+/// while they were taken.
 #[derive(Clone, Copy, Serialize)]
 pub struct Samples {
     pub(crate) shown: u64,
     pub(crate) left_out: u64,
-    /// How many samples weren't reached: those after a force, and those from the first one that no run shows.
+    /// How many samples weren't reached. They are the samples after a force, and the samples from the first one that no
+    /// run shows.
     pub(crate) later: u64,
 }
 
-/// What was found out about a log.
+/// The findings about a log.
 #[derive(Drop, Serialize)]
 pub struct Report {
     pub(crate) kernel: String,
@@ -144,7 +148,7 @@ pub struct Report {
     pub(crate) is_preflight: bool,
     pub(crate) inside: Vec<Inside>,
     pub(crate) transitions: Vec<TransitionReport>,
-    /// The tasks that a force left asleep in a function that is no longer called, or would leave so.
+    /// The tasks that a force left, or would leave, asleep in a function that is no longer called.
     pub(crate) left_by_force: Vec<Left>,
     pub(crate) forced_at_us: Option<u64>,
     pub(crate) others: Counts,

@@ -38,7 +38,7 @@ fn elapsed(from_us: u64, to_us: u64) -> Elapsed {
     Elapsed(seconds(from_us), seconds(to_us))
 }
 
-/// Writes how many tasks a list leaves out, if it names only the first ones.
+/// Writes how many tasks a list leaves out, if the list names only the first tasks.
 fn print_more<W: Write>(count: usize, what: &str, out: &mut W) -> io::Result<()> {
     match count.saturating_sub(SHOWN) {
         0 => Ok(()),
@@ -170,7 +170,7 @@ fn print_left<W: Write>(left: &[Left], front: &str, out: &mut W) -> io::Result<(
 }
 
 impl Report {
-    /// Whether the last transition goes on in the last sample.
+    /// Whether the last transition is still under way in the last sample.
     fn goes_on(&self) -> bool {
         match self.transitions.last() {
             Some(last) => last.end.is_none(),
@@ -328,7 +328,7 @@ fn print_inside<W: Write>(inside: &Inside, out: &mut W) -> io::Result<()> {
     }
 }
 
-/// Writes the sample that none of the tried runs shows, with what the log and the rules have there.
+/// Writes the sample that none of the tried runs shows, with the states of the log and of the rules at this sample.
 fn print_refused<W: Write>(refused: &Refused, out: &mut W) -> io::Result<()> {
     let (from, to) = (seconds(refused.from_us), seconds(refused.to_us));
     writeln!(

@@ -1,10 +1,10 @@
-//! The functions that tasks are inside of, as far as the calls of a trace tell.
+//! The functions that tasks are inside of, by the calls of a trace.
 
 use klp_catalog_text::Lines;
 use klp_faulty_words::item::Item;
 use std::alloc::{AllocError, Global};
 
-/// What stands in front of the object's name in a symbol's spelling.
+/// The text in front of the object's name in a symbol's spelling.
 const SPELLING: &[u8] = b".klp.sym.";
 
 /// A call from which its task hasn't returned.
@@ -21,7 +21,7 @@ pub(crate) struct Calls<'a> {
 }
 
 impl<'a> Call<'a> {
-    /// Whether the called symbol belongs to this module, going by its spelling.
+    /// Whether the called symbol belongs to this module, by the symbol's spelling.
     fn is_in(&self, module: &[u8]) -> bool {
         match self.symbol.strip_prefix(SPELLING) {
             Some(rest) => match rest.strip_prefix(module) {
@@ -34,7 +34,7 @@ impl<'a> Call<'a> {
 }
 
 impl<'a> Calls<'a> {
-    /// Adds the call that a line makes. If the line returns instead, removes the last open call of its task. `Err` if
+    /// Adds the call that a line makes. If the line is a return, removes the last open call of its task. `Err` if
     /// memory runs out.
     fn add(&mut self, item: Option<Item<'a>>) -> Result<(), AllocError> {
         match item {
@@ -50,7 +50,7 @@ impl<'a> Calls<'a> {
     }
 
     /// Returns the calls that are open after the first `lines_before` lines of a trace. These lines must be honest
-    /// items: only then has each task that ended also returned from its calls. `Err` if memory runs out.
+    /// items. If they weren't, a task might have ended without returning from its calls. `Err` if memory runs out.
     pub(crate) fn behind(
         alloc: Global,
         trace: &'a [u8],
@@ -66,15 +66,15 @@ impl<'a> Calls<'a> {
         Ok(calls)
     }
 
-    /// Returns the symbol that the task called last and is still inside of. Returns `None` if it is inside of no
+    /// Returns the symbol that the task called last and is still inside of. Returns `None` if the task is inside of no
     /// function.
     pub(crate) fn last_of(&self, task: u64) -> Option<&'a [u8]> {
         let call = self.open.iter().rfind(|call| call.task == task)?;
         Some(call.symbol)
     }
 
-    /// Returns, of the tasks inside of a module, the one with the lowest number, and the module's symbol that it called
-    /// last. Returns `None` if no task is inside of the module.
+    /// Returns the lowest-numbered task that is inside of a module, and the module's symbol that the task called last.
+    /// Returns `None` if no task is inside of the module.
     pub(crate) fn first_in(&self, module: &[u8]) -> Option<(u64, &'a [u8])> {
         let mut first: Option<Call<'a>> = None;
         for call in &self.open {

@@ -1,4 +1,4 @@
-//! Says what the rules have, and why, at a line of a trace where the kernel differs from them.
+//! Says what the rules have at a line of a trace where the kernel differs from them, and why.
 ghost use Rattle.klp_core.specs.Journaled.{IsWellFormed};
 
 use crate::replay::make_room;
@@ -10,7 +10,7 @@ use klp_trace::{Trace, answer_text};
 use klp_watch::Observed;
 use std::alloc::{AllocError, Global};
 
-/// Describes the rules' answer to an event, and why it is this one.
+/// Describes the rules' answer to an event, and the reason for the answer.
 fn answer_and_why(
     alloc: Global,
     manager: &Manager,
@@ -41,8 +41,8 @@ fn answered(alloc: Global, manager: &mut Manager, event: &Event) -> Result<Strin
     answer_and_why(alloc, manager, &answer)
 }
 
-/// Describes what the rules have at the first of these items. Returns `None` if the item has neither an answer nor a
-/// sight, since the rules can't differ from it then. Returns `None` also if memory runs out.
+/// Describes what the rules have at the first of these items. If the item has neither an answer nor a sight, the rules
+/// can't differ from it, and the result is `None`. Returns `None` also if memory runs out.
 fn rules_of(alloc: Global, manager: &mut Manager, items: &[Observed]) -> Option<String>
     requires { IsWellFormed manager.old }
 {
@@ -53,7 +53,7 @@ fn rules_of(alloc: Global, manager: &mut Manager, items: &[Observed]) -> Option<
     }
 }
 
-/// Describes what the rules have at a line. The manager must have done all lines before it. Returns `None` if the rules
+/// Describes what the rules have at a line. The manager must have done all earlier lines. Returns `None` if the rules
 /// can't differ from this line, or if memory runs out.
 pub(crate) fn rules_at(alloc: Global, manager: &mut Manager, line: &[u8]) -> Option<String>
     requires { IsWellFormed manager.old }

@@ -1,4 +1,4 @@
-//! Who does what in an item that isn't honest.
+//! Says which task does what in an item that isn't honest.
 
 use crate::calls::Calls;
 use klp_faulty_words::escaped::Escaped;
@@ -8,9 +8,9 @@ use std::fmt;
 
 #[derive(Clone, Copy)]
 pub(crate) enum Act<'a> {
-    /// What is wrong is no task's act.
+    /// The fault isn't an act of a task.
     Nobody(&'static str),
-    /// This task does this, and is inside of this function, or of none.
+    /// This task does this act. The last field is the function that the task is inside of, if it is inside of one.
     Inside(u64, &'static str, Option<&'a [u8]>),
     /// This module is unloaded while this task is inside of this function of the module.
     Going(&'a [u8], u64, &'a [u8]),
@@ -34,7 +34,7 @@ impl<'a> fmt::Display for Act<'a> {
     }
 }
 
-/// Returns what is wrong with a task's return: the task is inside of no function, or it sleeps.
+/// Returns the fault of a task's return: the task is inside of no function, or it sleeps.
 fn returns<'a>(task: u64, calls: &Calls<'a>) -> Act<'a> {
     match calls.last_of(task) {
         None => Act::Inside(task, "returns, and is", None),
@@ -42,15 +42,15 @@ fn returns<'a>(task: u64, calls: &Calls<'a>) -> Act<'a> {
     }
 }
 
-/// Returns the act of a module that is unloaded while a task is inside of it. Names the task with the lowest number,
-/// and the symbol of the module that it called last. Returns `None` if no task is inside of the module.
+/// Returns the act of a module that is unloaded while a task is inside of it. The act names the lowest-numbered such
+/// task, and the symbol of the module that this task called last. Returns `None` if no task is inside of the module.
 fn goes<'a>(module: &'a [u8], calls: &Calls<'a>) -> Option<Act<'a>> {
     let (task, symbol) = calls.first_in(module)?;
     Some(Act::Going(module, task, symbol))
 }
 
-/// Returns what a task does in an item, or which task keeps a module from being unloaded. `calls` are those open before
-/// the item. Returns `None` if no task is at fault.
+/// Returns what a task does in an item, or which task keeps a module from being unloaded. `calls` are the calls that
+/// are open before the item. Returns `None` if no task is at fault.
 fn act_in<'a>(cause: Cause, item: Item<'a>, calls: &Calls<'a>) -> Option<Act<'a>> {
     let (task, does) = match (cause, item) {
         (Cause::FramesLeft, Item::Exit(task)) => (task, "leaves the kernel"),
@@ -63,7 +63,8 @@ fn act_in<'a>(cause: Cause, item: Item<'a>, calls: &Calls<'a>) -> Option<Act<'a>
     Some(Act::Inside(task, does, calls.last_of(task)))
 }
 
-/// Returns what to say of an item that breaks a premise, which `cause` names. `calls` are those open before the item.
+/// Returns the words about an item that breaks the premise `cause`. `calls` are the calls that are open before the
+/// item.
 pub(crate) fn act_of<'a>(cause: Cause, item: Option<Item<'a>>, calls: &Calls<'a>) -> Act<'a> {
     let act = match item {
         Some(item) => act_in(cause, item, calls),

@@ -1,4 +1,4 @@
-//! The two files of a program, and what it writes to standard error about their lines.
+//! The two files of a program, and the messages to standard error about their lines.
 ghost use Rattle.std.specs.Prelude.{◌≡◌, IfErr};
 
 use crate::calls::Calls;
@@ -41,7 +41,7 @@ pub struct FileText<'a> {
     pub bytes: &'a [u8],
 }
 
-/// The two files of a program. What can't be written to standard error is left out.
+/// The two files of a program. If a message can't be written to standard error, it is left out.
 #[derive(Clone, Copy)]
 pub struct Inputs<'a> {
     /// The name by which the program calls itself.
@@ -51,8 +51,8 @@ pub struct Inputs<'a> {
     pub kind: Kind,
 }
 
-/// Returns the bytes of a program's file. If the file can't be read, writes a line to `err` that says so, and returns
-/// the exit status, 1.
+/// Returns the bytes of a program's file. If the file can't be read, says so in a line to `err`, and returns the exit
+/// status, 1.
 pub fn file_in<R: Files + AllocGlobal, E: Write>(
     rt: &R,
     program: &str,
@@ -89,7 +89,7 @@ impl<'a> FileText<'a> {
         Escaped(self.name.as_bytes())
     }
 
-    /// Writes the program, the file and the number of a line of a trace. If the line has a time, writes that too.
+    /// Writes the program, the file and the number of a line of a trace. If the line has a time, writes the time too.
     fn write_item_place<E: Write>(&self, program: &str, line: u64, err: &mut E) -> io::Result<()> {
         match LineParts::of(line_at(self.bytes, line)).time {
             Some(time) if microseconds(time).is_some() => {
@@ -107,9 +107,9 @@ impl<'a> FileText<'a> {
 }
 
 impl<'a> Inputs<'a> {
-    /// Writes hints to `err`. One hint points at a function of the catalog whose symbol can't be picked. The others
-    /// point into the file beside the catalog: for each [`Stray`] that isn't part of such a file, at the first line
-    /// that has it. If the files are swapped, writes nothing, since the fault says enough.
+    /// Writes hints to `err`. One hint points at a function of the catalog whose symbol can't be picked. The other
+    /// hints point into the file beside the catalog. For each [`Stray`] that isn't part of such a file, a hint points
+    /// at the first line that has the stray. If the files are swapped, the fault says enough, and no hint is written.
     pub fn hint<E: Write>(&self, err: &mut E) {
         if self.are_swapped() {
             return;
@@ -120,8 +120,8 @@ impl<'a> Inputs<'a> {
         }
     }
 
-    /// Writes a hint to `err` at the first line of a script that may be misspelled. It is only a hint, since a script
-    /// may have a line in order that the console refuses it.
+    /// Writes a hint to `err` at the first line of a script that may be misspelled. The line may be meant to be refused
+    /// by the console, so the message is only a hint.
     pub fn hint_line<E: Write>(&self, alloc: Global, err: &mut E) {
         let text = self.second.bytes;
         if begins_as_catalog(text) || begins_as_utf16(text) {
@@ -132,9 +132,9 @@ impl<'a> Inputs<'a> {
         }
     }
 
-    /// Writes to `err` what is behind a verdict. If the trace isn't honest, names the task, and the function that the
-    /// task is inside of. If the kernel differs from the rules, says what the rules have at that line, and why.
-    /// Otherwise hints at the events that are refused, if there are any.
+    /// Writes to `err` the reason for a verdict. If the trace isn't honest, names the task, and the function that the
+    /// task is inside of. If the kernel differs from the rules, says what the rules have at that line, and why. For any
+    /// other verdict, hints at the events that are refused, if there are any.
     pub fn print_verdict<E: Write>(&self, alloc: Global, verdict: Verdict, err: &mut E) {
         let _ = match verdict {
             Verdict::Honest(_) => self.write_refused(alloc, err),
@@ -151,7 +151,8 @@ impl<'a> Inputs<'a> {
         FAULT
     }
 
-    /// Hints at the first function of the catalog whose symbol can't be picked, unless that isn't worth a hint.
+    /// Hints at the first function of the catalog whose symbol can't be picked. Writes nothing if there is no such
+    /// function, or if it isn't worth a hint.
     fn write_unloadable<E: Write>(&self, err: &mut E) -> io::Result<()> {
         match first_unloadable(self.catalog.bytes, self.second.bytes) {
             Some(found) => {
@@ -174,7 +175,7 @@ impl<'a> Inputs<'a> {
         self.write_first_misspelled(&names, err)
     }
 
-    /// Hints at the first line of a script that may be misspelled. `names` are those of the catalog.
+    /// Hints at the first line of a script that may be misspelled. `names` are the names of the catalog.
     fn write_first_misspelled<E: Write>(&self, names: &Names<'_>, err: &mut E) -> io::Result<()> {
         let mut number = 0u64;
         for line in self.second.bytes.split(|b| *b == b'\n') {
@@ -187,8 +188,8 @@ impl<'a> Inputs<'a> {
         Ok(())
     }
 
-    /// Hints at the first line of the second file that has this stray. If the file is UTF-16, writes only the hint that
-    /// says so, since its bytes aren't those that were meant.
+    /// Hints at the first line of the second file that has this stray. If the file is UTF-16, its bytes aren't the ones
+    /// that were meant, so only the hint about UTF-16 is written.
     fn write_stray<E: Write>(&self, stray: Stray, err: &mut E) -> io::Result<()> {
         let text = self.second.bytes;
         let is_reported = matches!(stray, Stray::Utf16) || !begins_as_utf16(text);
@@ -201,8 +202,8 @@ impl<'a> Inputs<'a> {
         }
     }
 
-    /// Hints at the events of an honest trace that are refused. Writes nothing if there are none, or no memory to find
-    /// them.
+    /// Hints at the events of an honest trace that are refused. Writes nothing if no event is refused, or if there is
+    /// no memory to find the events.
     fn write_refused<E: Write>(&self, alloc: Global, err: &mut E) -> io::Result<()> {
         let trace = self.second.bytes;
         match replay_of(alloc, self.catalog.bytes, trace, trace.len() as u64) {
@@ -211,7 +212,7 @@ impl<'a> Inputs<'a> {
         }
     }
 
-    /// Hints at the first event that is refused, and says how many events are.
+    /// Hints at the first event that is refused, and says how many events are refused.
     fn write_first_refused<E: Write>(&self, replay: &Replay, err: &mut E) -> io::Result<()> {
         let Some(first) = replay.first else {
             return Ok(());
@@ -226,7 +227,7 @@ impl<'a> Inputs<'a> {
         )
     }
 
-    /// Writes about the line that breaks a premise: the cause, and who does what in the line.
+    /// Writes about the line that breaks a premise: the cause, and which task does what in the line.
     fn write_item<E: Write>(&self, alloc: Global, fault: NotHonest, err: &mut E) -> io::Result<()> {
         let (line, trace) = (fault.item as u64, self.second.bytes);
         self.second.write_item_place(self.program, line, err)?;
@@ -257,8 +258,8 @@ impl<'a> Inputs<'a> {
         }
     }
 
-    /// Ends a line of `err` by saying who does what in the line of the trace that breaks a premise. `calls` are those
-    /// open before that line.
+    /// Ends a line of `err` by saying which task does what in the line of the trace that breaks a premise. `calls` are
+    /// the calls that are open before that line.
     fn write_act<E: Write>(
         &self,
         alloc: Global,
@@ -312,7 +313,7 @@ impl<'a> Inputs<'a> {
         }
     }
 
-    /// Whether the two files are swapped: the second begins as a catalog, and the first doesn't.
+    /// Whether the two files are swapped. They are if the second begins as a catalog and the first doesn't.
     fn are_swapped(&self) -> bool {
         begins_as_catalog(self.second.bytes) && !begins_as_catalog(self.catalog.bytes)
     }
@@ -336,8 +337,8 @@ impl<'a> Inputs<'a> {
         }
     }
 
-    /// Writes about a fault that the catalog has as a whole, with the symbols or functions at fault. Finds them in its
-    /// plan.
+    /// Writes about a fault that the catalog has as a whole, with the symbols or functions at fault. The function finds
+    /// them in the catalog's plan.
     fn write_in_plan<E: Write>(&self, mut plan: Plan, fault: Fault, err: &mut E) -> io::Result<()> {
         let (objects, handler) = (plan.take_objects(), plan.handler());
         let patches = plan.into_patches();
@@ -348,7 +349,7 @@ impl<'a> Inputs<'a> {
         self.write_catalog_fault(fault, wrong, err)
     }
 
-    /// Writes about a fault that the catalog has as a whole. Says what is wrong if that is known.
+    /// Writes about a fault that the catalog has as a whole. `wrong` is what is wrong, if it is known.
     fn write_catalog_fault<E: Write>(
         &self,
         fault: Fault,

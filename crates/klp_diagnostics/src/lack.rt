@@ -1,4 +1,4 @@
-//! Finds out what makes a call impossible.
+//! Finds out why a call is impossible.
 
 use crate::inputs::Inputs;
 use klp_catalog_text::Lines;
@@ -8,12 +8,12 @@ use std::alloc::Global;
 use std::io;
 use std::io::Write;
 
-/// What is written if there is no memory to find out which of the two it is.
+/// The text that is written if there is no memory to find out which of the two reasons is the right one.
 const EITHER: &str = "and isn't running in the kernel, or its object isn't loaded";
 
-/// Copies the lines of a trace to `text`, up to the line with this number. In front of this last line, adds three that
-/// bring the task into the kernel from any state; those of the three that don't apply are refused. `Err` if memory runs
-/// out.
+/// Copies the lines of a trace to `text`, up to the line with this number. In front of the last line, adds three lines
+/// that bring the task into the kernel from any state. A line that doesn't apply to the task's state is refused. `Err`
+/// if memory runs out.
 fn load_line(text: &mut Vec<u8>, trace: &[u8], line: u64, task: u64) -> io::Result<()> {
     let mut lines = Lines::new(trace);
     for _ in 1..line {
@@ -24,9 +24,9 @@ fn load_line(text: &mut Vec<u8>, trace: &[u8], line: u64, task: u64) -> io::Resu
     text.write_all(lines.next().unwrap_or(&[]))
 }
 
-/// Returns what makes the call in this line impossible. The line is the first that isn't honest. The trace is judged
-/// once more, with the task brought into the kernel before the call. If the call is still impossible, its object isn't
-/// loaded.
+/// Returns the reason why the call in this line is impossible. The line is the first that isn't honest. The trace is
+/// judged once more, with the task brought into the kernel before the call. If the call is still impossible, its object
+/// isn't loaded.
 pub(crate) fn lack_of(alloc: Global, inputs: &Inputs<'_>, line: u64, task: u64) -> &'static str {
     let mut text = Vec::new(alloc);
     if load_line(&mut text, inputs.second.bytes, line, task).is_err() {

@@ -1,14 +1,15 @@
-//! Where a fault is, for the people who wrote the files: which file, line and word, and what is wanted there.
+//! Reports where a fault is, for the people who wrote the files: which file, line and word, and what is wanted in place
+//! of the word.
 //!
 //! `klpwatch` and `klppage` know only the kind of a fault and its line. [`Inputs`] reads the files again, as text, to
-//! find what is at fault; `klp_faulty_words` finds the word. If a trace isn't honest, the sentence says which task does
-//! what (`dishonest.rt`), which function the task is inside of (`calls.rt`), or what its call lacks (`lack.rt`). Some
-//! things can't be seen in the trace: which versions a task is inside of, and which events are refused. For these, a
-//! manager does the trace's events again (`replay.rt`). If a kernel differs from the rules, the sentence says what the
-//! rules have at that line, and why (`differing.rt`, `rules.rt`).
+//! find the place of the fault. `klp_faulty_words` finds the word. If a trace isn't honest, the sentence says which
+//! task does what (`dishonest.rt`), which function the task is inside of (`calls.rt`), or what its call lacks
+//! (`lack.rt`). The trace alone doesn't show which versions a task is inside of, and which events are refused. To find
+//! them out, a manager does the trace's events again (`replay.rt`). If a kernel differs from the rules, the sentence
+//! says what the rules have at that line, and why (`differing.rt`, `rules.rt`).
 //!
-//! All of this is for people, and has no contract. No bytes of a file can drive a terminal through it. Each call works
-//! with any files.
+//! The messages are for people, and have no contract. No bytes of a file can control a terminal through a message. Each
+//! call works with any files.
 #![tactic(auto)]
 
 mod calls;

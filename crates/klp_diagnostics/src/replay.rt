@@ -1,5 +1,5 @@
-//! Replaying a trace: a manager does its events again. This shows which events are refused, which versions a task is
-//! inside of, and what the rules have at a line.
+//! Replays a trace: a manager does the trace's events again. The replay shows which events are refused, which versions
+//! a task is inside of, and what the rules have at a line.
 ghost use Rattle.std.specs.Prelude.{◌≤◌, length};
 ghost use Rattle.klp_catalog_text.specs.Within.{AreTargetsWithin};
 ghost use Rattle.klp_core.specs.Journaled.{IsWellFormed};
@@ -22,7 +22,7 @@ use std::alloc::{AllocError, Global};
 use std::io;
 use std::io::Write;
 
-/// How many of the versions that a task is inside of are written.
+/// How many versions are written at most, of those that a task is inside of.
 const REPORTED: usize = 4;
 
 /// A version that a task called, and from which it hasn't returned.
@@ -36,35 +36,36 @@ struct Entered {
     version: Version,
 }
 
-/// An event that is refused: its line, and why.
+/// An event that is refused: its line, and the refusal.
 #[derive(Clone, Copy)]
 pub(crate) struct Refused {
     pub(crate) line: u64,
     pub(crate) refusal: Refusal,
 }
 
-/// What has come of the lines of a trace so far.
+/// The results of the lines of a trace that were done so far.
 #[derive(Drop)]
 pub(crate) struct Replay {
     pub(crate) events: usize,
     pub(crate) refused: usize,
     pub(crate) first: Option<Refused>,
-    /// What the rules have at the line that the question is about. `None` if that isn't asked or isn't known.
+    /// What the rules have at the line in question. `None` if the question is another one, or if the answer isn't
+    /// known.
     rules: Option<String>,
     entered: Vec<Entered>,
 }
 
-/// What a manager is to find out from a trace.
+/// A question about a trace, which a manager answers.
 #[derive(Clone, Copy)]
 enum Question {
-    /// What comes of this many lines, from the first.
+    /// What are the results of the first lines, as many as this number?
     Lines(u64),
-    /// What the rules have at the line with this number, counted from 1.
+    /// What do the rules have at the line with this number, counted from 1?
     Rules(u64),
 }
 
 /// Returns the function with this number, counted from 0 over all targets of a patch. Returns `None` if the patch has
-/// fewer.
+/// no function with this number.
 fn function_at(patch: &PlanPatch, number: u16) -> Option<&PlanFunction> {
     let mut left = usize::from(number);
     for target in &patch.targets {
@@ -108,7 +109,7 @@ fn write_new<E: Write>(patch: &PlanPatch, number: u16, err: &mut E) -> io::Resul
     }
 }
 
-/// Makes room in the journal for one more event: seals the journal if it might be too full.
+/// If the journal might be too full for one more event, seals it.
 pub(crate) fn make_room(manager: &mut Manager)
     requires { IsWellFormed manager.old }
     ensures { IsWellFormed manager.new }
@@ -119,7 +120,7 @@ pub(crate) fn make_room(manager: &mut Manager)
 }
 
 /// Returns the version that a task gets if it calls a symbol now, and the symbol's position. Returns `None` if the task
-/// can't call it.
+/// can't call the symbol.
 fn called(manager: &Manager, task: u64, symbol: &[u8]) -> Option<(Version, u32)> {
     let number = u8::try_from(task).ok()?;
     let site = site_of(symbol, manager)?;
@@ -139,7 +140,7 @@ fn is_answered(parts: LineParts<'_>) -> bool {
 }
 
 impl Replay {
-    /// Returns what has come of a trace before its first line.
+    /// Returns the results of a trace before its first line.
     fn new(alloc: Global) -> Self {
         Self {
             events: 0,
@@ -150,8 +151,8 @@ impl Replay {
         }
     }
 
-    /// Does the event that a line asks for. Counts the event, and also counts it as refused if it is. Skips a line that
-    /// asks for no event.
+    /// Does the event that a line asks for, and counts it. A refused event is also counted as refused. A line that asks
+    /// for no event is skipped.
     fn take(&mut self, manager: &mut Manager, line: u64, text: &[u8])
         requires { IsWellFormed manager.old }
         ensures { IsWellFormed manager.new }
@@ -162,7 +163,7 @@ impl Replay {
         };
         make_room(manager);
         self.events = self.events.saturating_add(1);
-        // If the line has an answer, the kernel refused the event too, so it isn't counted.
+        // If the line has an answer, the kernel refused the event too, so the refusal isn't counted.
         if let Err(refusal) = manager.apply(event)
             && !is_answered(parts)
         {
@@ -173,8 +174,8 @@ impl Replay {
         }
     }
 
-    /// Notes the version that a task enters by calling a symbol in this line. Notes nothing if the task can't call it.
-    /// `Err` if memory runs out.
+    /// Notes the version that a task enters by calling a symbol in this line. If the task can't call the symbol, notes
+    /// nothing. `Err` if memory runs out.
     fn enter(
         &mut self,
         manager: &Manager,
@@ -228,7 +229,8 @@ impl Replay {
         Ok(())
     }
 
-    /// Does as many lines of a trace as a question needs, and finds its answer. `Err` if memory runs out.
+    /// Does as many lines of a trace as a question needs, and finds the answer to the question. `Err` if memory runs
+    /// out.
     fn answer(
         &mut self,
         alloc: Global,
@@ -249,8 +251,8 @@ impl Replay {
         }
     }
 
-    /// Ends a line of `err` with the versions that the task is inside of, outermost first. Of more than [`REPORTED`],
-    /// writes the first [`REPORTED`] and `..`.
+    /// Ends a line of `err` with the versions that the task is inside of, outermost first. If there are more than
+    /// [`REPORTED`] versions, writes the first [`REPORTED`] and `..`.
     pub(crate) fn write_versions<E: Write>(
         &self,
         task: u64,
@@ -290,7 +292,7 @@ fn replay_by(
     }
 }
 
-// Boots a manager over a plan, and puts the question to it. The boxes of the callbacks are made here, as they are for
+// Boots a manager over a plan, and puts the question to the manager. The boxes of the callbacks are made here, as for
 // watching a trace.
 fn replay_plan(
     alloc: Global,
@@ -308,7 +310,8 @@ fn replay_plan(
     Ok(replay_by(manager, alloc, trace, question))
 }
 
-/// Puts the question to a manager that is booted over a catalog's text. Returns `None` if there is no memory for that.
+/// Boots a manager with a catalog's text, and puts the question to the manager. Returns `None` if there is no memory
+/// for the manager or the answer.
 fn replayed(alloc: Global, catalog: &[u8], trace: &[u8], question: Question) -> Option<Replay> {
     let Ok(plan) = Catalog::read(alloc, catalog) else {
         return None;
@@ -316,14 +319,14 @@ fn replayed(alloc: Global, catalog: &[u8], trace: &[u8], question: Question) -> 
     replay_plan(alloc, plan, trace, question).ok()?
 }
 
-/// Returns what comes of the first `lines` lines of a trace over a catalog. Returns `None` if there is no memory to
-/// find out.
+/// Returns the results of the first `lines` lines of a trace over a catalog. Returns `None` if there is no memory to
+/// find them out.
 pub(crate) fn replay_of(alloc: Global, catalog: &[u8], trace: &[u8], lines: u64) -> Option<Replay> {
     replayed(alloc, catalog, trace, Question::Lines(lines))
 }
 
-/// Returns what the rules have at the line with this number, counted from 1. The kernel differs from the rules there.
-/// Returns `None` if there is no memory to find out.
+/// Returns what the rules have at the line with this number, counted from 1. At this line, the kernel differs from the
+/// rules. Returns `None` if there is no memory to find out.
 pub fn rules_of(alloc: Global, catalog: &[u8], trace: &[u8], line: u64) -> Option<String> {
     let replay = replayed(alloc, catalog, trace, Question::Rules(line))?;
     replay.rules

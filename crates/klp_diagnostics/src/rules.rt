@@ -1,14 +1,14 @@
-//! Finds in the state of a manager what the rules have where a kernel shows something else, and why.
+//! Finds in the state of a manager what the rules have in place of something else that a kernel shows, and why.
 
 use klp_core::{Lag, Manager};
 use klp_types::{Mode, PatchId, Site, TaskId, Version};
 use klp_watch::{PatchFiles, Sight};
 use std::fmt;
 
-/// How many tasks are written of those that aren't at the target of a transition.
+/// How many tasks are written at most, of those that aren't at the target of a transition.
 const REPORTED: usize = 3;
 
-/// Writes a version as a line of a trace names it. Adds the name of a new function.
+/// Writes a version as a line of a trace names it. For a new function, adds the function's name.
 #[derive(Clone, Copy)]
 struct Spelled<'a> {
     manager: &'a Manager,
@@ -23,8 +23,9 @@ struct Lagging<'a> {
     lag: Lag,
 }
 
-/// Writes a colon, and then which tasks aren't at the target of the transition, and why. The tasks that block it come
-/// first. If there are many, writes only some, and counts the others. Writes nothing if there are none.
+/// Writes a colon, the tasks that aren't at the target of the transition, and the reason for each. Tasks that block the
+/// transition are written first. If there are many tasks, writes only some, and the number of the tasks left out.
+/// Writes nothing if all tasks are at the target.
 #[derive(Clone, Copy)]
 pub(crate) struct Holders<'a>(pub(crate) &'a Manager);
 
@@ -46,7 +47,7 @@ pub(crate) fn moving_name(manager: &Manager) -> Option<&str> {
     Some(patch_name(manager, moving.patch))
 }
 
-/// Writes the symbol of a site. Writes nothing if the site has none.
+/// Writes the symbol of a site. Writes nothing if the site has no symbol.
 fn write_symbol<W: fmt::Write>(
     f: &mut fmt::Formatter<W>,
     manager: &Manager,
@@ -60,7 +61,7 @@ fn write_symbol<W: fmt::Write>(
     write!(f, ".klp.sym.{object}.{symbol},{position}")
 }
 
-/// Writes a new function of a patch by its number. Adds its name if the patch has such a function.
+/// Writes a new function of a patch by its number. If the patch has such a function, adds the function's name.
 fn write_new<W: fmt::Write>(
     f: &mut fmt::Formatter<W>,
     manager: &Manager,
@@ -118,8 +119,8 @@ fn is_moving(manager: &Manager, patch: PatchId) -> bool {
     }
 }
 
-/// Writes those lagging tasks that are blocked if `is_blocked`, and otherwise those that aren't. `before` is how many
-/// tasks were counted before. Returns the count that includes these.
+/// Writes lagging tasks. If `is_blocked`, writes those that are blocked, otherwise those that aren't blocked. `before`
+/// is how many tasks were counted before. Returns the count that includes the tasks of this call.
 fn write_lagging<W: fmt::Write>(
     f: &mut fmt::Formatter<W>,
     manager: &Manager,
@@ -153,7 +154,7 @@ impl<'a> fmt::Display for Holders<'a> {
     }
 }
 
-/// Writes the patch state of a task, and why it is this one.
+/// Writes the patch state of a task, and why the task has this state.
 fn write_state<W: fmt::Write>(
     f: &mut fmt::Formatter<W>,
     manager: &Manager,
@@ -178,7 +179,7 @@ fn write_state<W: fmt::Write>(
 }
 
 /// Writes what the rules have in the files of a patch. If by the rules the patch is in transition, and the kernel
-/// didn't show that, also writes which tasks aren't at the target.
+/// didn't show a transition, also writes which tasks aren't at the target.
 fn write_files<W: fmt::Write>(
     f: &mut fmt::Formatter<W>,
     manager: &Manager,
@@ -205,7 +206,8 @@ fn write_files<W: fmt::Write>(
     }
 }
 
-/// Writes which version a task gets if it calls a site now, and the task's patch state, on which the version depends.
+/// Writes which version a task gets if it calls a site now. The version depends on the task's patch state, so writes
+/// the patch state too.
 fn write_version<W: fmt::Write>(
     f: &mut fmt::Formatter<W>,
     manager: &Manager,

@@ -14,11 +14,11 @@ use std::alloc::Global;
 /// The two byte-order marks of UTF-16, one of which may stand in front of a text.
 const UTF16_MARKS: [[u8; 2]; 2] = [[0xfe, 0xff], [0xff, 0xfe]];
 
-/// How many hexadecimal digits of a body stand for one byte.
+/// How many hexadecimal digits of a body spell one byte.
 const DIGITS: usize = 2;
 
-/// Whether a text begins as a catalog must: its first line with a word, apart from comments, is a handler's or an
-/// object's.
+/// Whether a text begins as a catalog must. The first line that has a word and isn't a comment must be the line of a
+/// handler or an object.
 pub fn begins_as_catalog(text: &[u8]) -> bool {
     let mut lines = Lines::new(text);
     for _ in 0..text.len() {
@@ -36,7 +36,7 @@ pub fn begins_as_utf16(text: &[u8]) -> bool {
     UTF16_MARKS.iter().any(|mark| text.starts_with(mark))
 }
 
-/// Returns the first two words of a line. If the line lacks one of them, that one is empty.
+/// Returns the first two words of a line. If the line lacks a word, the empty word is returned in its place.
 pub(crate) fn first_words(line: &[u8]) -> (&[u8], &[u8]) {
     let mut words = words_of(line.strip_suffix(b"\r").unwrap_or(line));
     let first = words.next().unwrap_or(&[]);
@@ -48,8 +48,8 @@ fn is_body(word: &[u8]) -> bool {
     word.len() % DIGITS == 0 && word.iter().all(u8::is_ascii_hexdigit)
 }
 
-/// Whether a word is an edit of a callback. The catalog's reader decides this, from a line of a status 0 and this word.
-/// Returns true also if memory runs out.
+/// Whether a word is an edit of a callback. The catalog's reader decides this, from a line with the status 0 and this
+/// word. Returns true also if memory runs out.
 fn is_edit(alloc: Global, word: &[u8]) -> bool {
     let mut script = Vec::new(alloc);
     if script.extend_from_slice(b"0 ").is_err() || script.extend_from_slice(word).is_err() {
@@ -75,7 +75,7 @@ fn is_spelled(alloc: Global, part: Part, word: &[u8]) -> bool {
     }
 }
 
-/// Returns the first of these words that isn't an edit, as wrong. Looks at no more than `most` words.
+/// Returns the first of these words that isn't an edit, as the wrong word. Looks at no more than `most` words.
 fn bad_edit<'a>(alloc: Global, mut words: LineWords<'a>, most: usize) -> Wrong<'a> {
     let mut word = words.next().unwrap_or(&[]);
     for _ in 0..most {
@@ -87,8 +87,8 @@ fn bad_edit<'a>(alloc: Global, mut words: LineWords<'a>, most: usize) -> Wrong<'
     Wrong::Word(word, Part::Edit.wanted())
 }
 
-/// Returns the first word of a line that isn't spelled as the form says, as wrong. If each is spelled so, the symbol is
-/// wrong: it belongs to another object than the target's.
+/// Returns the first word of a line that isn't spelled as the form says, as the wrong word. If all words are spelled as
+/// the form says, the symbol is wrong, since it belongs to another object than the target's.
 fn bad_word<'a>(alloc: Global, form: &Form, line: &'a [u8]) -> Wrong<'a> {
     let mut words = words_of(line);
     words.next();
@@ -104,7 +104,8 @@ fn bad_word<'a>(alloc: Global, form: &Form, line: &'a [u8]) -> Wrong<'a> {
     Wrong::Word(word_at(words_of(line), 2), Part::Symbol.wanted())
 }
 
-/// Returns what is wrong with a line that repeats an earlier one: the word that the earlier line already has.
+/// Returns what is wrong with a line that repeats an earlier one. The wrong word is the one that the earlier line
+/// already has.
 fn twice<'a>(form: &Form, line: &'a [u8]) -> Wrong<'a> {
     let number = match form.parts {
         [Part::Name | Part::Id, ..] => 2,
@@ -124,8 +125,8 @@ fn too_many<'a>(form: &Form, line: &'a [u8]) -> Wrong<'a> {
     }
 }
 
-/// Returns what is wrong with a line whose first word no line of a catalog begins with. If its first word is known, the
-/// wrong word is the third, which may only be `replace`.
+/// Returns what is wrong with a line of no form. If no line of a catalog begins with the line's first word, this word
+/// is wrong. If the first word is known, the third word is wrong, which may only be `replace`.
 fn unknown_word(line: &[u8]) -> Wrong<'_> {
     let first = word_at(words_of(line), 1);
     match Form::of(first) {
@@ -137,7 +138,7 @@ fn unknown_word(line: &[u8]) -> Wrong<'_> {
     }
 }
 
-/// Returns what is wrong with a line, which is of this form and has this kind of fault.
+/// Returns what is wrong with a line. `form` is the line's form, and `kind` is the kind of its fault.
 fn wrong_with<'a>(alloc: Global, form: &Form, kind: TextFaultKind, line: &'a [u8]) -> Wrong<'a> {
     match kind {
         TextFaultKind::WrongCount => Wrong::Word(line, form.written),
@@ -154,7 +155,7 @@ fn wrong_with<'a>(alloc: Global, form: &Form, kind: TextFaultKind, line: &'a [u8
     }
 }
 
-/// Returns what is wrong in the line of a catalog in which this fault was found.
+/// Returns what is wrong in the line of a catalog that has this fault.
 pub fn wrong_of(alloc: Global, catalog: &[u8], fault: TextFault) -> Wrong<'_> {
     let line = line_at(catalog, fault.line);
     match fault.kind {

@@ -1,15 +1,17 @@
-//! Writes bytes of a file so that a terminal may show them.
+//! Writes bytes of a file in a form that a terminal may show.
 
 use std::fmt;
 
 /// How many bytes of a word are shown.
 const SHOWN: usize = 64;
 
-/// Writes bytes as they are, except that it escapes those that would drive a terminal, can't be seen, or aren't text.
+/// Writes bytes. Bytes that would control a terminal, can't be seen, or aren't text are escaped. All other bytes are
+/// written unchanged.
 #[derive(Clone, Copy)]
 pub struct Escaped<'a>(pub &'a [u8]);
 
-/// Writes bytes as [`Escaped`] does, between quotes. Of more than [`SHOWN`] bytes, writes the first [`SHOWN`] and `..`.
+/// Writes bytes as [`Escaped`] does, between quotes. If there are more than [`SHOWN`] bytes, writes the first [`SHOWN`]
+/// and `..`.
 #[derive(Clone, Copy)]
 pub struct Quoted<'a>(pub &'a [u8]);
 

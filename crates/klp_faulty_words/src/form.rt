@@ -1,10 +1,10 @@
-//! How the lines of a catalog are written.
+//! The forms of a catalog's lines.
 
 use klp_types::{
     MAX_EDITS, MAX_FUNCTIONS, MAX_OBJECTS, MAX_PATCHES, MAX_SITES, MAX_STATES, MAX_TARGETS,
 };
 
-/// What a word behind the first word of a line stands for.
+/// The meaning of a word behind the first word of a line.
 #[derive(Clone, Copy)]
 pub(crate) enum Part {
     Name,
@@ -23,12 +23,12 @@ pub(crate) enum Part {
 pub(crate) struct Form {
     /// The words with which a line of this form may begin.
     words: &'static [&'static str],
-    /// What stands behind the first word.
+    /// The parts behind the first word.
     pub(crate) parts: &'static [Part],
     pub(crate) written: &'static str,
     pub(crate) place: &'static str,
     pub(crate) once: &'static str,
-    /// How many of these a catalog, object or patch may have; `of_these` names what is counted.
+    /// How many such lines a catalog, object or patch may have. `of_these` is the name of what is counted.
     pub(crate) most: usize,
     pub(crate) of_these: &'static str,
 }
@@ -114,14 +114,14 @@ impl Form {
         self.words.iter().any(|own| own.as_bytes() == word)
     }
 
-    /// Returns the form of the lines that begin with this word. Returns `None` if no line may begin with it.
+    /// Returns the form of the lines that begin with this word. Returns `None` if no line may begin with the word.
     pub(crate) fn of(word: &[u8]) -> Option<&'static Form> {
         FORMS.iter().find(|form| form.begins_with(word))
     }
 }
 
 impl Part {
-    /// Returns the phrase that says what a word must be in this place. It begins with its verb.
+    /// Returns the phrase that says what a word must be at this part of a line. The phrase begins with its verb.
     pub(crate) fn wanted(self) -> &'static str {
         match self {
             Part::Name => "is a name, of 1 to 55 letters, digits, _ and -",

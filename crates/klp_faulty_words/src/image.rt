@@ -1,10 +1,10 @@
-//! Objects of which no image can be made: finds the symbol at fault, or the two symbols.
+//! Finds the symbol at fault, or the two symbols, among objects of which no image can be made.
 
 use crate::wrong::{Named, Wrong};
 use klp_text::ImageFault;
 use klp_types::{ENTRY_SITE_LEN, ObjectText, SymbolText};
 
-/// The instruction ENDBR64. If a function begins with it, its entry site stands behind it.
+/// The instruction ENDBR64. If a function begins with this instruction, the function's entry site is behind it.
 const ENDBR64: [u8; 4] = [0xf3, 0x0f, 0x1e, 0xfa];
 
 /// Returns the index in a symbol's body at which its entry site ends.
@@ -16,7 +16,7 @@ fn entry_end(symbol: &SymbolText) -> usize {
     }
 }
 
-/// Whether a symbol's body ends before its entry site does.
+/// Whether a symbol's body ends before the symbol's entry site does.
 fn is_short(symbol: &SymbolText) -> bool {
     symbol.body.len() < entry_end(symbol)
 }
@@ -45,7 +45,7 @@ fn named<'a>(object: &'a ObjectText, symbol: &'a SymbolText) -> Named<'a> {
     }
 }
 
-/// Returns what a symbol must be, if this fault shows in the symbol alone. Returns `None` if it doesn't.
+/// Returns what a symbol must be, if the symbol by itself has this fault. Returns `None` if it doesn't have the fault.
 fn wanted_of(fault: ImageFault, handler: u64, symbol: &SymbolText) -> Option<&'static str> {
     match fault {
         ImageFault::ShortSymbol if is_short(symbol) => {
@@ -61,8 +61,8 @@ fn wanted_of(fault: ImageFault, handler: u64, symbol: &SymbolText) -> Option<&'s
     }
 }
 
-/// Returns the first of an object's first `before` symbols that shares an address with `symbol`. Returns `None` if none
-/// does.
+/// Returns the first of an object's first `before` symbols that shares an address with `symbol`. Returns `None` if no
+/// symbol does.
 fn sharing<'a>(object: &'a ObjectText, before: usize, symbol: &SymbolText) -> Option<Named<'a>> {
     for other in object.symbols.iter().take(before) {
         if share_address(other, symbol) {
@@ -72,8 +72,8 @@ fn sharing<'a>(object: &'a ObjectText, before: usize, symbol: &SymbolText) -> Op
     None
 }
 
-/// Returns the first symbol that stands before `symbol` and shares an address with it. `symbol` is at `place` in the
-/// last of these objects. Returns `None` if there is no such symbol.
+/// Returns the first symbol that precedes `symbol` and shares an address with it. `symbol` is at `place` in the last of
+/// these objects. Returns `None` if there is no such symbol.
 fn in_the_way<'a>(
     objects: &'a [ObjectText],
     place: usize,
@@ -128,9 +128,9 @@ fn first_wrong_symbol<'a>(
     None
 }
 
-/// Returns what is wrong with a catalog's objects, of which no image can be made because of this fault. Returns `None`
-/// if the fault points at no symbol: two objects have one name, there are too many, memory ran out, or there is no
-/// object.
+/// Returns what is wrong with a catalog's objects, if no image can be made of them because of this fault. Some faults
+/// point at no symbol: two objects have one name, there are too many objects, memory ran out, or there is no object.
+/// For such a fault, returns `None`.
 pub fn wrong_of<'a>(
     objects: &'a [ObjectText],
     handler: u64,

@@ -1,4 +1,5 @@
-//! Lines of a trace that are about one task, or that are no items; and lines of a script that may be misspelled.
+//! Reads lines of a trace that are about one task, or that are no items. Also reads lines of a script that may be
+//! misspelled.
 
 use crate::lines::word_at;
 use crate::names::{Kind, Names, wrong_word};
@@ -8,8 +9,8 @@ use klp_trace::LineParts;
 use klp_types::MAX_FRAMES;
 use klp_words::{LineWords, Separators, microseconds, number64};
 
-/// How items are written. A word in capital letters stands for any word of that kind, and `..` for more words of the
-/// kind before it. The lines of shadow variables are left out, since they have no names that could be wrong.
+/// The forms of items. A word in capital letters means any word of its kind, and `..` means further words of the kind
+/// before it. The lines of shadow variables have no names that could be wrong, so they are left out.
 static FORMS: [&str; 19] = [
     "call TASK SYMBOL",
     "return TASK",
@@ -32,14 +33,14 @@ static FORMS: [&str; 19] = [
     "task sleep TASK FRAME ..",
 ];
 
-/// The form of an item that says what was read in a patch's files. It is apart from [`FORMS`], since other items begin
-/// with `saw` too.
+/// The form of an item that says what was read in a patch's files. Other items begin with `saw` too, so this form isn't
+/// in [`FORMS`].
 const FILES: &str = "saw PATCH ENABLED TRANSITION";
 
 /// The first words of items that are no events.
 const OF_NO_EVENT: [&[u8]; 6] = [b"call", b"return", b"saw", b"ran", b"hooked", b"plain"];
 
-/// For each word in capital letters, the kind of word that it stands for.
+/// For each word in capital letters, its kind.
 static KINDS: [(&str, Kind); 10] = [
     ("PATCH", Kind::Patch),
     ("OBJECT", Kind::Object),
@@ -53,7 +54,8 @@ static KINDS: [(&str, Kind); 10] = [
     ("STATE", Kind::State),
 ];
 
-/// What is wanted in place of a line that has none of these forms, or that is a console line but asks for no event.
+/// What is wanted in place of a line that has none of these forms. It is also wanted in place of a console line that
+/// asks for no event.
 const ITEM: &str =
     "is call TASK SYMBOL, return TASK, or a line of the console that asks for an event";
 
@@ -70,7 +72,7 @@ const TIME: &str = "is seconds, with 6 decimals at most, and an item behind a sp
 /// What is wanted in place of a script's line that has none of the console's forms.
 const LINE: &str = "is a line of the console";
 
-/// What a line of a trace says of a task, or of a module that is unloaded. Other lines have no item of this type.
+/// What a line of a trace says about a task, or about a module that is unloaded. Other lines have no item of this type.
 #[derive(Clone, Copy)]
 pub enum Item<'a> {
     /// The task calls the function with this spelling.
@@ -87,13 +89,13 @@ fn words_of(line: &[u8]) -> LineWords<'_> {
     LineWords::new(line, Separators::Spaces)
 }
 
-/// Returns the word with this number, counted from 1. The word is empty if the line has fewer.
+/// Returns the word with this number, counted from 1. If the line has fewer words, the result is empty.
 fn word(line: &[u8], number: usize) -> &[u8] {
     word_at(words_of(line), number)
 }
 
-/// Returns what a line says of a task if its first word is `task`. `verb` and `task` are its second and third word.
-/// Returns `None` if it says none of these things.
+/// Returns what a line whose first word is `task` says about a task. `verb` and `task` are the second and third words
+/// of the line. Returns `None` if the line has no item of this type.
 fn task_item<'a>(verb: &[u8], task: &[u8]) -> Option<Item<'a>> {
     let task = number64(task)?;
     if verb == b"sleep".as_slice() {
@@ -108,7 +110,7 @@ fn task_item<'a>(verb: &[u8], task: &[u8]) -> Option<Item<'a>> {
 }
 
 impl<'a> Item<'a> {
-    /// Returns what a line says of a task or of a module that is unloaded. Returns `None` for any other line.
+    /// Returns what a line says about a task or about a module that is unloaded. Returns `None` for any other line.
     pub fn read(line: &'a [u8]) -> Option<Item<'a>> {
         let item = LineParts::of(line).item;
         let (first, second, third) = (word(item, 1), word(item, 2), word(item, 3));
@@ -126,22 +128,23 @@ impl<'a> Item<'a> {
     }
 }
 
-/// Whether a line begins as a form does. Compares the first word, and also the second if the form's has small letters.
+/// Whether a line begins as a form does. Compares the first words. If the second word of the form has small letters,
+/// compares the second words too.
 fn begins_as(form: &[u8], line: &[u8]) -> bool {
     let (first, second) = (word(form, 1), word(form, 2));
     let has_verb = second.iter().any(u8::is_ascii_lowercase);
     first == word(line, 1) && (!has_verb || second == word(line, 2))
 }
 
-/// Returns the kind that this place of a form wants, if the word isn't of this kind. Returns `None` if the word is, or
-/// if the place wants no kind.
+/// Returns the kind that this part of a form wants, if the word isn't of this kind. Returns `None` if the word is of
+/// this kind, or if the part wants no kind.
 fn in_place_of(part: &[u8], word: &[u8], names: &Names<'_>) -> Option<Kind> {
     let (_, kind) = KINDS.iter().find(|row| row.0.as_bytes() == part)?;
     (!names.has(*kind, word)).then_some(*kind)
 }
 
-/// Returns what is wrong with a line that should have this form: the first word that isn't of the wanted kind, or else
-/// the number of words. Returns `None` if the line has the form.
+/// Returns what is wrong with a line that should have this form. If a word isn't of the wanted kind, the first such
+/// word is wrong. Otherwise the number of words may be wrong. Returns `None` if the line has the form.
 fn wrong_in<'a>(
     form: &'static str,
     line: &'a [u8],
@@ -180,8 +183,8 @@ fn wrong_though_fitting<'a>(form: &'static str, line: &'a [u8]) -> Wrong<'a> {
     }
 }
 
-/// Returns what is wrong with a line that has none of the forms. `wanted` is the phrase for what should be in its
-/// place.
+/// Returns what is wrong with a line that has none of the forms. `wanted` is the phrase for what is wanted in place of
+/// the line.
 fn formless<'a>(line: &'a [u8], wanted: &'static str) -> Wrong<'a> {
     let first = word(line, 1);
     if first.is_empty() {
@@ -196,8 +199,8 @@ fn formless<'a>(line: &'a [u8], wanted: &'static str) -> Wrong<'a> {
     }
 }
 
-/// Returns the form of a line, which its first words determine. If the first word is `saw`, the third and fourth
-/// decide. Returns `None` if the line has no form.
+/// Returns the form of a line. The first words of the line determine the form. If the first word is `saw`, the third
+/// and fourth words decide. Returns `None` if the line has no form.
 fn form_of(line: &[u8]) -> Option<&'static str> {
     if word(line, 1) == b"saw".as_slice() {
         return Some(match (word(line, 3), word(line, 4)) {
@@ -210,7 +213,8 @@ fn form_of(line: &[u8]) -> Option<&'static str> {
     Some(*form)
 }
 
-/// Returns what is wrong with a line of a trace whose item has a form: its answer if it has one, otherwise the item.
+/// Returns what is wrong with a line of a trace whose item has a form. If the line has an answer, the answer is wrong,
+/// otherwise the item.
 fn wrong_answer<'a>(parts: LineParts<'a>, form: &'static str) -> Wrong<'a> {
     match parts.answer {
         Some(_) if is_of_no_event(parts.item) => Wrong::Word(parts.text, ANSWERED),
@@ -219,7 +223,7 @@ fn wrong_answer<'a>(parts: LineParts<'a>, form: &'static str) -> Wrong<'a> {
     }
 }
 
-/// Whether an item begins with a word with which no event begins.
+/// Whether an item begins with a word that no event begins with.
 fn is_of_no_event(item: &[u8]) -> bool {
     OF_NO_EVENT.iter().any(|first| *first == word(item, 1))
 }
@@ -246,9 +250,9 @@ pub fn wrong_of<'a>(line: &'a [u8], names: &Names<'_>, catalog: &'a [u8]) -> Wro
     }
 }
 
-/// Returns what may be misspelled in a line of a script: the line isn't one of the console's, or it has a name that the
-/// catalog lacks. Returns `None` if nothing seems misspelled. Some lines aren't checked, and give `None` too: those
-/// that only ask, and those about shadow variables.
+/// Returns what may be misspelled in a line of a script. Something may be misspelled if the line isn't a line of the
+/// console, or if it has a name that the catalog lacks. Returns `None` if nothing seems misspelled. Lines that only
+/// ask, and lines about shadow variables, aren't checked, and the result for them is `None` too.
 pub fn misspelled_in<'a>(
     line: &'a [u8],
     names: &Names<'_>,

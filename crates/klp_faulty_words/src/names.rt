@@ -1,4 +1,4 @@
-//! The names of a catalog, and the words of a trace or a script that have to be among them.
+//! The names of a catalog, and the words of a trace or a script that must be such names.
 
 use crate::same_site::position_in;
 use crate::unpicked::unpicked_by;
@@ -7,7 +7,7 @@ use klp_catalog_text::PlanPatch;
 use klp_types::{MAX_INDEX, MAX_TASKS, ObjectText};
 use klp_words::{cut, number64, spelling_of};
 
-/// What the path of each file of a patch begins with.
+/// The beginning of the path of each patch's files.
 const BELOW_PATCHES: &[u8] = b"/sys/kernel/livepatch/";
 
 /// The kind that a word of a trace must be of.
@@ -24,7 +24,7 @@ pub(crate) enum Kind {
 }
 
 impl Kind {
-    /// Returns the phrase that says what a word of this kind must be. It begins with its verb.
+    /// Returns the phrase that says what a word of this kind must be. The phrase begins with its verb.
     pub(crate) fn wanted(self) -> &'static str {
         match self {
             Kind::Patch => "is a patch of the catalog",
@@ -46,8 +46,8 @@ pub struct Names<'a> {
     pub patches: &'a [PlanPatch],
 }
 
-/// Returns what is wrong with a word that should be of this kind and isn't. If it spells a symbol, looks in the
-/// catalog's text for why no symbol is picked, and for a similar name.
+/// Returns what is wrong with a word that should be of this kind and isn't. If the word spells a symbol, the catalog's
+/// text is searched for the reason why no symbol is picked, and for a similar name.
 pub(crate) fn wrong_word<'a>(kind: Kind, word: &'a [u8], catalog: &'a [u8]) -> Wrong<'a> {
     let unpicked = match kind {
         Kind::Symbol | Kind::Frame => unpicked_by(catalog, word),
@@ -70,7 +70,7 @@ impl<'a> Names<'a> {
         self.patches.iter().any(|own| own.name.as_bytes() == name)
     }
 
-    /// Returns the object with this name. Returns `None` if the catalog has none.
+    /// Returns the object with this name. Returns `None` if the catalog has no such object.
     fn object(&self, name: &[u8]) -> Option<&'a ObjectText> {
         self.objects.iter().find(|own| own.name.as_bytes() == name)
     }

@@ -1,6 +1,6 @@
 //! Names that are spelled nearly alike.
 
-/// Returns what follows the common beginning of two names in each.
+/// Returns two parts: the rest of each name behind the common beginning of both.
 fn behind_alike<'a, 'b>(one: &'a [u8], other: &'b [u8]) -> (&'a [u8], &'b [u8]) {
     let alike = one.iter().zip(other).take_while(|(a, b)| a == b).count();
     (
@@ -20,7 +20,7 @@ fn differ_by_one(one: &[u8], other: &[u8]) -> bool {
     shortened(one) == other || one == shortened(other) || shortened(one) == shortened(other)
 }
 
-/// Whether two names differ by at most two bytes. Each may be added, left out or replaced.
+/// Whether two names differ by at most two bytes. Each of these bytes may be added, left out or replaced.
 fn differ_by_two(one: &[u8], other: &[u8]) -> bool {
     let (one, other) = behind_alike(one, other);
     differ_by_one(shortened(one), other)
@@ -28,9 +28,9 @@ fn differ_by_two(one: &[u8], other: &[u8]) -> bool {
         || differ_by_one(shortened(one), shortened(other))
 }
 
-/// Returns that of two names which is spelled more like `name`. A search calls this with the nearest name so far as
-/// `first`. `second` is returned if it differs by one byte and `first` by more. If there is no `first`, `second` is
-/// returned if it differs by at most two. Otherwise returns `first`.
+/// Returns that of two names whose spelling is nearer to `name`. `first` is the nearest name that a search has found so
+/// far. If there is no `first`, returns `second` if it differs by at most two bytes. If there is one, returns `second`
+/// if it differs by one byte and `first` by more. In all other cases, returns `first`.
 pub(crate) fn nearer<'a>(
     first: Option<&'a [u8]>,
     second: &'a [u8],

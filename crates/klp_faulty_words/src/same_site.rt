@@ -1,11 +1,12 @@
-//! Two functions of a patch that are for the same site.
+//! Finds two functions of a patch that are for the same site.
 
 use crate::wrong::{Named, Pair, Wrong};
 use klp_catalog_text::{PlanFunction, PlanPatch, PlanTarget};
 use klp_types::ObjectText;
 
-/// Returns the position, counted from 1, of the symbol with this name for which `sympos` asks. A `sympos` of 0 asks for
-/// the only symbol of the name. Returns `None` if there is no such symbol, or if `sympos` is 0 and there are several.
+/// Returns the position, counted from 1, of the symbol that this name and `sympos` pick. A `sympos` of 0 picks the only
+/// symbol of the name. Returns `None` if there is no such symbol, or if `sympos` is 0 and several symbols have the
+/// name.
 pub(crate) fn position_in(object: &ObjectText, symbol: &str, sympos: u32) -> Option<usize> {
     let count = object
         .symbols
@@ -27,7 +28,8 @@ fn are_for_one_site(object: &ObjectText, one: &PlanFunction, other: &PlanFunctio
         && position == position_in(object, other.symbol.as_str(), other.sympos)
 }
 
-/// Returns the first of `functions` that is for the same site as `function`. Returns `None` if there is none.
+/// Returns the first of `functions` that is for the same site as `function`. Returns `None` if there is no such
+/// function.
 fn earlier<'a>(
     object: &ObjectText,
     functions: &'a [PlanFunction],
@@ -38,7 +40,8 @@ fn earlier<'a>(
         .find(|other| are_for_one_site(object, other, function))
 }
 
-/// Returns the first two functions of a target that are for the same site. Returns `None` if there are no such two.
+/// Returns the first two functions of a target that are for the same site. Returns `None` if the target has no two such
+/// functions.
 fn pair_in<'a>(patch: &'a str, object: &'a ObjectText, target: &'a PlanTarget) -> Option<Pair<'a>> {
     for (place, function) in target.functions.iter().enumerate() {
         if let Some(other) = earlier(object, &target.functions[..place], function) {
@@ -56,7 +59,8 @@ fn pair_in<'a>(patch: &'a str, object: &'a ObjectText, target: &'a PlanTarget) -
     None
 }
 
-/// Returns the first two functions of a patch that are for the same site. Returns `None` if there are no such two.
+/// Returns the first two functions of a patch that are for the same site. Returns `None` if the patch has no two such
+/// functions.
 fn pair_of<'a>(objects: &'a [ObjectText], patch: &'a PlanPatch) -> Option<Pair<'a>> {
     for target in &patch.targets {
         let object = objects.get(usize::from(target.object.0))?;
@@ -69,7 +73,7 @@ fn pair_of<'a>(objects: &'a [ObjectText], patch: &'a PlanPatch) -> Option<Pair<'
 }
 
 /// Returns the first two functions that are for the same site, from the first patch that has two such functions.
-/// Returns `None` if no patch has.
+/// Returns `None` if no patch has two such functions.
 pub fn first_pair<'a>(objects: &'a [ObjectText], patches: &'a [PlanPatch]) -> Option<Wrong<'a>> {
     for patch in patches {
         if let Some(pair) = pair_of(objects, patch) {

@@ -1,4 +1,4 @@
-//! Words and bytes that mean something in files of other kinds, but not in this one. They aren't faults.
+//! Words and bytes that mean something in files of other kinds, but nothing in this file. They aren't faults.
 
 use crate::catalog_fault::{begins_as_catalog, begins_as_utf16, first_words};
 use klp_types::MAX_CONSOLE_LINE;
@@ -17,21 +17,21 @@ pub enum Kind {
 pub enum Stray {
     /// The whole file is a catalog.
     Catalog,
-    /// The whole file is a script: it has a line that asks for no event.
+    /// The whole file is a script, since it has a line that asks for no event.
     Script,
-    /// The whole file is a trace: it has a line that a script can't have.
+    /// The whole file is a trace, since it has a line that a script can't have.
     Trace,
     /// The whole file is UTF-16.
     Utf16,
-    /// Stands before the first line.
+    /// A byte-order mark before the first line.
     ByteOrderMark,
     CarriageReturn,
     Tab,
-    /// A `#`, which begins the line.
+    /// A `#` at the beginning of a line.
     Comment,
 }
 
-/// All strays, in the order in which they are looked for. If the file is UTF-16, no other is reported.
+/// All strays, in the order in which they are looked for. If the file is UTF-16, no other stray is reported.
 pub const STRAYS: [Stray; 8] = [
     Stray::Utf16,
     Stray::Catalog,
@@ -48,7 +48,7 @@ const QUERIES: [&str; 9] = [
     "cat", "ls", "text", "stack", "pick", "runs", "mark", "rewind", "seal",
 ];
 
-/// Whether a line begins as a console line that asks for no event, such as `cat`. A script may have such a line, a
+/// Whether a line begins as a console line that asks for no event, such as `cat`. A script may have such a line, but a
 /// trace may not.
 pub(crate) fn is_query(line: &[u8]) -> bool {
     match first_words(line) {
@@ -68,8 +68,8 @@ fn is_of_trace(line: &[u8]) -> bool {
         )
 }
 
-/// Whether the spelling of a line isn't checked here. That is so for a line without words, for one that gets another
-/// hint, for a faulty one, and for one about shadow variables, which have no names.
+/// Whether the spelling of a line isn't checked here. This is so for lines without words, for lines that get another
+/// hint, and for faulty lines. Lines about shadow variables have no names, so they aren't checked either.
 pub(crate) fn is_reported_elsewhere(line: &[u8]) -> bool {
     let (first, _) = first_words(line);
     let has_stray = line.iter().any(|b| matches!(*b, b'\r' | b'\t'));
@@ -94,7 +94,7 @@ impl Stray {
     }
 
     /// Returns the number, counted from 1, of the first line of a text that has this stray. Returns `None` if no line
-    /// has.
+    /// has the stray.
     pub fn first_line(self, text: &[u8]) -> Option<usize> {
         let mut lines = text.split(|b| *b == b'\n');
         let place = match self {
@@ -104,7 +104,8 @@ impl Stray {
         Some(place?.saturating_add(1))
     }
 
-    /// Returns the hint at this stray in a file of this kind. Returns `None` if it is no stray in such a file.
+    /// Returns the hint at this stray in a file of this kind. Returns `None` if files of this kind may have these words
+    /// or bytes.
     pub fn hint(self, kind: Kind) -> Option<&'static str> {
         Some(match (self, kind) {
             (Stray::Catalog, Kind::Script) => "a catalog, where a script is wanted",

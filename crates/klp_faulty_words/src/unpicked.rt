@@ -1,4 +1,5 @@
-//! A name and a position that pick no symbol. No symbol has the name, or several have it, or fewer than the position.
+//! A name and a position that pick no symbol. They pick no symbol if no symbol has the name, if several have it and the
+//! position is 0, or if fewer symbols have it than the position says.
 
 use crate::catalog_fault::first_words;
 use crate::escaped::{Escaped, Quoted};
@@ -12,17 +13,18 @@ const KERNEL: &[u8] = b"vmlinux";
 /// Why a spelling picks no symbol.
 #[derive(Clone, Copy)]
 pub enum Why<'a> {
-    /// The catalog has no object of this name. If it has one with a similar name, that is here.
+    /// The catalog has no object of this name. If the catalog has an object with a similar name, the value is that
+    /// name.
     NoObject(Option<&'a [u8]>),
-    /// The object has no symbol of this name. If it has one with a similar name, that is here.
+    /// The object has no symbol of this name. If the object has a symbol with a similar name, the value is that name.
     NoSymbol(Option<&'a [u8]>),
     /// The object has this many symbols of the name, and the spelling doesn't say which.
     Several(usize),
-    /// The object has only this many symbols of the name, fewer than the position.
+    /// The object has only this many symbols of the name, which is fewer than the position says.
     Fewer(usize),
 }
 
-/// The object and the symbol of a spelling that picks no symbol, and why it picks none.
+/// The object and the symbol of a spelling that picks no symbol. Also has the reason why it picks none.
 #[derive(Clone, Copy)]
 pub struct Unpicked<'a> {
     object: &'a str,
@@ -39,7 +41,7 @@ pub struct Unloadable<'a> {
     unpicked: Unpicked<'a>,
 }
 
-/// What a search of a catalog's lines finds of the object and the symbol that a spelling names.
+/// The result of a search of a catalog's lines for the object and the symbol that a spelling names.
 #[derive(Clone, Copy)]
 struct Found<'a> {
     has_object: bool,
@@ -49,7 +51,7 @@ struct Found<'a> {
     near_symbol: Option<&'a [u8]>,
 }
 
-/// Writes the similarly spelled name, or nothing if there is none.
+/// Writes the similarly spelled name. Writes nothing if there is no such name.
 fn write_but<W: fmt::Write>(f: &mut fmt::Formatter<W>, near: Option<&[u8]>) -> fmt::Result {
     match near {
         Some(name) => write!(f, ", but {}", Escaped(name)),
@@ -104,8 +106,8 @@ impl<'a> fmt::Display for Unloadable<'a> {
     }
 }
 
-/// Returns what a catalog has for this spelling. Looks only at the lines before the first patch, since all objects and
-/// symbols stand there.
+/// Returns what a catalog has for this spelling. All objects and symbols precede the first patch, so only the lines
+/// before the first patch are searched.
 fn found_in<'a>(catalog: &'a [u8], wanted: &Spelling<'_>) -> Found<'a> {
     let (object, symbol) = (wanted.object.as_bytes(), wanted.symbol.as_bytes());
     let mut found = Found {
@@ -131,8 +133,8 @@ fn found_in<'a>(catalog: &'a [u8], wanted: &Spelling<'_>) -> Found<'a> {
     found
 }
 
-/// Returns the symbol that a word spells, and why it picks none. Returns `None` if the word picks a symbol, or isn't a
-/// symbol's spelling.
+/// Returns the symbol that a word spells, and why the word picks no symbol. Returns `None` if the word picks a symbol,
+/// or isn't a symbol's spelling.
 pub(crate) fn unpicked_by<'a>(catalog: &'a [u8], word: &'a [u8]) -> Option<Unpicked<'a>> {
     let wanted = spelling_of(word)?;
     let found = found_in(catalog, &wanted);
@@ -157,8 +159,9 @@ fn is_loaded(text: &[u8], patch: &[u8]) -> bool {
         .any(|line| first_words(line) == (b"load".as_slice(), patch))
 }
 
-/// Whether a symbol that isn't picked gets a hint. It does if the object lacks the symbol. If the object has several of
-/// its name, it does only if the script or trace loads the patch. If the object is missing, it doesn't.
+/// Whether a symbol that isn't picked gets a hint. If the object has no such symbol, or fewer than the position says,
+/// it gets one. If the object has several symbols of the name, it gets one only if the script or trace loads the patch.
+/// If the object is missing, it gets none.
 fn is_reported(unpicked: &Unpicked<'_>, patch: &[u8], second: &[u8]) -> bool {
     match unpicked.why {
         Why::NoSymbol(_) | Why::Fewer(_) => true,

@@ -1,4 +1,4 @@
-//! What is wrong in a file: the text that follows the name of the fault.
+//! The faults of a file, as the text that follows the name of the fault.
 
 use crate::escaped::{Escaped, Quoted};
 use crate::unpicked::Unpicked;
@@ -20,25 +20,26 @@ pub struct Pair<'a> {
     pub site: Named<'a>,
 }
 
-/// What is wrong. Wherever a text says what is wanted, it begins with its verb.
+/// What is wrong. A text that says what is wanted begins with its verb.
 #[derive(Clone, Copy)]
 pub enum Wrong<'a> {
-    /// Something is missing: this is wanted.
+    /// Something is missing. The text says what is wanted.
     Lacking(&'static str),
     /// This word, or this whole line, is wrong. The text says what is wanted in its place.
     Word(&'a [u8], &'static str),
-    /// This word spells a symbol, but picks none, for this reason.
+    /// This word spells a symbol, but picks no symbol, for this reason.
     Unpicked(&'a [u8], Unpicked<'a>),
-    /// This line doesn't have the form that it should have, which is the text.
+    /// This line doesn't have the form that it should have. The text is the form.
     Form(&'a [u8], &'static str),
-    /// This word or line is more than allowed: at most this number of these may be there.
+    /// This word or line is one too many. The number is how many are allowed, and the text is the name of what is
+    /// counted.
     Most(&'a [u8], usize, &'static str),
     Symbol(Named<'a>, &'static str),
     SharedAddress(Named<'a>, Named<'a>),
-    /// The first object has this name, and so isn't the kernel.
+    /// The first object isn't the kernel, since it has this name.
     First(&'a str),
     SameSite(Pair<'a>),
-    /// The two files are swapped: the file with this name is the one that is wanted here.
+    /// The two files are swapped. The file with this name is the one that is wanted in this place.
     Swapped(&'a str),
 }
 

@@ -1,4 +1,4 @@
-//! The reasons why the steps of two tasks aren't run.
+//! The reasons why the steps of two tasks can't be run.
 
 ghost use Rattle.std.specs.Prelude.{◌≡◌};
 ghost use Rattle.klp_live_run.specs.declared.fault.ReadFault.TheVariants.{NoMemory};
@@ -16,7 +16,7 @@ pub enum StepsFaultKind {
     /// The line isn't a step of task 1 or 2, or it has an unknown name.
     #[error("BadStep")]
     BadStep,
-    /// The line's task already has as many steps as are allowed.
+    /// The task of this line already has as many steps as are allowed.
     #[error("TooMany")]
     TooMany,
 }
@@ -50,7 +50,7 @@ impl<T: Drop> From<AllocFailed<T>> for ReadFault {
 /// Why the run of two tasks failed.
 #[derive(Clone, Copy, Debug, Error)]
 pub enum LiveFault {
-    /// The catalog's text boots no manager, or the output couldn't be written.
+    /// No manager can be booted with the catalog's text, or the output couldn't be written.
     #[error(transparent)]
     Program(Fault),
     /// The text of the steps has a faulty line.
@@ -64,7 +64,7 @@ pub enum LiveFault {
 }
 
 impl LiveFault {
-    /// Returns the fault for this cause of a failed start.
+    /// Returns the fault that reports this cause of a failed start.
     pub(crate) fn of_start(cause: StartCause) -> LiveFault
         ensures value { result ≡ start_fault cause }
         ensures fault { IsRunFault result }
@@ -75,7 +75,7 @@ impl LiveFault {
         }
     }
 
-    /// Returns the fault for steps that couldn't be read.
+    /// Returns the fault that reports why steps couldn't be read.
     pub(crate) fn of_reading(fault: ReadFault) -> LiveFault
         ensures { result ≡ read_fault fault }
     {

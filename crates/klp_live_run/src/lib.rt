@@ -1,4 +1,4 @@
-//! Runs two task threads over a catalog. The steps of both are in one text (`src/step_lines.rt`).
+//! Runs two task threads over a catalog. The steps of both tasks are in one text (`src/step_lines.rt`).
 #![tactic(auto)]
 
 mod fault;

@@ -24,7 +24,7 @@ use std::sync::Wait;
 use std::sync::ledger::Blank;
 use std::thread::Threads;
 
-/// The number of the first task. `SECOND` is that of the other.
+/// The number of the first task. `SECOND` is the number of the other task.
 pub(crate) const FIRST: TaskId = TaskId(1);
 
 pub(crate) const SECOND: TaskId = TaskId(2);
@@ -69,8 +69,8 @@ fn job_of<S: Start + Protocol<Published, View>, M: Machine + Drop, R: Wait + Dro
     }
 }
 
-/// Returns the seat of a job that has run, and the outcomes of its steps. If the job stopped, returns `NoMemory`: it
-/// can't have any other reason, since the gate never stops a task.
+/// Returns the seat of a job that has run, and the outcomes of its steps. The gate never stops a task, so a job can
+/// stop only because memory runs out. If the job stopped, returns `NoMemory`.
 fn ended<S: Start + Protocol<Published, View>>(
     job: Job<S, Open>,
 ) -> Result<(Seat<S>, Vec<Outcome>), LiveFault>
@@ -102,7 +102,8 @@ fn give_back<S: Start + Protocol<Published, View>>(
     Ok(())
 }
 
-/// Runs the steps of both tasks. Returns the seats and the outcomes. Before this, the seats must not know of any event.
+/// Runs the steps of both tasks. Returns the seats and the outcomes. The seats must not know of any event before the
+/// call.
 fn run_both<
     S: Start + Protocol<Published, View> + Send + Sync,
     M: Machine + Drop + Send,
@@ -174,8 +175,8 @@ fn run_over_start<
     }
 }
 
-/// Runs the steps of both tasks over a machine whose journal is empty, and undoes all events that were accepted. The
-/// kind of start is chosen in this function, since it owns the machine.
+/// Runs the steps of both tasks over a machine whose journal is empty, and undoes all events that were accepted. This
+/// function owns the machine, so it chooses the kind of start.
 pub(crate) fn run_and_rewind<M: Machine + Drop + Send, R: Threads + Wait + Sync>(
     rt: &R,
     alloc: Global,

@@ -1,4 +1,4 @@
-//! Boots a manager over a catalog's text, and runs the steps of another text over it, in two task threads.
+//! Boots a manager with a catalog's text, and runs the steps of another text over the manager, in two task threads.
 ghost use Rattle.std.specs.Prelude.{◌≡◌, ◌≤◌, ◌++◌, [], false, length, vec_len, slice_get, slice_index_or, IfOk, IfErr};
 ghost use Rattle.std.specs.Prelude.{OnOk, MatchResult};
 ghost use Rattle.std.specs.Str.Lines.{lines};
@@ -99,7 +99,8 @@ fn answered<L: Ledger, M: Ledger>(
 }
 
 /// Returns the lines that say how many steps each task has done, and the text of each loaded object. `Err` if memory
-/// runs out. Serving can't fail otherwise: the lines to it are made here, and none is cut off or too long.
+/// runs out. The lines to serve are made here, and no line is cut off or too long, so serving can't fail in another
+/// way.
 fn shown(alloc: Global, manager: &mut Manager, done: &Done) -> Result<Vec<u8>, AllocError>
     ensures { IfOk result (λ text. IsShown manager.old done.now text.items) }
 {
@@ -110,9 +111,9 @@ fn shown(alloc: Global, manager: &mut Manager, done: &Done) -> Result<Vec<u8>, A
     )
 }
 
-/// What is done with a manager before its tasks run, and after. It is a trait since the functions that run tasks don't
-/// name the manager's type. A library can't pass a manager to a function that needs a trait of it (docs/DECISIONS.md,
-/// "A manager that runs tasks").
+/// The work that is done with a manager before its tasks run, and after they ran. The functions that run tasks don't
+/// name the manager's type, so this is a trait. A library can't pass a manager to a function that needs a trait of it
+/// (docs/DECISIONS.md, "A manager that runs tasks").
 trait Runs: Machine {
     /// Reads the steps from a text. Names are looked up in the manager.
     fn steps(&self, alloc: Global, text: &[u8]) -> Result<Steps, ReadFault>
@@ -120,7 +121,7 @@ trait Runs: Machine {
             (λ steps. AreSteps (Self.journaled self.now) (lines text.now) steps.first.items steps.second.items)
             (λ fault. IsReadFault (Self.journaled self.now) (lines text.now) fault) };
 
-    /// Begins both tasks, and then seals the journal. So a rewind doesn't undo the begin of the tasks.
+    /// Begins both tasks, and then seals the journal. So a rewind doesn't undo the beginning of the tasks.
     fn prepare(&mut self)
         requires room { length (Self.journaled self.old).groups ≤ MAX_GROUPS }
         ensures prepared { IsPrepared (Self.journaled self.old) (Self.journaled self.new) };
@@ -154,8 +155,8 @@ impl Runs for Manager {
     }
 }
 
-/// Runs the steps of both tasks, and undoes all accepted events. Only after that, writes how many steps each task has
-/// done, and the text of each loaded object. At the end the machine is dropped.
+/// Runs the steps of both tasks, and undoes all accepted events. After all events are undone, writes how many steps
+/// each task has done, and the text of each loaded object. At the end the machine is dropped.
 fn race<M: Runs + Drop + Send, W: Write, R: Threads + Wait + Sync>(
     rt: &R,
     alloc: Global,
@@ -182,8 +183,8 @@ fn race<M: Runs + Drop + Send, W: Write, R: Threads + Wait + Sync>(
     }
 }
 
-/// Reads the steps from a text, runs them, and undoes all events. Then writes how many steps were done, and the text of
-/// each loaded object.
+/// Reads the steps from a text, runs them, and undoes all events. After all events are undone, writes how many steps
+/// were done, and the text of each loaded object.
 fn live_over_manager<M: Runs + Drop + Send, W: Write, R: Threads + Wait + Sync>(
     rt: &R,
     alloc: Global,
@@ -204,8 +205,8 @@ fn live_over_manager<M: Runs + Drop + Send, W: Write, R: Threads + Wait + Sync>(
     }
 }
 
-// Boots a manager over a plan, and runs the steps of both tasks over it. The callbacks are made here, as for serving a
-// console, but all are of one kind.
+// Boots a manager over a plan, and runs the steps of both tasks over the manager. The callbacks are made here, as for
+// serving a console. Here all callbacks are of one kind.
 fn live_over_plan<W: Write, R: Threads + Wait + Sync>(
     rt: &R,
     alloc: Global,
@@ -225,9 +226,9 @@ fn live_over_plan<W: Write, R: Threads + Wait + Sync>(
     live_over_manager::<Manager, W, R>(rt, alloc, manager, text, out)
 }
 
-/// Boots a manager over the catalog's text, and runs the steps of the other text. The steps of task 1 and those of task
-/// 2 have a thread each. If a second thread can be made, both run at the same time. Then undoes all accepted events.
-/// Only after that, writes how many steps each task has done, and the text of each loaded object.
+/// Boots a manager with the catalog's text, and runs the steps of the other text. Task 1 and task 2 have a thread each.
+/// If a second thread can be made, both run at the same time. After the steps, undoes all accepted events. When all
+/// events are undone, writes how many steps each task has done, and the text of each loaded object.
 pub(crate) fn live_over_text<W: Write, R: Threads + Wait + Sync>(
     rt: &R,
     alloc: Global,
@@ -243,8 +244,8 @@ pub(crate) fn live_over_text<W: Write, R: Threads + Wait + Sync>(
     }
 }
 
-/// Does what `live_over_text` does, and returns the exit status. It is 0, or 1 after a fault, about which a line is
-/// written to `err`.
+/// Does what `live_over_text` does, and returns the exit status. The status is 0, or 1 after a fault. After a fault, a
+/// line about the fault is written to `err`.
 pub fn live<W: Write, E: Write, R: Threads + Wait + Sync>(
     rt: &R,
     alloc: Global,

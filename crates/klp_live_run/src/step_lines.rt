@@ -1,5 +1,5 @@
-//! Reads the steps of two tasks from a text. Each line is a step of one task. It has `1` or `2`, and then `call
-//! SYMBOL`, `return`, `nap`, or a console line that asks for an event.
+//! Reads the steps of two tasks from a text. Each line is a step of one task. A line has the task's number, `1` or `2`,
+//! and behind it `call SYMBOL`, `return`, `nap`, or a console line that asks for an event.
 ghost use Rattle.std.specs.Prelude.{◌≡◌, ◌<◌, ◌≤◌, ◌==◌, not, ◌++◌, [], ◌∷◌, length, position, MatchResult};
 ghost use Rattle.std.specs.Str.Lines.{lines};
 ghost use Rattle.klp_live_run.specs.Steps.{unindented, call_of, alone, step_of, half_of, task_step, count_of, AreSteps};
@@ -72,8 +72,8 @@ fn alone(step: Step, words: &mut LineWords<'_>) -> Option<Step>
     }
 }
 
-/// Reads a step from the part of a line that follows the task's number. Returns `None` if it isn't a step. Names are
-/// looked up in the manager, but its state makes no difference.
+/// Reads a step from the part of a line that follows the task's number. Returns `None` if this part isn't a step. Names
+/// are looked up in the manager, but the manager's state makes no difference.
 fn step_of(line: &[u8], manager: &Manager) -> Option<Step>
     ensures { result ≡ step_of manager.now line.now }
 {
@@ -106,7 +106,7 @@ fn half_of(number: &[u8]) -> Option<Half>
     }
 }
 
-/// Reads the task's number and the step from a line. Returns `None` if either is missing.
+/// Reads the task's number and the step from a line. Returns `None` if the number or the step is missing.
 fn task_step(line: &[u8], manager: &Manager) -> Option<(Half, Step)>
     ensures { result ≡ task_step manager.now line.now }
 {
@@ -116,8 +116,8 @@ fn task_step(line: &[u8], manager: &Manager) -> Option<(Half, Step)>
     Some((half, step))
 }
 
-/// Appends a step. If the list is full, returns `TooMany`. It is generic, since the proof doesn't depend on what a step
-/// is.
+/// Appends a step. If the list is full, returns `TooMany`. The proof doesn't depend on what a step is, so the function
+/// is generic.
 fn push<T: Copy>(steps: &mut Vec<T>, step: T, line: u64) -> Result<(), ReadFault>
     requires { length steps.old.items ≤ MAX_STEPS }
     ensures { MatchResult result
@@ -135,7 +135,7 @@ fn push<T: Copy>(steps: &mut Vec<T>, step: T, line: u64) -> Result<(), ReadFault
 }
 
 impl Steps {
-    /// Appends a step to the list of its task. If that list is full, returns `TooMany`. `line` is the number of the
+    /// Appends a step to the list of its task. If the list is full, returns `TooMany`. `line` is the number of the
     /// step's line.
     fn add(&mut self, half: Half, step: Step, line: u64) -> Result<(), ReadFault>
         requires first { length self.old.first.items ≤ MAX_STEPS }
@@ -153,8 +153,8 @@ impl Steps {
 }
 
 /// Reads the steps of both tasks. The text may have any bytes. Its lines end as those of a catalog do. If a line is
-/// faulty, returns the first that is. A bad step is reported as `BadStep`, even if its task has no room for more steps.
-/// Of the manager, only the names are used. The time is linear in the length of the text.
+/// faulty, returns the fault of the first such line. A bad step is reported as `BadStep`, even if its task has no room
+/// for more steps. Only the manager's names are used. The time is linear in the length of the text.
 pub fn steps_of(alloc: Global, text: &[u8], manager: &Manager) -> Result<Steps, ReadFault>
     ensures { MatchResult result
         (λ steps. AreSteps manager.now (lines text.now) steps.first.items steps.second.items)

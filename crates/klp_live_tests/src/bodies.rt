@@ -18,12 +18,12 @@ use std::io;
 use std::sync::Wait;
 use std::sync::atomic::{AtomicU64, Ordering};
 
-/// The steps of both tasks, how often their shared gate refuses, and how much is printed of the outcomes. If there is
-/// no number of refusals, the gate never refuses, and nothing is printed about it.
+/// The steps of both tasks, and how often their shared gate refuses. Also says how much is printed of the outcomes.
+/// Without a number of refusals, the gate never refuses, and nothing is printed about the gate.
 #[derive(Clone, Copy)]
 struct Bodies<'a>(&'a [Step], &'a [Step], Option<u64>, Detail);
 
-/// The steps of a task. Each is done as soon as the gate lets the task in.
+/// The steps of a task. Each step is done as soon as the gate lets the task in.
 #[derive(Drop)]
 struct Body<'a, G> {
     task: TaskId,
@@ -45,7 +45,7 @@ fn few(steps: &[Step]) -> &[Step]
     steps.get(..100).unwrap_or(steps)
 }
 
-/// Prints how a body ended, which has `steps` steps.
+/// Prints how a body with `steps` steps ended.
 fn show_ended<R: Print>(rt: &R, steps: usize, ended: &Ended, detail: Detail) -> io::Result<()> {
     show_outcomes(rt, steps, &ended.outcomes, detail)?;
     show_cause(rt, ended.cause)
@@ -63,8 +63,8 @@ fn enables() -> [Step; 5] {
     ALL
 }
 
-/// The second task isn't told that the patch was enabled. It first runs the original, since it hasn't left the kernel
-/// yet. It can't enable the patch again. After it has left the kernel once, it runs the patch.
+/// The second task isn't told that the patch was enabled. It hasn't left the kernel yet, so it first runs the original.
+/// It can't enable the patch again. After it has left the kernel once, it runs the patch.
 fn hears_nothing() -> [Step; 5] {
     const ALL: [Step; 5] = [
         Step::Call(PATCHED),
@@ -199,8 +199,7 @@ where
         (seats, came)
     }
 
-    /// Runs all these bodies. They enable a patch, nap, and call deep, and they have a gate that lets a task in late or
-    /// never.
+    /// Runs all these bodies. They enable a patch, nap, and call deep. Their gate lets a task in late or never.
     pub(crate) fn show_bodies(&self, seats: TwoSeats<S>) -> (TwoSeats<S>, io::Result<()>) {
         let (enables, hears_nothing) = (enables(), hears_nothing());
         let (naps, deep) = (naps(), goes_deep());

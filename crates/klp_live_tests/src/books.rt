@@ -1,4 +1,5 @@
-//! Opens a book over a machine, uses it, and returns the machine. The kind of start is chosen by who owns the machine.
+//! Opens a book over a machine, uses the book, and returns the machine. The owner of the machine chooses the kind of
+//! start.
 ghost use Rattle.std.specs.Prelude.{◌≡◌, ◌<◌, ◌≤◌, []};
 ghost use Rattle.klp_live.specs.Opening.{IsFresh};
 ghost use Rattle.klp_live.specs.Shown.{RuleIs};
@@ -15,7 +16,7 @@ use std::io;
 use std::marker::Brand;
 use std::sync::ledger::Blank;
 
-/// What is done with a book and its seats.
+/// The ways in which a book and its seats are used.
 #[derive(Drop)]
 pub(crate) enum Use<'a> {
     /// Two seats take the turns of the tests.

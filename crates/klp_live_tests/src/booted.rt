@@ -36,7 +36,7 @@ target vmlinux
 func .klp.sym.vmlinux.f,0 f_p ffffffffc0001000
 ";
 
-/// Why the tests end before their last line.
+/// Why the tests end before all of them are done.
 #[derive(Clone, Copy, Debug)]
 pub(crate) enum Fault {
     Boot(klp_program::Fault),

@@ -1,5 +1,5 @@
-//! Measures what an entry costs: with no other thread, and with others beside it while one thread submits. For
-//! comparison, measures a look at the same table under a read lock.
+//! Measures the cost of an entry. It is measured without other threads, and with other threads beside it while one
+//! thread submits. For comparison, the cost of a look at the same table under a read lock is measured.
 use crate::books::{Use, booked};
 use crate::handles::Runtime;
 use crate::measure::{Seated, Takes, since, turn};
@@ -20,23 +20,23 @@ use std::time::Instant;
 /// How often each thread looks in a round. The events submitted in a round must fit into the journal.
 const LOOKS: u64 = 20_000;
 
-/// How often the submitting thread must submit two events during a round. It does so less often if other programs hold
-/// it up, and then the round doesn't count.
+/// How often the submitting thread must submit two events during a round. If other programs slow the thread down, it
+/// submits less often, and the round doesn't count.
 const TURNS: u64 = 200;
 
-/// The number of rounds in which entries are timed with no other thread. The best of them counts.
+/// The number of rounds in which entries are timed without other threads. The best round counts.
 const ALONE: u64 = 20;
 
-/// An entry that waits would cost at least this many times as much as a look under a read lock. For scale: a loop of a
-/// thousand turns costs some twenty times as much as such a look.
+/// An entry that waits would cost at least this many times as much as a look under a read lock. A loop of a thousand
+/// turns, for comparison, costs some twenty times as much as such a look.
 const DEAR: u64 = 10;
 
 /// The most threads that look at the same time.
 const LOOKERS: usize = 4;
 
-/// How many threads look while another one submits, and the nanoseconds of the slowest of them in the best round.
-/// `seats` is for looks by a seat, and `lock` for looks under a lock. If there are 0 threads, one looks and none
-/// submits.
+/// How many threads look while another one submits, and the nanoseconds of the slowest thread in the best round.
+/// `seats` is the time of looks by a seat, and `lock` the time of looks under a lock. If the number of threads is 0,
+/// one thread looks and none submits.
 #[derive(Clone, Copy)]
 pub(crate) struct Crowd {
     threads: usize,
@@ -79,7 +79,7 @@ impl<R: Wait> Looks<R> for ByLock<'_> {
     }
 }
 
-/// Applies events to a machine. After each, writes the task's state to the table under its lock.
+/// Applies events to a machine. After each event, writes the task's state to the table under the table's lock.
 #[derive(Drop)]
 struct Writes<'a, M: Machine> {
     table: &'a RwLock<Table>,
@@ -117,7 +117,7 @@ fn begin<M: Machine>(machine: &mut M) {
     apply(machine, Event::Enable(PATCH));
 }
 
-/// Returns how many nanoseconds all looks took. Returns `u64::MAX` if one of them found nothing.
+/// Returns how many nanoseconds all looks took. Returns `u64::MAX` if a look found nothing.
 fn timed<L: Looks<R>, R: Clock>(rt: &R, looker: &mut L) -> io::Result<u64> {
     let start = Instant::now(rt)?;
     let mut found = 0u64;
@@ -128,7 +128,7 @@ fn timed<L: Looks<R>, R: Clock>(rt: &R, looker: &mut L) -> io::Result<u64> {
     Ok(if found == LOOKS { took } else { u64::MAX })
 }
 
-/// How many threads have finished their looks, and how long the slowest of them took.
+/// How many threads have finished their looks, and how long the slowest of these threads took.
 #[derive(Drop)]
 struct Looked {
     done: AtomicU64,
@@ -142,8 +142,8 @@ fn look_often<L: Looks<R> + Drop, R: Clock>(rt: &R, looked: &Looked, looker: L) 
     looked.done.fetch_add(1, Ordering::SeqCst);
 }
 
-/// Lets all lookers look, each in a thread that owns its looker. If they stood side by side in memory, threads would
-/// share what they write. If there is no memory for that, the round doesn't count.
+/// Lets all lookers look, each in a thread that owns its looker. If the lookers were side by side in memory, threads
+/// would share the memory that they write. If there is no memory for the threads, the round doesn't count.
 fn look_all<L: Looks<R> + Drop + Send, R: Threads + Clock + Sync>(
     rt: &R,
     looked: &Looked,
@@ -156,7 +156,8 @@ fn look_all<L: Looks<R> + Drop + Send, R: Threads + Clock + Sync>(
     }
 }
 
-/// Submits two events again and again until `wanted` threads have finished. Returns how often, except the last time.
+/// Submits two events again and again until `wanted` threads have finished. Returns how often the two events were
+/// submitted, without the last time.
 fn submit_until<T: Takes<R>, R>(rt: &R, looked: &Looked, wanted: u64, takes: &mut T) -> u64 {
     let mut turns = 0;
     for count in 0..u64::MAX {
@@ -169,7 +170,7 @@ fn submit_until<T: Takes<R>, R>(rt: &R, looked: &Looked, wanted: u64, takes: &mu
     turns
 }
 
-/// Lets all lookers look while `takes` submits. Returns how long the slowest of them took. Returns `u64::MAX` if there
+/// Lets all lookers look while `takes` submits. Returns how long the slowest looker took. Returns `u64::MAX` if there
 /// were too few submissions.
 fn beside<L: Looks<R> + Drop + Send, T: Takes<R>, R: Threads + Clock + Sync>(
     rt: &R,
@@ -192,7 +193,8 @@ fn beside<L: Looks<R> + Drop + Send, T: Takes<R>, R: Threads + Clock + Sync>(
     looked.slowest.load(Ordering::SeqCst)
 }
 
-/// Does what `beside` does, with the first `threads` lookers. If `threads` is 0, one looks and none submits.
+/// Does what `beside` does, with the first `threads` lookers. If `threads` is 0, one looker looks and nothing is
+/// submitted.
 fn look_by<L: Looks<R> + Drop + Send, T: Takes<R>, R: Threads + Clock + Sync>(
     rt: &R,
     threads: usize,

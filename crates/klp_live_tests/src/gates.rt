@@ -4,7 +4,7 @@ use klp_types::TaskId;
 use std::sync::atomic::{AtomicBool, AtomicU64, Ordering};
 use std::thread;
 
-/// How often a task looks for the other's flag.
+/// How often a task looks for the other task's flag.
 const LOOKS: u32 = 1_000_000;
 
 /// The step before which two tasks meet.
@@ -20,9 +20,9 @@ impl Gate for Open {
     }
 }
 
-/// A gate where two tasks meet. Before a certain step, each task raises its flag, and then looks for the other's. If
-/// the gate saw that flag, it lets the task in. It gives the same answer ever after. So two bodies pass their gates
-/// only if both are before that step at the same time.
+/// A gate where two tasks meet. Before a certain step, each task raises its flag, and then looks for the other task's
+/// flag. If the gate saw the other flag, it lets the task in. The gate never changes its answer. So two bodies pass
+/// their gates only if both are before that step at the same time.
 #[derive(Drop)]
 pub(crate) struct Meeting<'a> {
     own: &'a AtomicBool,
@@ -88,7 +88,7 @@ impl Gate for Meeting<'_> {
     }
 }
 
-/// A gate that lets a task in after `refuses` refusals. It counts how often it was asked.
+/// A gate that lets a task in after `refuses` refusals. The gate counts how often it was asked.
 #[derive(Clone, Copy)]
 pub(crate) struct Slow<'a> {
     pub(crate) asked: &'a AtomicU64,

@@ -1,4 +1,4 @@
-//! What the tests need of the runtime.
+//! The part of the runtime that the tests need.
 use std::rt::Clock;
 use std::sync::Wait;
 use std::thread::Threads;

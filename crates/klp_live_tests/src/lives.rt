@@ -18,7 +18,7 @@ fn file_of<R: Files + AllocGlobal>(rt: &R, name: &str, ending: &str) -> io::Resu
     fs::read(rt, name.as_str())
 }
 
-/// Whether a run writes exactly `output`. It goes to standard output, or to standard error if there is a fault.
+/// Whether a run writes exactly `output`. The run writes to standard output, or to standard error if there is a fault.
 fn is_written<R: Threads + Wait + Sync>(
     rt: &R,
     alloc: Global,
@@ -34,7 +34,7 @@ fn is_written<R: Threads + Wait + Sync>(
     }
 }
 
-/// Whether the steps that this line of the index names write exactly what their output file has.
+/// Whether the steps of this line of the index write exactly the contents of their output file.
 fn holds<R: Threads + Wait + Sync + Files + AllocGlobal>(rt: &R, line: &str) -> io::Result<bool> {
     let (name, catalog) = line.split_once(' ').unwrap_or((line, line));
     let catalog = file_of(rt, catalog, "catalog")?;

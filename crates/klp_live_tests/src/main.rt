@@ -1,17 +1,17 @@
 //! Tests of task threads over a real manager. They test what no contract can say.
 //!
-//! The first tests are about the book, starts and passes: calls must succeed while there is memory, and a call that
-//! gets none must change nothing. The program prints the answers that two seats got. With `rt try --fail-alloc N`, one
-//! allocation of the book is refused. The program then makes the refused call again, and so must print the same. With
-//! the argument `book`, it does only these tests, so that each allocation can be refused in its turn (`tools/hostile
-//! live`).
+//! The first tests are about the book, starts and passes. Calls must succeed while there is memory, and a call that
+//! gets no memory must change nothing. The program prints the answers that two seats got. With `rt try --fail-alloc N`,
+//! one allocation of the book is refused. The program then makes the refused call again, so it must print the same
+//! answers. With the argument `book`, the program does only these tests, so that each allocation can be refused in its
+//! turn (`tools/hostile live`).
 //!
-//! The others are about bodies and jobs. Two threads run over one lock, and must be inside of their bodies at the same
-//! time. A call must read what is published, and not only what its task was told. Events must be accepted, and gates
-//! passed, where they should. The program also runs the files of steps in its folder, as `klpsim live` does.
+//! The other tests are about bodies and jobs. Two threads run over one lock, and must be inside of their bodies at the
+//! same time. A call must read what is published, and not only what its task was told. Events must be accepted, and
+//! gates passed, where they should. The program also runs the files of steps in its folder, as `klpsim live` does.
 //!
-//! If the argument is a number, the program measures. In the best of that many rounds, it prints what an event and an
-//! entry cost, and how many of them two bodies do in a second (docs/PERFORMANCE.md).
+//! If the argument is a number, the program measures that many rounds. It prints the costs of an event and of an entry
+//! in the best round, and how many of them two bodies do in a second (docs/PERFORMANCE.md).
 #![tactic(auto)]
 
 mod bodies;
@@ -45,7 +45,7 @@ use std::alloc::Global;
 use std::env;
 use std::rt::Files;
 
-/// The tests of the book, and those of passes at starts with various numbers of seats.
+/// The tests of the book, and the tests of passes at starts with various numbers of seats.
 const BOOK: [Work; 7] = [
     Work::Turns,
     Work::Passes(2, Story::Heard),
@@ -56,7 +56,7 @@ const BOOK: [Work; 7] = [
     Work::Passes(64, Story::Idle),
 ];
 
-/// Runs the tests of the book. Each has a new manager.
+/// Runs the tests of the book. Each test has a new manager.
 fn run_book<R: Runtime>(rt: &R, alloc: Global) -> Result<(), Fault> {
     for work in BOOK {
         managed(rt, alloc, CATALOG, work)?;
@@ -64,7 +64,7 @@ fn run_book<R: Runtime>(rt: &R, alloc: Global) -> Result<(), Fault> {
     Ok(())
 }
 
-/// Measures `rounds` rounds of the book over a large catalog, and as many of two bodies.
+/// Measures `rounds` rounds of the book over a large catalog, and `rounds` rounds of two bodies.
 fn measured<R: Runtime>(rt: &R, alloc: Global, rounds: u64) -> Result<(), Fault> {
     let text = large(alloc)?;
     managed(rt, alloc, text.as_str().as_bytes(), Work::Costs(rounds))?;

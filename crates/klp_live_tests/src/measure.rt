@@ -1,4 +1,4 @@
-//! Measures what an event costs if it is admitted by a book, and if it is only applied to a machine.
+//! Measures the cost of an event that is admitted by a book, and of an event that is only applied to a machine.
 use crate::books::{Use, booked};
 use crate::entries::{Crowd, crowds, tell_crowd};
 use crate::handles::Runtime;
@@ -63,7 +63,7 @@ impl<S: Start + Protocol<Published, View>, M: Machine + Drop, B: Wait + Drop, R:
     }
 }
 
-/// The shortest times in nanoseconds: that of all task events, and that of one `Enable`.
+/// The shortest times in nanoseconds: the time of all task events, and the time of one `Enable`.
 #[derive(Clone, Copy)]
 pub(crate) struct Times {
     tasks: u64,
@@ -154,8 +154,8 @@ impl Figures {
     }
 }
 
-/// Measures one round. Applies all events, admits them, and enters functions. If there is no memory for a book, what
-/// needs one isn't counted.
+/// Measures one round: applies all events, admits them, and enters functions. If there is no memory for a book, the
+/// parts that need a book aren't counted.
 fn round<M: Shows + Drop + Send, R: Runtime>(
     rt: &R,
     alloc: Global,

@@ -1,4 +1,4 @@
-//! Runs two bodies that can pass their gates only if both are inside at the same time.
+//! Runs two bodies that can pass their gates only if both bodies are running at the same time.
 use crate::gates::Flags;
 use crate::handles::Runtime;
 use crate::names::{FIRST, SECOND};
@@ -44,8 +44,8 @@ where
         self.run_pair(seats, flags.gates(), turns(self.alloc))
     }
 
-    /// Lets the two tasks meet again and again, and prints how often they did. They have met if neither body stopped
-    /// early.
+    /// Lets the two tasks meet again and again, and prints how often they met. The tasks have met if neither body
+    /// stopped early.
     pub(crate) fn show_meetings(&self, seats: TwoSeats<S>) -> (TwoSeats<S>, io::Result<()>) {
         let mut seats = seats;
         let mut count: u64 = 0;
@@ -66,7 +66,8 @@ where
     M: Machine + Drop,
     R: Wait + Print,
 {
-    /// Runs the two bodies in one thread, one after the other. The gate holds the first, since no other is there.
+    /// Runs the two bodies in one thread, one after the other. The gate stops the first body, since the other body
+    /// isn't running yet.
     pub(crate) fn show_apart(&self, seats: TwoSeats<S>) -> (TwoSeats<S>, io::Result<()>) {
         let flags = Flags::new();
         let steps = (turn(FIRST), turn(SECOND));
@@ -74,7 +75,7 @@ where
     }
 }
 
-/// Asks the two gates in turn, in one thread. The one that is asked first never lets its task in.
+/// Asks the two gates in turn, in one thread. The gate that is asked first never lets its task in.
 pub(crate) fn show_turns<R: Print>(rt: &R) -> io::Result<()> {
     let flags = Flags::new();
     let (one, two) = flags.gates();

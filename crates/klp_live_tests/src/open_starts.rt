@@ -1,4 +1,4 @@
-//! An open start. Its methods are the tests; each is in the module of what it tests.
+//! An open start. Its methods are the tests. Each method is in the module of what it tests.
 ghost use Rattle.std.specs.Prelude.{◌<◌};
 ghost use Rattle.klp_types.specs.declared.limits.TheConstants.{MAX_TASKS};
 

@@ -5,8 +5,8 @@ use klp_model::Reply;
 use klp_types::Target;
 use std::io;
 
-/// The number and the reply of an event, or why the event isn't admitted. This is plain data, which costs the prover
-/// less than a receipt.
+/// The number and the reply of an event, or the reason why the event isn't admitted. The answer is plain data, since a
+/// receipt costs the prover more.
 pub(crate) type Answered = Result<(u64, Reply), LiveRefusal>;
 
 /// Returns the answer in a receipt, as plain data.
@@ -24,7 +24,7 @@ pub(crate) fn show_answer<R: Print>(rt: &R, came: &Answered) -> io::Result<()> {
     }
 }
 
-/// Prints which version a call of a pass runs, or why it runs none.
+/// Prints which version a call of a pass runs, or the reason why the call runs no version.
 pub(crate) fn show_found<R: Print>(rt: &R, found: &Result<Target, EnterFault>) -> io::Result<()> {
     match found {
         Ok(Target { version, address }) => println!(rt; "{version:?} {address:x}"),
@@ -73,7 +73,7 @@ fn show_receipt<R: Print>(rt: &R, known: u64, accepted: &Accepted) -> io::Result
     }
 }
 
-/// Prints the outcome of a step, and how many events were known after the step.
+/// Prints the outcome of a step, and the number of events that were known after the step.
 fn show_outcome<R: Print>(rt: &R, outcome: &Outcome) -> io::Result<()> {
     let known = outcome.known;
     match &outcome.what {

@@ -1,5 +1,5 @@
-//! The only owner of a manager. It boots one, and passes it to functions that are generic over the machine, and so
-//! don't see the manager's boxes.
+//! The only owner of a manager. It boots a manager, and passes it to functions that are generic over the machine. Such
+//! functions don't see the manager's boxes.
 use crate::booted::Fault;
 use crate::handles::Runtime;
 use crate::runs::{Work, do_work};
@@ -9,7 +9,7 @@ use klp_program::boot;
 use std::alloc::Global;
 use std::io;
 
-/// Boots a manager over a catalog. The catalog must have no callbacks, since the tests make none.
+/// Boots a manager over a catalog. The tests make no callbacks, so the catalog must have none.
 fn booted(alloc: Global, text: &[u8]) -> Result<Manager, klp_program::Fault> {
     let plan = Catalog::read(alloc, text)?;
     if let Some(_script) = plan.script(0) {

@@ -1,5 +1,5 @@
-//! Jobs of two tasks, and what becomes of their seats. A function that has a seat passes it on before it can return in
-//! any other way, since each return is proved on its own.
+//! Jobs of two tasks, and the return of their seats. Each return of a function is proved on its own. So a function that
+//! has a seat passes the seat on before any other way to return.
 ghost use Rattle.std.specs.Prelude.{◌<◌, ◌^◌, IsSome, vec_len};
 ghost use Rattle.klp_types.specs.declared.limits.TheConstants.{MAX_TASKS};
 ghost use Rattle.klp_live_bodies.specs.Jobs.{body_of};
@@ -50,7 +50,7 @@ pub(crate) fn show_cause<R: Print>(rt: &R, cause: Option<BodyCause>) -> io::Resu
 #[derive(Clone, Copy)]
 pub(crate) struct Ran {
     pub(crate) have_ended: bool,
-    /// How many nanoseconds passed until both had ended.
+    /// How many nanoseconds passed until both jobs had ended.
     pub(crate) took: u64,
 }
 
@@ -118,7 +118,7 @@ where
     M: Machine + Drop + Send,
     R: Runtime,
 {
-    /// Runs two jobs, and returns how many nanoseconds passed until both had ended.
+    /// Runs two jobs, and returns how many nanoseconds passed until both jobs had ended.
     fn run_timed<G: Gate + Drop + Send>(
         &self,
         one: &mut Job<S, G>,
@@ -134,8 +134,8 @@ where
         since(rt, start?)
     }
 
-    /// Lets both tasks do their steps, each in its own thread. `steps` is `Err` if there was no memory for them, and
-    /// then nothing is run.
+    /// Lets both tasks do their steps, each in its own thread. If there was no memory for the steps, `steps` is `Err`,
+    /// and nothing is run.
     pub(crate) fn run_pair<G: Gate + Drop + Send>(
         &self,
         seats: TwoSeats<S>,

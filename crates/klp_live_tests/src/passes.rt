@@ -1,4 +1,4 @@
-//! Tests the passes of two tasks at one start: what each is told, and which versions its calls run.
+//! Tests the passes of two tasks at one start: which events each pass is told of, and which versions its calls run.
 ghost use Rattle.std.specs.Prelude.{◌<◌};
 ghost use Rattle.klp_types.specs.declared.limits.TheConstants.{MAX_TASKS};
 
@@ -22,7 +22,7 @@ pub(crate) enum Story {
     Unheard,
     /// A task takes a seat before it exists.
     Absent,
-    /// All seats are returned at once, without any use.
+    /// All seats are returned at once, without being used.
     Idle,
 }
 
@@ -33,11 +33,11 @@ enum Act {
     Enter(Site),
     /// Submits an event.
     Submit(Event),
-    /// Submits an event, and tells the other pass of it.
+    /// Submits an event, and tells the other pass of the event.
     SubmitHeard(Event),
 }
 
-/// The pass that acts, which is the first or the second, and what it does.
+/// The pass that acts, and its act. The pass is the first or the second.
 #[derive(Clone, Copy)]
 enum Turn {
     First(Act),
@@ -59,7 +59,7 @@ fn heard() -> [Turn; 7] {
     ALL
 }
 
-/// The first task's events switch the second task. That one runs the right version without being told.
+/// The first task's events switch the second task. The second task runs the right version without being told.
 fn unheard() -> [Turn; 8] {
     const ALL: [Turn; 8] = [
         Turn::First(Act::Submit(Event::Enable(PATCH))),
@@ -103,7 +103,7 @@ where
     M: Machine + Drop,
     R: Wait + Print,
 {
-    /// Submits an event from `pass`. If `is_heard`, tells the other pass of it.
+    /// Submits an event from `pass`. If `is_heard`, tells the other pass of the event.
     fn submitted(
         &self,
         pass: &mut TaskPass<S>,
@@ -119,7 +119,7 @@ where
         answer_of(came)
     }
 
-    /// Lets `pass` do this, and prints the result.
+    /// Lets `pass` do this act, and prints the result.
     fn show_act(
         &self,
         pass: &mut TaskPass<S>,

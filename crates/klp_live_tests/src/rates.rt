@@ -1,5 +1,5 @@
-//! Measures how much two bodies do in a second. Either both submit events under the one lock, or both enter functions,
-//! or one submits while the other enters.
+//! Measures how much two bodies do in a second. There are three cases: both submit events under the one lock, both
+//! enter functions, or one submits while the other enters.
 ghost use Rattle.std.specs.Prelude.{◌≡◌, []};
 
 use crate::gates::Open;
@@ -18,7 +18,7 @@ use klp_types::TaskId;
 use std::alloc::{AllocError, Global};
 use std::io;
 
-/// How many events a body submits in a round. Those of two bodies fill half of the journal.
+/// How many events a body submits in a round. The events of two bodies fill half of the journal.
 const EVENTS: u64 = 1_000;
 
 /// How many functions a body enters and leaves in a round.
@@ -31,7 +31,7 @@ enum Work {
     Enters,
 }
 
-/// What the two bodies do, and how many nanoseconds they took in the best round.
+/// The work of each of the two bodies, and how many nanoseconds they took in the best round.
 #[derive(Clone, Copy)]
 struct Timed {
     works: (Work, Work),
@@ -63,7 +63,7 @@ impl Best {
     }
 }
 
-/// Returns the steps of a body that does this.
+/// Returns the steps of a body that does this work.
 fn steps_of(alloc: Global, task: TaskId, work: Work) -> Result<Vec<Step>, AllocError> {
     let (pair, times) = match work {
         Work::Submits => (
@@ -93,7 +93,7 @@ fn keep(timed: &mut Timed, ran: io::Result<Ran>) -> io::Result<()> {
     Ok(())
 }
 
-/// Returns how many are done in a second, if `count` took `took` nanoseconds.
+/// Returns how many steps are done in a second, if `count` steps took `took` nanoseconds.
 fn rate(count: u64, took: u64) -> u128 {
     u128::from(count) * 1_000_000_000 / u128::from(took.max(1))
 }
@@ -104,7 +104,7 @@ where
     M: Machine + Drop + Send,
     R: Runtime,
 {
-    /// Runs one round with the two seats: each pair of works once.
+    /// Runs one round with the two seats. In a round, each pair of works is done once.
     pub(crate) fn round(
         &self,
         seats: TwoSeats<S>,

@@ -1,4 +1,4 @@
-//! What is done with a machine: one test, or a number of measured rounds.
+//! The work that is done with a machine: one test, or a number of measured rounds.
 use crate::handles::Runtime;
 use crate::passes::Story;
 use crate::shows::Shows;
@@ -17,9 +17,9 @@ pub(crate) enum Work {
     Bodies,
     /// Entries are compared with looks under a lock.
     Entries,
-    /// This many rounds measure what an event and an entry cost.
+    /// Measures the costs of an event and of an entry in this many rounds.
     Costs(u64),
-    /// This many rounds measure how much two bodies do in a second.
+    /// Measures in this many rounds how much two bodies do in a second.
     Rates(u64),
 }
 

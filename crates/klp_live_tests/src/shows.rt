@@ -1,5 +1,5 @@
-//! What the tests need of a machine besides what a book needs, and what of it must stay the same if an event isn't
-//! accepted.
+//! The parts of a machine that the tests need besides what a book needs. Some of them must stay the same if an event
+//! isn't accepted.
 ghost use Rattle.std.specs.Prelude.{◌≡◌, ◌≤◌, [], length};
 ghost use Rattle.klp_types.specs.declared.limits.TheConstants.{MAX_GROUPS};
 
@@ -8,7 +8,7 @@ use klp_core::{Machine, Manager};
 use klp_model::Event;
 use klp_types::{PatchId, Site, SiteRow, Target, TaskId};
 
-/// What is compared of a machine: its mark, its transition, three of its rows, and three patch states.
+/// The parts of a machine that are compared: its mark, its transition, three of its rows, and three patch states.
 #[derive(Clone, Copy, PartialEq)]
 pub(crate) struct Shown {
     mark: u32,
@@ -63,7 +63,7 @@ pub(crate) fn apply<M: Machine>(machine: &mut M, event: Event) -> bool {
     machine.apply(event).is_ok()
 }
 
-/// Begins two tasks, and seals the journal. So a rewind doesn't undo the begin of the tasks.
+/// Begins two tasks, and seals the journal. So a rewind doesn't undo the beginning of the tasks.
 pub(crate) fn prepare<M: Shows>(machine: &mut M)
     ensures { (M.journaled machine.new).groups ≡ [] }
 {

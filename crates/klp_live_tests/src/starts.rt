@@ -1,5 +1,5 @@
-//! Begins a start over a machine, runs something in it, and ends it. The kind of start is chosen by who owns the
-//! machine.
+//! Begins a start over a machine, runs something in the start, and ends it. The owner of the machine chooses the kind
+//! of start.
 ghost use Rattle.std.specs.Prelude.{◌≡◌, ◌<◌, ◌≤◌, []};
 ghost use Rattle.klp_live.specs.Opening.{IsFresh};
 ghost use Rattle.klp_live.specs.Shown.{RuleIs};
@@ -17,19 +17,21 @@ use std::io;
 use std::marker::Brand;
 use std::sync::ledger::Blank;
 
-/// What the seats of a start do.
+/// The work that the seats of a start do.
 #[derive(Drop)]
 pub(crate) enum Run<'a> {
     Passes(Story),
     Bodies,
-    /// They do one round, whose times are measured.
+    /// The seats do one round, whose times are measured.
     Round(&'a mut Best),
 }
 
-/// The machine, and the result of the run. If the machine is lost, has what is printed about that.
+/// The machine, and the result of the run. If the machine is lost, the value is the text that is printed about the
+/// loss.
 pub(crate) type HandedBack<M> = (Result<M, &'static str>, io::Result<()>);
 
-/// Removes the last two seats, and returns them. Returns `None`, and removes nothing, if there are fewer.
+/// Removes the last two seats, and returns them. If there are fewer than two seats, removes nothing, and returns
+/// `None`.
 fn take_two<S: Start + Protocol<Published, View>>(seats: &mut Vec<Seat<S>>) -> Option<TwoSeats<S>> {
     if seats.len() < 2 {
         return None;
@@ -39,7 +41,7 @@ fn take_two<S: Start + Protocol<Published, View>>(seats: &mut Vec<Seat<S>>) -> O
     Some((first, second))
 }
 
-/// Puts two seats back. There is room for both, so no push fails. If one did, the start couldn't end.
+/// Puts two seats back. There is room for both, so no push fails. If a push failed, the start couldn't end.
 fn put_back<S: Start + Protocol<Published, View>>(seats: &mut Vec<Seat<S>>, two: TwoSeats<S>) {
     let _ = seats.push(two.0);
     let _ = seats.push(two.1);
@@ -68,7 +70,7 @@ where
         }
     }
 
-    /// Lets two of the seats do what this run says. Does nothing if there are fewer than two.
+    /// Lets two of the seats do what this run says. Does nothing if there are fewer than two seats.
     fn all_run(&self, seats: &mut Vec<Seat<S>>, run: Run<'_>) -> io::Result<()> {
         let Some(two) = take_two(seats) else {
             return Ok(());
@@ -79,7 +81,7 @@ where
     }
 }
 
-/// Returns what is printed if there is no start. `NoPlace` never occurs, since there are as many places as seats.
+/// Returns the text that is printed if there is no start. There are as many places as seats, so `NoPlace` never occurs.
 fn why_no_start(cause: StartCause) -> &'static str {
     match cause {
         StartCause::NoMemory => "no start",
@@ -87,8 +89,8 @@ fn why_no_start(cause: StartCause) -> &'static str {
     }
 }
 
-/// Begins a start, does the run, and ends the start. The machine is lost if there is no memory for a start, or if a
-/// seat is missing at the end. Then returns what to print about it.
+/// Begins a start, does the run, and ends the start. If there is no memory for a start, or if a seat is missing at the
+/// end, the machine is lost. The result is then the text that is printed about the loss.
 fn opened<S: Start + Protocol<Published, View> + Send + Sync, M: Machine + Drop + Send, R: Runtime>(
     rt: &R,
     alloc: Global,
@@ -120,7 +122,8 @@ fn opened<S: Start + Protocol<Published, View> + Send + Sync, M: Machine + Drop 
     }
 }
 
-/// Begins a start over a machine whose journal is empty, does the run, and ends the start. It has from 1 to 64 seats.
+/// Begins a start over a machine whose journal is empty, does the run, and ends the start. The start has from 1 to 64
+/// seats.
 pub(crate) fn started<M: Machine + Drop + Send, R: Runtime>(
     rt: &R,
     alloc: Global,
@@ -135,7 +138,7 @@ pub(crate) fn started<M: Machine + Drop + Send, R: Runtime>(
     opened::<Brand, M, R>(rt, alloc, blank, Opened::new(), machine, places, run)
 }
 
-/// Undoes all events. Prints how many there were, and whether the machine is as it was before its start.
+/// Undoes all events. Prints how many events there were, and whether the machine is as it was before its start.
 fn show_end<M: Machine, R: Print>(rt: &R, machine: &mut M, before: &Shown) -> io::Result<()> {
     let standing = machine.mark();
     let is_back = machine.rewind(0).is_ok() && Shown::of(machine) == *before;

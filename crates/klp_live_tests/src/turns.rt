@@ -1,4 +1,5 @@
-//! Lets two seats of a manager's book submit events. Checks the answer to each, and which versions calls run after it.
+//! Lets two seats of a manager's book submit events. Checks the answer to each event, and which versions calls run
+//! after the event.
 use crate::books::{Use, booked};
 use crate::handles::Runtime;
 use crate::names::{FIRST, SECOND};
@@ -16,7 +17,7 @@ use std::sync::Wait;
 #[derive(Clone, Copy)]
 struct Turn(usize, Event);
 
-/// Events of patches, modules and tasks. Most of them are submitted by the two seats in turn.
+/// Events of patches, modules and tasks. The two seats submit most of them in turn.
 fn first_turns() -> [Turn; 21] {
     const ALL: [Turn; 21] = [
         Turn(0, Event::NewTask(FIRST)),
@@ -47,8 +48,8 @@ fn first_turns() -> [Turn; 21] {
 /// The shadow variable that is added and freed.
 const SHADOW: ShadowKey = ShadowKey { obj: 1, id: 9 };
 
-/// Events that add and free a shadow variable, and one that unloads a module. This can't be a constant, since the value
-/// is made by a call.
+/// Events that add and free a shadow variable, and an event that unloads a module. The variable's value is made by a
+/// call, so the list can't be a constant.
 fn last_turns() -> [Turn; 3] {
     [
         Turn(0, Event::ShadowAlloc(SHADOW, ShadowValue::of(5))),
@@ -60,7 +61,8 @@ fn last_turns() -> [Turn; 3] {
 /// How many sites the image has.
 const SITES: u16 = 3;
 
-/// What a refusal with `NoMemory` must not change: the machine, the number of rows, and how many of them a seat knows.
+/// The state that a refusal with `NoMemory` must not change: the machine, the number of rows, and how many rows a seat
+/// knows.
 #[derive(Clone, Copy, PartialEq)]
 struct Standing {
     shown: Shown,
@@ -92,7 +94,8 @@ fn admitted<S: Start + Protocol<Published, View>, M: Shows + Drop, R: Wait>(
     answer_of(book.admit(rt, alloc, seat, event))
 }
 
-/// Admits an event. If memory is refused, prints a line if anything has changed, and admits the event once more.
+/// Admits an event. If memory is refused, admits the event once more. If the refused call has changed anything, prints
+/// a line that says so.
 fn taken<S: Start + Protocol<Published, View>, M: Shows + Drop, R: Wait + Print>(
     rt: &R,
     alloc: Global,
@@ -167,7 +170,7 @@ fn show_turns<S: Start + Protocol<Published, View>, M: Shows + Drop, R: Wait + P
     Ok(())
 }
 
-/// Prints how many of the rows each seat knows. There are `rows` rows.
+/// Prints how many of the rows each seat knows. `rows` is the number of rows.
 fn show_rows<S: Start + Protocol<Published, View>, R: Print>(
     rt: &R,
     seats: &[Seat<S>],
@@ -191,7 +194,7 @@ pub(crate) fn all_taken<S: Start + Protocol<Published, View>, M: Shows + Drop, R
     show_rows(rt, seats, book.rows())
 }
 
-/// Opens a book over the machine, and takes all turns. If memory was refused for the book, tries that once more.
+/// Opens a book over the machine, and takes all turns. If memory was refused for the book, tries to open it once more.
 pub(crate) fn twice<M: Shows + Drop, R: Runtime>(
     rt: &R,
     alloc: Global,

@@ -30,7 +30,7 @@ fn first(rows: &[Row]) -> u64
     0
 }
 
-/// Returns at how many rows the kernel differs from the rules, and the number of the first of these.
+/// Returns the number of rows at which the kernel differs from the rules, and the number of the first such row.
 pub(crate) fn differing_in(rows: &[Row]) -> Differing
     ensures { result ≡ differing_in rows.now }
 {

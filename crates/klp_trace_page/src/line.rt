@@ -1,4 +1,4 @@
-//! Finds the part of a trace's line about which the rules say something.
+//! Finds the part of a trace's line that can be compared with the rules.
 ghost use Rattle.std.specs.Prelude.{◌≡◌};
 ghost use Rattle.klp_trace_page.specs.Traced.{untimed, item_text};
 

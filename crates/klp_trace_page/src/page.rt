@@ -1,4 +1,4 @@
-//! Boots a manager over a catalog's text, and makes a page that compares a kernel's trace with it.
+//! Boots a manager with a catalog's text, and makes a page that compares a kernel's trace with the manager.
 ghost use Rattle.std.specs.Prelude.{◌≡◌, length, IfOk, IfErr};
 ghost use Rattle.std.specs.Str.Lines.{lines};
 ghost use Rattle.klp_catalog_text.specs.Within.{AreTargetsWithin};
@@ -51,8 +51,8 @@ fn paged(
     )
 }
 
-/// Reads a trace by the names of a manager that was just booted, plays it, and returns the text of its page. `Err` with
-/// the first faulty line, or if memory runs out.
+/// Reads a trace with the names of a manager that was just booted, plays the trace, and returns the text of its page.
+/// If a line is faulty, returns the first such line as `Err`. Also returns `Err` if memory runs out.
 fn read_and_paged(
     alloc: Global,
     manager: &mut Manager,
@@ -70,8 +70,8 @@ fn read_and_paged(
     }
 }
 
-// Plays a trace on a manager, drops the manager, and returns the page. Managers are dropped only by `close`, so that
-// the drop is proved once.
+// Plays a trace on a manager, drops the manager, and returns the page. Only `close` drops managers, so the drop is
+// proved once.
 fn page_over_manager(
     alloc: Global,
     mut manager: Manager,
@@ -88,8 +88,8 @@ fn page_over_manager(
     page
 }
 
-// Boots a manager over a plan, plays the trace on it, and returns the page. The callbacks are made in this function,
-// since no function may return a boxed value that it makes.
+// Boots a manager over a plan, plays the trace on it, and returns the page. No function may return a boxed value that
+// it makes, so the callbacks are made in this function.
 fn page_over_plan(
     alloc: Global,
     plan: Plan,
@@ -111,10 +111,10 @@ fn page_over_plan(
     page_over_manager(alloc, manager, name, names, trace, layout)
 }
 
-/// Boots a manager over the catalog's text, plays the trace on it by the rules, and returns a page with a row for each
-/// line. `name` is the page's title. `names` has the names of tasks and the times of lines. `Err` if the text boots no
-/// manager, if a line of the trace is faulty (the first is returned), or if memory runs out. Allocates memory in
-/// proportion to the trace.
+/// Boots a manager with the catalog's text, plays the trace on it by the rules, and returns a page with a row for each
+/// line. `name` is the page's title. `names` has the names of tasks and the times of lines. Returns `Err` if no manager
+/// can be booted with the text, or if memory runs out. If lines of the trace are faulty, returns the first such line as
+/// `Err`. Allocates memory in proportion to the trace.
 pub fn page_over_trace(
     alloc: Global,
     catalog: &[u8],
@@ -129,8 +129,8 @@ pub fn page_over_trace(
     page_over_plan(alloc, plan, name, names, trace)
 }
 
-/// Writes the page of a trace to `out` after all lines are played. If there is a fault before that, writes nothing. If
-/// the page can't be written, returns the fault of a failed write.
+/// Writes the page of a trace to `out` after all lines are played. If a fault is found before the page is complete,
+/// writes nothing. If the page can't be written, returns the fault of a failed write.
 pub fn write_trace_page<W: Write>(
     alloc: Global,
     catalog: &[u8],

@@ -34,7 +34,7 @@ fn make_room(manager: &mut Manager)
     }
 }
 
-/// Adds the kernel's answer to a row, which has that of the rules. If the two differ, marks the row.
+/// Adds the kernel's answer to a row that has the answer of the rules. If the two answers differ, marks the row.
 fn compare(row: &mut Row, seen: Vec<u8>)
     ensures row { row.new ≡ record row.old {
       is_quiet = row.old.is_quiet && not row.new.differs;
@@ -77,7 +77,7 @@ fn seen_answer(
     Vec::from_slice(alloc, text.as_bytes())
 }
 
-/// Does an event as [`event_row`] does, and adds the kernel's answer to the row, beside that of the rules. `Err` if
+/// Does an event as [`event_row`] does. Adds the kernel's answer to the row, beside the answer of the rules. `Err` if
 /// memory runs out.
 fn answered_row(
     alloc: Global,
@@ -97,8 +97,8 @@ fn answered_row(
     Ok((row, moment))
 }
 
-/// Returns the row and the moment of an item that changes nothing. `rules` is what the rules say there, and `seen` what
-/// the kernel showed. `Err` if memory runs out.
+/// Returns the row and the moment of an item that changes nothing. `rules` is what the rules say about the item, and
+/// `seen` what the kernel showed. `Err` if memory runs out.
 fn still_row(
     alloc: Global,
     manager: &Manager,
@@ -155,7 +155,7 @@ fn sight_row(
     )
 }
 
-/// Plays an event without an answer, a call or a return. Returns its row and its moment. `Err` if memory runs out.
+/// Plays an event without an answer, a call or a return. Returns the item's row and moment. `Err` if memory runs out.
 fn seen_row(
     alloc: Global,
     manager: &mut Manager,
@@ -174,7 +174,7 @@ fn seen_row(
     }
 }
 
-/// Plays one item of a trace. Returns its row and its moment. `Err` if memory runs out.
+/// Plays one item of a trace. Returns the item's row and moment. `Err` if memory runs out.
 fn item_row(
     alloc: Global,
     manager: &mut Manager,
@@ -216,8 +216,8 @@ fn add_line(
     Ok(())
 }
 
-/// Plays a trace. `items` are the items of its lines. Returns a row for each line, and what each line did. `Err` if
-/// memory runs out.
+/// Plays a trace. `items` are the items of its lines. Returns a row for each line, and the effect of each line. `Err`
+/// if memory runs out.
 pub(crate) fn record_trace(
     alloc: Global,
     manager: &mut Manager,

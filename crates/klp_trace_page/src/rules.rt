@@ -1,4 +1,4 @@
-//! Says in the same words what the rules have where a kernel was looked at, and what the kernel showed.
+//! The words for what a kernel showed, and for what the rules say in its place. Both use the same words.
 ghost use Rattle.std.specs.Prelude.{◌≡◌, string_bytes, Some, option_map, IfOk};
 ghost use Rattle.klp_types.specs.declared.version.Target.{Target as AnyTarget};
 ghost use Rattle.klp_model.specs.Entries.{is_site_loaded, is_hooked};
@@ -21,7 +21,7 @@ fn flag_text(flag: bool) -> &'static str
     if flag { "1" } else { "0" }
 }
 
-/// Returns the word for a hooked site, or that for a site that isn't hooked.
+/// Returns the word for a site that is hooked or isn't hooked.
 fn hook_text(is_hooked: bool) -> &'static str
     ensures { result.now ≡ hook_text is_hooked }
 {
@@ -51,7 +51,7 @@ fn files_of(manager: &Manager, patch: PatchId) -> Option<PatchFiles>
     })
 }
 
-/// Returns a task's patch state, as `/proc/<pid>/patch_state` reads. Returns `no task` if there is none.
+/// Returns a task's patch state, as `/proc/<pid>/patch_state` reads. Returns `no task` if there is no such task.
 fn state_text(alloc: Global, state: Option<i8>) -> Result<String, AllocError>
     ensures { IfOk result (λ text. string_bytes text ≡ state_text state) }
 {
@@ -61,7 +61,7 @@ fn state_text(alloc: Global, state: Option<i8>) -> Result<String, AllocError>
     }
 }
 
-/// Returns the number of the patch state that was seen. Returns `None` if no task was.
+/// Returns the number of the patch state that was seen. Returns `None` if no such task was seen.
 fn number_of(state: Option<PatchState>) -> Option<i8>
     ensures { result ≡ state }
 {
@@ -116,8 +116,8 @@ fn version_of(manager: &Manager, task: TaskId, site: Site) -> Option<Version>
     Some(manager.pick(task, site)?.version)
 }
 
-/// Returns the word for whether a site is hooked by the rules. If the site's object isn't loaded, returns the words for
-/// that.
+/// Returns the word for whether a site is hooked by the rules. If the site's object isn't loaded, returns the words
+/// that say so.
 fn text_text(manager: &Manager, site: Site) -> &'static str
     ensures { result.now ≡ text_text
         (is_site_loaded (setting_of manager.now.managed) manager.now.managed.state site)
@@ -129,7 +129,7 @@ fn text_text(manager: &Manager, site: Site) -> &'static str
     }
 }
 
-/// Returns what the rules have in place of this sight.
+/// Returns what the rules say in place of this sight.
 pub(crate) fn rules_text(
     alloc: Global,
     manager: &Manager,

@@ -1,12 +1,12 @@
-//! Takes the times of a trace as those of its lines.
+//! Reads the times of a trace as the times of its lines.
 
 use klp_catalog_text::Lines;
 use klp_names::Names;
 use klp_trace::LineParts;
 use std::alloc::{AllocError, Global};
 
-/// Returns a text of names, and behind it the times of the trace's lines. The function has no contract, since its
-/// result is read by [`Names::read`].
+/// Returns a text of names, with the times of the trace's lines behind it. [`Names::read`] reads the result, so the
+/// function has no contract.
 fn with_lines(alloc: Global, names: &[u8], trace: &[u8]) -> Result<Vec<u8>, AllocError> {
     let mut text = Vec::from_slice(alloc, names)?;
     if !names.is_empty() && !names.ends_with(b"\n".as_slice()) {
@@ -26,9 +26,9 @@ fn with_lines(alloc: Global, names: &[u8], trace: &[u8]) -> Result<Vec<u8>, Allo
     Ok(text)
 }
 
-/// Reads a text of names, and adds the trace's times as those of its lines. If these can't follow the text, since it
-/// has times itself or one of them is faulty, reads the text alone. The function has no contract. Returns `None` if
-/// memory runs out, or if the text is faulty.
+/// Reads a text of names, and adds the times of the trace's lines. If the text has times of its own, or if a time of
+/// the trace is faulty, reads the text alone. The function has no contract. Returns `None` if memory runs out, or if
+/// the text is faulty.
 pub fn timed_names(alloc: Global, names: &[u8], trace: &[u8]) -> Option<Names> {
     let text = with_lines(alloc, names, trace).ok()?;
     match Names::read(alloc, &text) {
