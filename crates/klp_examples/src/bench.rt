@@ -1,4 +1,4 @@
-//! Measures what an event costs, and what the whole program costs.
+//! Measures the costs of an event, and the costs of the whole program.
 
 use crate::case::Case;
 use crate::measured::{Measured, SCENES, Way};
@@ -16,7 +16,7 @@ use std::{fs, io};
 /// functions as possible, so four patches together change the whole kernel.
 const LARGE: &str = "bench.catalog";
 
-/// The example with which the console is measured. `TIMES` is how often its script stands in the input.
+/// The example with which the console is measured. `TIMES` is how often the example's script is repeated in the input.
 const SMALL: &str = "measured k";
 
 const TIMES: usize = 512;
@@ -35,7 +35,7 @@ fn booted(alloc: Global, text: &[u8]) -> Option<Manager> {
     }
 }
 
-// Counts all items of a trace as accepted if the trace is honest. Otherwise counts all as refused.
+// Counts the items of a trace. If the trace is honest, all items count as accepted, otherwise all count as refused.
 fn counted(ended: Result<(), NotHonest>, items: usize) -> (u64, u64) {
     match ended {
         Ok(()) => (items as u64, 0),
@@ -43,10 +43,10 @@ fn counted(ended: Result<(), NotHonest>, items: usize) -> (u64, u64) {
     }
 }
 
-// Does one round of a scene, with a new manager. It does the lists in order, and each list in several slices. In each
-// slice the manager does all events of the list. For some lists it then undoes them, and only the undoing is measured.
-// The journal has room for one slice. While the function holds the manager it has a single return, since each return
-// would be proved with all that is known of the manager.
+// Does one round of a scene, with a new manager. The lists are done in order, and each list is done in several slices.
+// In each slice the manager does all events of the list. For some lists the manager then undoes the events, and only
+// the undoing is measured. The journal has room for one slice. Each return would be proved with all that is known of
+// the manager, so the function has a single return while it has the manager.
 fn round<R: Clock>(
     rt: &R,
     alloc: Global,
@@ -79,7 +79,7 @@ fn round<R: Clock>(
     ended
 }
 
-// Measures and prints what the lists of a scene cost.
+// Measures and prints the costs of the lists of a scene.
 fn measure_scene<R: Clock + Print>(
     rt: &R,
     alloc: Global,
@@ -100,7 +100,7 @@ fn measure_scene<R: Clock + Print>(
     Ok(())
 }
 
-// Measures and prints what all lists of events cost over this catalog.
+// Measures and prints the costs of all lists of events over this catalog.
 fn measure_events<R: Clock + Print>(
     rt: &R,
     alloc: Global,
@@ -114,7 +114,7 @@ fn measure_events<R: Clock + Print>(
     Ok(())
 }
 
-// Measures and prints what events cost over this catalog, and what it costs to read the catalog.
+// Measures and prints the costs of events over this catalog, and the cost of reading the catalog.
 fn measure_large<R: Clock + Print>(
     rt: &R,
     alloc: Global,
@@ -126,7 +126,7 @@ fn measure_large<R: Clock + Print>(
     println!(rt; "a catalog of {} bytes is read{read}", catalog.len())
 }
 
-// Measures and prints what it costs to boot a manager over this catalog, and to serve this input with it.
+// Measures and prints the cost of booting a manager with this catalog and serving this input.
 fn measure_small<R: Clock + Print>(
     rt: &R,
     alloc: Global,
@@ -153,8 +153,8 @@ fn run_small<R: Clock + Files + Print + AllocGlobal>(rt: &R, rounds: u32) -> io:
     measure_small(rt, rt.alloc(), &case.catalog, &input, rounds)
 }
 
-/// Measures `rounds` rounds. Each figure is a line. It has how much was accepted, refused or answered, and if there are
-/// several rounds, the shortest time.
+/// Measures `rounds` rounds, and writes each figure as a line. A line has how many items were accepted, refused or
+/// answered. If there are several rounds, it also has the shortest time.
 pub(crate) fn run<R: Clock + Files + Print + AllocGlobal>(rt: &R, rounds: u32) -> io::Result<()> {
     run_large(rt, rounds)?;
     run_small(rt, rounds)

@@ -1,4 +1,4 @@
-//! An example: a script, the catalog over which it is served, and what must be answered.
+//! An example: a script, the catalog over which it is served, and the answers that it must get.
 
 use klp_program::catalog_in;
 use std::rt::Files;
@@ -7,7 +7,7 @@ use std::{fs, io};
 /// The name that stands for the built-in catalog.
 const BUILT_IN: &str = "-";
 
-/// A catalog, a script that is served over it, and what must be written.
+/// A catalog, a script that is served over it, and the text that must be written.
 #[derive(Drop)]
 pub(crate) struct Case {
     pub(crate) catalog: Vec<u8>,
@@ -34,8 +34,8 @@ fn file_of<R: Files + AllocGlobal>(rt: &R, name: &str, ending: &str) -> io::Resu
 }
 
 impl Case {
-    /// Reads the example of this line of the index. The line has the example's name, and that of its catalog if it is
-    /// another.
+    /// Reads the example of this line of the index. The line has the example's name. If the catalog has another name,
+    /// the line has the catalog's name too.
     pub(crate) fn read<R: Files + AllocGlobal>(rt: &R, line: &str) -> io::Result<Case> {
         let (name, catalog) = line.split_once(' ').unwrap_or((line, line));
         let catalog = catalog_of(rt, catalog)?;
@@ -48,7 +48,7 @@ impl Case {
         })
     }
 
-    /// Whether a run wrote exactly what must be written, and had no fault.
+    /// Whether a run wrote exactly the text that must be written, and had no fault.
     pub(crate) fn is_met(&self, status: u8, out: &[u8], err: &[u8]) -> bool {
         status == 0 && out == self.output.as_slice() && err.is_empty()
     }

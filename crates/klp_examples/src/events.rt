@@ -12,7 +12,8 @@ const FIRST: PatchId = PatchId(0);
 
 const UNCHANGED: u16 = 64;
 
-/// How many shadow variables exist while others are added and freed: `FEW` in one list, `MANY` in another.
+/// How many shadow variables exist while other variables are added and freed. The number is `FEW` in one list, and
+/// `MANY` in another.
 const FEW: u64 = 10;
 
 const MANY: u64 = 500;
@@ -20,8 +21,8 @@ const MANY: u64 = 500;
 /// How often something is added and removed again in a slice.
 const PAIRS: u64 = 16;
 
-/// The largest number of patches. `ALL_TASKS` is that of tasks, and `TASKS` is how many tasks enter and leave the
-/// kernel.
+/// The largest number of patches. `ALL_TASKS` is the largest number of tasks, and `TASKS` is how many tasks enter and
+/// leave the kernel.
 const ALL_PATCHES: u64 = MAX_PATCHES as u64;
 
 const ALL_TASKS: u64 = MAX_TASKS as u64;
@@ -31,29 +32,29 @@ const TASKS: u64 = 8;
 /// What happens in a turn, depending on the turn's number.
 #[derive(Clone, Copy)]
 pub(crate) enum Step {
-    /// The patch with this number is enabled. If there is none, that is refused.
+    /// The patch with this number is enabled. If there is no such patch, the event is refused.
     Enable,
-    /// The first patch is enabled. By `DisableFirst`, it is disabled.
+    /// The first patch is enabled. `DisableFirst` disables it.
     EnableFirst,
     DisableFirst,
     /// The transition is tried.
     Poll,
-    /// The task with this number begins. By the next three steps, it enters the kernel, leaves it, and ends.
+    /// The task with this number begins. In the next three steps, the task enters the kernel, leaves it, and ends.
     NewTask,
     EnterKernel,
     ExitToUser,
     EndTask,
-    /// The task falls asleep inside of as many functions as possible. The innermost one is at this site.
+    /// The task falls asleep inside of as many functions as possible. The innermost function is at this site.
     Sleep(u16),
-    /// The shadow variable with this number is added. By `Free`, it is freed.
+    /// The shadow variable with this number is added. `Free` frees it.
     Add,
     Free,
-    /// A shadow variable is added whose key lies between those of the first ones. By `Go`, it is freed.
+    /// A shadow variable is added whose key lies between the keys of the first variables. `Go` frees it.
     Come,
     Go,
 }
 
-/// Turns with the numbers from `numbers.0` up to, but without, `numbers.1`. All of them are repeated `times` times.
+/// Turns with the numbers from `numbers.0` up to, but without, `numbers.1`. All these turns are repeated `times` times.
 #[derive(Clone, Copy)]
 pub(crate) struct Turns {
     times: u64,
@@ -68,7 +69,7 @@ pub(crate) const ENABLED: [Turns; 1] = [Turns {
     steps: &[Step::Enable, Step::Poll],
 }];
 
-/// Patches are enabled and polled once more. When all patches are installed, each of these events is refused.
+/// Patches are enabled and polled once more. If all patches are installed, each of these events is refused.
 pub(crate) const REFUSED: [Turns; 1] = [Turns {
     times: 1,
     numbers: (0, 32),
@@ -87,7 +88,7 @@ pub(crate) const MANY_ADDED: [Turns; 1] = [Turns {
     steps: &[Step::Add],
 }];
 
-/// A shadow variable is added between the others, and freed again.
+/// A shadow variable is added between the other variables, and freed again.
 pub(crate) const COMING_AND_GOING: [Turns; 1] = [Turns {
     times: 1,
     numbers: (0, PAIRS),
@@ -135,7 +136,7 @@ pub(crate) const LIVES: [Turns; 1] = [Turns {
     ],
 }];
 
-/// A patch is enabled and disabled. Each time its transition completes.
+/// A patch is enabled and disabled. Each time the transition completes.
 pub(crate) const CYCLE: [Turns; 1] = [Turns {
     times: PAIRS,
     numbers: (0, 1),
@@ -197,8 +198,8 @@ pub(crate) const POLLS: [Turns; 1] = [Turns {
     steps: &[Step::Poll],
 }];
 
-/// Returns as many frames as possible. The innermost is of the function `innermost`. The others are of functions that
-/// the first patch doesn't change.
+/// Returns as many frames as possible. The innermost frame is of the function `innermost`. The other frames are of
+/// functions that the first patch doesn't change.
 fn frames(innermost: u16) -> Frames {
     let mut frames = Frames::new();
     for _ in 1..MAX_FRAMES {

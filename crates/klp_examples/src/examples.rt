@@ -1,6 +1,7 @@
-//! Runs each example. A script must print its output and nothing else. That must also hold if a read gives and a write
-//! accepts only a few bytes, and if no memory is left once a manager is booted. If an example is run at once, it may
-//! take five seconds at most. Traces and refused input are tried by ./tests, with the programs that the gate has built.
+//! Runs each example. A script must print its output and nothing else. It must do so even if a read gives only a few
+//! bytes, and a write accepts only a few. It must also do so if no memory is left once a manager is booted. An example
+//! without cut reads and writes may take five seconds at most. ./tests tries traces and refused input, with the
+//! programs that the gate has built.
 
 use crate::case::Case;
 use crate::few::Few;
@@ -15,10 +16,10 @@ use std::time::Instant;
 /// The most seconds that an example may take.
 const SECONDS: u64 = 5;
 
-/// How an example is run.
+/// The way in which an example is run.
 #[derive(Clone, Copy)]
 enum Way {
-    /// Reads and writes aren't cut. This may take five seconds at most.
+    /// Reads and writes aren't cut. The run may take five seconds at most.
     AtOnce,
     /// A read gives at most the first number of bytes, and a write accepts at most the second.
     Cut(usize, usize),
@@ -26,7 +27,7 @@ enum Way {
     Starved,
 }
 
-/// All ways in which an example is run, each with what is written if the example fails.
+/// All ways in which an example is run. Each way has the text that is written if the example fails.
 const WAYS: [(Way, &str); 6] = [
     (Way::AtOnce, "differs, or takes more than five seconds"),
     (Way::Cut(1, usize::MAX), "differs, read byte by byte"),
@@ -63,8 +64,8 @@ fn holds<R: Clock>(rt: &R, alloc: Global, case: &Case, way: Way) -> io::Result<b
     }
 }
 
-/// Whether the example of this line prints its output in all ways. Writes each way in which it doesn't. The function
-/// borrows the example, since otherwise each of its returns would drop it.
+/// Whether the example of this line prints its output in all ways. Writes each way in which it doesn't. If the function
+/// owned the example, each return would drop the example, so it borrows it.
 fn holds_all<R: Clock + Print + AllocGlobal>(rt: &R, line: &str, case: &Case) -> io::Result<bool> {
     let mut all = true;
     for (way, fault) in &WAYS {
@@ -83,8 +84,8 @@ fn holds_line<R: Clock + Files + Print + AllocGlobal>(rt: &R, line: &str) -> io:
 }
 
 /// Runs the examples of an index, and counts those that print their output. Each line of the index has a name, for
-/// `NAME.script` and `NAME.output`. If the catalog has another name, that follows, for `CATALOG.catalog`. A line that
-/// begins with `#` says what the lines behind it show.
+/// `NAME.script` and `NAME.output`. If the catalog has another name, the line also has this name, for
+/// `CATALOG.catalog`. A line that begins with `#` says what the lines behind it show.
 pub(crate) fn run<R: Clock + Files + Print + AllocGlobal>(
     rt: &R,
     index: &str,

@@ -1,6 +1,6 @@
-//! Runs the scripts of the examples, also without memory. Then measures what an event costs, and what the whole program
-//! costs. It must run in the folder of its data. Its argument is how many rounds are measured. The gate runs one round,
-//! and then no time is written.
+//! Runs the scripts of the examples, also without memory. After that, measures the costs of an event and of the whole
+//! program. The program must run in the folder of its data. Its argument is the number of rounds that are measured. The
+//! gate runs one round, and then no time is written.
 #![tactic(auto)]
 
 mod bench;
@@ -22,7 +22,7 @@ use std::process::ExitCode;
 use std::rt::{Clock, Env, Files};
 use std::{env, fs, io};
 
-/// Whether all examples print their output. Writes how many do and how many don't.
+/// Whether all examples print their output. Writes how many examples do and how many don't.
 fn hold<R: Clock + Files + Print + AllocGlobal>(rt: &R) -> io::Result<bool> {
     let index = fs::read_to_string(rt, "index")?;
     let mut tally = Tally::new();

@@ -1,4 +1,4 @@
-//! What is measured: lists of events. A manager does each list in several slices.
+//! The lists of events that are measured. A manager does each list in several slices.
 
 use crate::events::{
     ASLEEP, ASLEEP_ELSEWHERE, BEGUN, COMING_AND_GOING, CYCLE, ENABLED, ENTERED, FEW_ADDED, LIVES,
@@ -22,8 +22,8 @@ struct Row {
     events: &'static [Turns],
 }
 
-/// How lists are done. Either as they are, or watched with calls and returns, or undone each time. If they are undone,
-/// only that is measured.
+/// How lists are done. They are done as they are, or watched with calls and returns, or undone each time. If a list is
+/// undone, only the undoing is measured.
 #[derive(Clone, Copy)]
 pub(crate) enum Way {
     Taken,
@@ -31,7 +31,7 @@ pub(crate) enum Way {
     TakenBack,
 }
 
-/// The lists that one manager does, in order, and how it does them.
+/// The lists that one manager does, in order, and the way in which it does them.
 #[derive(Clone, Copy)]
 pub(crate) struct Scene {
     rows: &'static [Row],
@@ -89,7 +89,7 @@ const CYCLES: [Row; 3] = [
     },
 ];
 
-/// 64 tasks sleep, each inside of 32 functions. The patch changes the innermost of these.
+/// 64 tasks sleep, each inside of 32 functions. The patch changes the innermost function.
 const HELD: [Row; 3] = [
     Row {
         name: "64 tasks fall asleep in patched functions",
@@ -184,7 +184,7 @@ pub(crate) const SCENES: [Scene; 7] = [
     },
 ];
 
-/// A list of events, and what came of doing it.
+/// A list of events, and the results of doing it.
 #[derive(Drop)]
 pub(crate) struct Measured {
     pub(crate) name: &'static str,

@@ -1,5 +1,5 @@
 //! Tests lack of memory before a manager is booted. Catalogs are tried with little memory left, from none to enough. So
-//! each allocation that needs more than those before it is refused in its turn.
+//! if an allocation needs more than all earlier ones, it is refused in its turn.
 
 use crate::hoard::Hoard;
 use crate::starved::Room;
@@ -9,14 +9,14 @@ use std::alloc::{AllocError, Global};
 use std::rt::Files;
 use std::{fs, io};
 
-/// A file of catalogs that are refused. Before each stands a line with a mark, and with what is written to standard
-/// error. The line feed in front of a mark isn't part of a catalog. So a catalog's last line ends with a line feed only
-/// if an empty line follows.
+/// A file of catalogs that are refused. In front of each catalog is a line with a mark, and with the text that is
+/// written to standard error. The line feed in front of a mark isn't part of a catalog. So a catalog's last line ends
+/// with a line feed only if an empty line follows.
 const CATALOGS: &str = "refused.catalogs";
 
 const CATALOG_MARK: &str = "\n=== ";
 
-/// The most memory that is left. It is more than the largest catalog needs.
+/// The most memory that is left free. It is more than the largest catalog needs.
 const SPAN: usize = 10_752 * 1024;
 
 /// The input of the console.
@@ -44,7 +44,7 @@ enum Ended {
     NoMemoryAtLine,
     // A lack of memory was reported, but for no line.
     NoMemory,
-    // It ended in another way. No run may do this.
+    // The run ended in another way. No run may end so.
     Unexpected,
 }
 
@@ -80,17 +80,17 @@ impl Seen {
     }
 }
 
-// All memory of the process, from which little is left free while the console runs.
+// All memory of the process. Only a little of it is left free while the console runs.
 #[derive(Drop)]
 struct Siege {
     alloc: Global,
-    // One piece of memory, which is free only while the console runs. It is taken back before the small blocks are,
-    // while all other memory is free, so that nothing is placed inside of it.
+    // One piece of memory, which is free only while the console runs. Nothing must be placed inside of this piece. So
+    // it is allocated again before the small blocks are, while all other memory is free.
     span: Option<Vec<u8>>,
-    // Small blocks. An allocator keeps freed ones apart. They are freed before all others, so that the allocator keeps
-    // these, and joins the others into larger blocks again.
+    // Small blocks. An allocator stores small freed blocks separately. The small blocks are freed before all other
+    // blocks. So the allocator keeps the small ones, and joins the others into larger blocks again.
     few: Hoard,
-    // All other memory, and what is written by the console.
+    // All other memory, and the text that the console writes.
     room: Room,
 }
 
@@ -109,7 +109,7 @@ impl Siege {
     }
 
     // Runs the console over a catalog with `left` bytes of memory left, in one piece. Returns the exit status, and how
-    // many bytes of the input weren't read. Afterwards the siege has the same memory again.
+    // many bytes of the input weren't read. Afterwards the siege has the same memory as before.
     fn run(&mut self, catalog: &[u8], left: usize) -> Result<(u8, usize), AllocError> {
         self.room.out.clear();
         self.room.err.clear();
@@ -141,7 +141,7 @@ impl Siege {
             && self.room.out.as_slice() == b"0\n".as_slice()
     }
 
-    // What was reported, if no input was read and no answer was written. Otherwise empty.
+    // The text that was reported, if no input was read and no answer was written. Otherwise the result is empty.
     fn fault_text(&self, (status, unread): (u8, usize)) -> &[u8] {
         if status == 1 && unread == INPUT.len() && self.room.out.is_empty() {
             &self.room.err
@@ -150,7 +150,7 @@ impl Siege {
         }
     }
 
-    // How a run ended over a catalog that has this fault, or no fault.
+    // How a run ended. The catalog of the run has this fault, or no fault.
     fn ended(&self, ran: (u8, usize), fault: Option<&str>) -> Ended {
         let fault_text = self
             .fault_text(ran)
@@ -177,7 +177,7 @@ impl Siege {
     }
 }
 
-// Tries a catalog with all amounts of memory. It has this fault, or no fault.
+// Tries a catalog with all amounts of memory. The catalog has this fault, or no fault.
 fn try_all(
     siege: &mut Siege,
     catalog: &[u8],
@@ -202,7 +202,7 @@ fn try_all(
 }
 
 // Tries one catalog with all amounts of memory. Returns whether each of three things occurred: a lack of memory for a
-// line, one behind the text, and at last enough memory.
+// line, a lack of memory behind the text, and at last enough memory.
 fn try_catalog<R: Files + AllocGlobal>(
     rt: &R,
     siege: &mut Siege,
@@ -215,7 +215,7 @@ fn try_catalog<R: Files + AllocGlobal>(
     Ok(seen.lines && seen.others && seen.is_enough)
 }
 
-// Tries each of the catalogs in a text that are refused. Each must report its own fault, or a lack of memory.
+// Tries each refused catalog in a text. Each run must report the catalog's own fault, or a lack of memory.
 fn try_faulty(siege: &mut Siege, text: &str, tally: &mut Tally) -> Result<bool, AllocError> {
     let mut all = true;
     for case in text.split(CATALOG_MARK).skip(1) {
@@ -226,7 +226,7 @@ fn try_faulty(siege: &mut Siege, text: &str, tally: &mut Tally) -> Result<bool, 
     Ok(all)
 }
 
-// Reads the catalogs that are refused from their file, and tries them.
+// Reads the refused catalogs from their file, and tries them.
 fn try_refused<R: Files + AllocGlobal>(
     rt: &R,
     siege: &mut Siege,
@@ -252,8 +252,8 @@ fn run_besieged<R: Files + Print + AllocGlobal>(rt: &R) -> io::Result<bool> {
     run_siege(rt, &mut siege)
 }
 
-/// Whether a lack of memory is always reported, and nothing else goes wrong, however much memory is left. Writes how
-/// many amounts were tried.
+/// Whether a lack of memory is always reported, and nothing else fails, however much memory is left. Writes how many
+/// amounts were tried.
 pub(crate) fn run<R: Files + Print + AllocGlobal>(rt: &R) -> io::Result<bool> {
     let _besieged = Hoard::siege(rt.alloc())?;
     run_besieged(rt)

@@ -1,5 +1,5 @@
-//! Tests lack of memory once a manager is booted. All memory is taken at the first read of the input. Each script must
-//! still be answered as always, since no call of a manager allocates after boot.
+//! Tests lack of memory once a manager is booted. All memory is allocated at the first read of the input. No call of a
+//! manager allocates after boot, so each script must still be answered as always.
 
 use crate::case::Case;
 use crate::hoard::Hoard;
@@ -8,10 +8,10 @@ use std::alloc::{AllocError, Global};
 use std::io;
 use std::io::Read;
 
-/// How many bytes fit on standard error. Also, how many more fit on standard output than must be printed.
+/// How many bytes fit on standard error. Standard output has room for this many bytes more than must be printed.
 const ROOM: usize = 256;
 
-/// What is allocated before all other memory is taken.
+/// The memory that is allocated before all other memory is.
 #[derive(Drop)]
 pub(crate) struct Room {
     pub(crate) hoard: Hoard,
@@ -20,7 +20,7 @@ pub(crate) struct Room {
 }
 
 impl Room {
-    /// Allocates room for `answers` bytes of answers, and for some more.
+    /// Allocates room for `answers` bytes of answers, and some more room.
     pub(crate) fn new(alloc: Global, answers: usize) -> Result<Room, AllocError> {
         let hoard = Hoard::small(alloc)?;
         let out = Vec::with_capacity(alloc, answers.saturating_add(ROOM))?;
@@ -29,7 +29,7 @@ impl Room {
     }
 }
 
-// A script, as an input. From its first read on, no memory is left.
+// A script, as an input. After its first read, no memory is left.
 #[derive(Drop)]
 struct Starving<'a> {
     script: &'a [u8],

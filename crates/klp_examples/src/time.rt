@@ -3,8 +3,8 @@
 use std::time::Instant;
 use std::{fmt, io};
 
-/// The time of the shortest of some rounds, in nanoseconds. If there were several rounds, it is written behind what was
-/// done.
+/// The time of the shortest of some rounds, in nanoseconds. If there were several rounds, the time is written behind
+/// the name of the work.
 #[derive(Clone, Copy)]
 pub(crate) struct Shortest {
     nanoseconds: u128,

@@ -1,4 +1,4 @@
-//! Measures what the whole program costs: it reads a catalog, boots over it, and serves lines.
+//! Measures the costs of the whole program, which reads a catalog, boots a manager with it, and serves lines.
 
 use crate::time::Shortest;
 use klp_catalog::Catalog;
@@ -13,11 +13,11 @@ use std::time::Instant;
 pub(crate) enum Work<'a> {
     /// A catalog's text is read.
     Read(&'a [u8]),
-    /// A manager is booted over a catalog's text, serves this input, and is dropped.
+    /// A manager is booted with a catalog's text, serves this input, and is dropped.
     Serve(&'a [u8], &'a [u8]),
 }
 
-/// Does the work once. Replaces the contents of `out` by the answers; its capacity stays.
+/// Does the work once. Replaces the contents of `out` by the answers. The capacity of `out` stays.
 fn done(alloc: Global, work: Work<'_>, out: &mut Vec<u8>) -> io::Result<()> {
     match work {
         Work::Read(catalog) => match Catalog::read(alloc, catalog) {
@@ -35,7 +35,7 @@ fn done(alloc: Global, work: Work<'_>, out: &mut Vec<u8>) -> io::Result<()> {
     }
 }
 
-/// Does the work `rounds` times. Returns the shortest time, and how many bytes were answered the last time.
+/// Does the work `rounds` times. Returns the shortest time, and how many bytes the last answers had.
 pub(crate) fn shortest<R: Clock>(
     rt: &R,
     alloc: Global,

@@ -99,12 +99,15 @@ impl<S: Start + Protocol<Published, View>> Seat<S> {
     /// Returns the version that a call of the task at the site runs, by the published table. Afterwards the seat knows
     /// the history of that table. The cost is two look-ups and the steps of `left_right`. The call takes no lock,
     /// allocates nothing, and never waits.
+    #[inline(always)]
     pub fn enter(&mut self, task: TaskId, site: Site) -> Result<Target, EnterFault>
         ensures { IsEntered S.setting S.base task site self.old self.new result }
     {
-        let answer = core::mem::replace_with(&mut self.reader, (task, site), |reader, call| {
-            look::<S>(reader, call.0, call.1)
-        });
+        let Some(reader) = self.reader.take() else {
+            return Err(EnterFault::NoTable);
+        };
+        let (reader, answer) = look::<S>(reader, task, site);
+        self.reader = Some(reader);
         match answer {
             Some(answer) => adopt(&mut self.front, answer),
             None => Err(EnterFault::NoTable),

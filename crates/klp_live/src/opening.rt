@@ -114,7 +114,7 @@ fn seat<S: Start + Protocol<Published, View>>(
     let mut reader = changes.factory().reader()?;
     reader.learn::<Adopt>(changes.tell::<Same>());
     Ok(Seat {
-        reader,
+        reader: Some(reader),
         front: front.again(),
         share,
     })

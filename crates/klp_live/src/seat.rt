@@ -18,13 +18,14 @@ use std::sync::ledger::Share;
 /// accepted.
 #[derive(Drop)]
 pub struct Seat<S: Start + Protocol<Published, View>> {
-    pub(crate) reader: Place<S>,
+    /// `None` only while the seat reads. An `Option` is taken out and put back in place, without a call.
+    pub(crate) reader: Option<Place<S>>,
     pub(crate) front: Front<S>,
     pub(crate) share: Share<S>,
 }
 
 impl<S: Start + Protocol<Published, View>> Model for Seat<S> {
-    ghost use Rattle.std.specs.Prelude.{◌≡◌};
+    ghost use Rattle.std.specs.Prelude.{◌≡◌, IfSome};
     ghost use Rattle.klp_live.specs.Seats.{Knows, IsOne};
     ghost use Rattle.klp_live.specs.Shown.{RuleIs};
     ghost use Rattle.left_right.specs.Sides.{view as seen_by};
@@ -33,7 +34,7 @@ impl<S: Start + Protocol<Published, View>> Model for Seat<S> {
 
     ghost view = { λ k. record { list = k.front; accepted = k.share.amount } };
 
-    ghost invariant = { λ k. (k.share.parts ≡ 1) × IsOne S.book (seen_by k.reader.place)
+    ghost invariant = { λ k. (k.share.parts ≡ 1) × IfSome k.reader (λ reader. IsOne S.book (seen_by reader.place))
         × RuleIs S.holds S.first S.setting S.base S.book };
 }
 

@@ -1,11 +1,12 @@
-//! Reads and writes that fail. No clause says that the failure of a stream of std is reported, so it is tested here.
+//! Reads and writes that fail. No clause says that the failure of a stream of std is reported, so a test checks that it
+//! is.
 use klp_program::{CATALOG, console};
 use std::alloc::{AllocError, Global};
 use std::io;
 use std::io::{Read, Write};
 
-/// A stream that fails. Each write fails, or accepts no byte if `is_full`. Each read behind the lines fails, or gives
-/// an empty line if `is_endless`.
+/// A stream that fails. If `is_full`, each write accepts no byte, otherwise each write fails. Behind the lines, each
+/// read gives an empty line if `is_endless`, otherwise it fails.
 #[derive(Drop)]
 struct Broken {
     lines: &'static [u8],
@@ -38,7 +39,7 @@ impl Write for Broken {
     }
 }
 
-/// Returns a stream that gives these lines, and fails at all else.
+/// Returns a stream that gives these lines. All other reads and writes of it fail.
 fn failing(lines: &'static [u8]) -> Broken {
     Broken {
         lines,
@@ -54,7 +55,7 @@ fn ends_with(alloc: Global, mut input: Broken, mut out: Broken, printed: &[u8]) 
     status == 1 && err.as_slice() == printed
 }
 
-/// What the console answers to `mark`, and then to a line that is one byte too long. That line has no line feed.
+/// The console's answer to `mark`, and to the next line, which is one byte too long. The long line has no line feed.
 fn long_line(alloc: Global) -> Result<(u8, Vec<u8>, Vec<u8>), AllocError> {
     let mut input = b"mark\n".to_vec(alloc)?;
     input.extend_from_slice(&[b'x'; 257])?;

@@ -1,5 +1,5 @@
-//! Catalogs for which more or fewer callbacks are given than their texts have scripts. The contract leaves open which
-//! fault is returned if memory may be short too. No program gives a wrong number.
+//! Catalogs that get more or fewer callbacks than their texts have scripts. If memory may be short too, the contract
+//! leaves open which fault is returned. No program gives a wrong number of callbacks.
 use crate::managed::{Given, outcome};
 use klp_catalog::AssembleFault;
 use klp_program::Fault;
@@ -41,7 +41,7 @@ fn another_number_of_callbacks_is_refused(rt: HostRuntime) {
         (THREE, 3, None),
         (THREE, 2, wrong),
         (THREE, 4, wrong),
-        // if the number of callbacks is wrong too, that is reported first
+        // a wrong number of callbacks is reported before the other fault
         (TWICE, 1, Some(Fault::Assemble(AssembleFault::SameSite))),
         (TWICE, 0, wrong),
         (TWICE, 2, wrong),

@@ -1,6 +1,6 @@
 //! Catalogs that are cut after each of their bytes. The test checks which line is reported and why, or that the catalog
-//! boots. What should be reported follows from the line that is cut, and from where it is cut. No text is read for
-//! that.
+//! boots. The cut line, and the place of the cut, determine what should be reported. The test reads no text to find
+//! this out.
 use klp_program::{CATALOG, console};
 use std::alloc::{AllocError, Global};
 
@@ -59,11 +59,11 @@ target vmlinux
 func .klp.sym.vmlinux.d,0 d_s ffffffffc0007000
 ";
 
-/// What should become of a catalog that is cut.
+/// The result that a cut catalog should have.
 #[derive(Clone, Copy)]
 enum Wanted {
     Boots,
-    /// This fault of the line that is cut should be reported.
+    /// This fault of the cut line should be reported.
     OfLine(&'static str),
     /// This fault of the whole catalog should be reported.
     OfAll(&'static str),
@@ -95,7 +95,7 @@ fn words_of(first: &str) -> Option<usize> {
     words
 }
 
-/// How many words this front of a line has. The last may be cut.
+/// How many words this front of a line has. The last word may be cut.
 fn words_in(front: &str) -> usize {
     let mut count = 0usize;
     for word in front.split(' ') {
@@ -116,8 +116,7 @@ fn colons(word: &str) -> usize {
     count
 }
 
-/// What should become of a symbol whose body is cut to `last`. A body needs two digits for each byte, and at least five
-/// bytes.
+/// The result for a symbol whose body is cut to `last`. A body needs two digits for each byte, and at least five bytes.
 fn of_body(last: &str) -> Wanted {
     if last.len() % 2 == 1 {
         Wanted::OfLine("BadHex")
@@ -128,8 +127,8 @@ fn of_body(last: &str) -> Wanted {
     }
 }
 
-/// What should become of a callback whose word `whole` is cut to `last`. A status needs a digit. An edit needs all its
-/// numbers, so no colon may be last and none may be missing.
+/// The result for a callback whose word `whole` is cut to `last`. A status needs a digit. An edit needs all its
+/// numbers, so its last byte can't be a colon, and no colon may be missing.
 fn of_callback(last: &str, whole: &str) -> Wanted {
     if last == "-" {
         Wanted::OfLine("BadNumber")
@@ -140,7 +139,7 @@ fn of_callback(last: &str, whole: &str) -> Wanted {
     }
 }
 
-/// What should become of a line that ends with the word `last`, which is the front of the word `whole`.
+/// The result for a line that ends with the word `last`, which is the front of the word `whole`.
 fn of_last(first: &str, last: &str, whole: &str) -> Wanted {
     let is_whole = last == whole;
     match first {
@@ -175,7 +174,7 @@ fn word_at(line: &str, start: usize) -> &str {
     }
 }
 
-/// What should become of a catalog whose last line `line` is cut to `front`. All lines before it are good.
+/// The result for a catalog whose last line `line` is cut to `front`. All earlier lines are good.
 fn wanted_of(line: &str, front: &str) -> Wanted {
     if front.is_empty() {
         return Wanted::Boots;
@@ -197,7 +196,7 @@ fn wanted_of(line: &str, front: &str) -> Wanted {
     }
 }
 
-/// The index at which the last line of this front begins, and how many lines are before it.
+/// The index at which the last line of this front begins, and the number of lines before that line.
 fn line_at(front: &str) -> (usize, usize) {
     let mut start = 0usize;
     let mut number = 0usize;
@@ -220,8 +219,8 @@ fn line_from(text: &str, start: usize) -> &str {
     }
 }
 
-/// What should be written to standard error. `number` lines stand before the one that is cut. The first two name the
-/// handler and the kernel. Without these two, nothing can be booted.
+/// The text that should be written to standard error. `number` lines precede the cut line. The first two lines of the
+/// catalog name the handler and the kernel. Without these two lines, nothing can be booted.
 fn written(
     alloc: Global,
     wanted: Wanted,
@@ -240,8 +239,8 @@ fn written(
     }
 }
 
-/// What is written to standard error for this catalog. `None` if the exit status doesn't go with that, or if anything
-/// is answered.
+/// The text that is written to standard error for this catalog. `None` if the exit status doesn't agree with the text,
+/// or if anything is answered.
 fn reported(alloc: Global, catalog: &[u8]) -> Result<Option<Vec<u8>>, AllocError> {
     let mut out = Vec::new(alloc);
     let mut err = Vec::new(alloc);
@@ -264,7 +263,7 @@ fn is_reported(alloc: Global, text: &str, cut: usize) -> Result<bool, AllocError
     })
 }
 
-/// How many cuts aren't reported as they should be, and the last of these.
+/// How many cuts aren't reported as they should be, and the last such cut.
 fn differing(alloc: Global, text: &str) -> Result<(usize, usize), AllocError> {
     let mut differing = (0usize, 0);
     for cut in 0..=text.len() {
@@ -283,7 +282,8 @@ fn a_catalog_that_is_cut_tells_the_line_that_is(rt: HostRuntime) {
     }
 }
 
-/// Fronts of the built-in catalog, each by the text with which it ends, and what should be written for it.
+/// Fronts of the built-in catalog, and the text that should be written for each. A front is given by the text with
+/// which it ends.
 const ROWS: [(&str, &[u8]); 6] = [
     ("", b"klpsim: line 0: Missing\n"),
     ("handler ffffffff81000000\n", b"klpsim: line 0: Missing\n"),

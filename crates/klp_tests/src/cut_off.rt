@@ -1,16 +1,16 @@
-//! Scripts are served, and each read and each write fails in its turn. The lines that were answered must stay done, and
-//! at most one more. A second manager serves just these lines, which are found from the answers alone. It must then
-//! show the same as the first.
+//! Serves scripts, while each read and each write fails in its turn. The lines that were answered must stay done, and
+//! at most one further line. The answers alone determine which lines must be done. A second manager serves only these
+//! lines, and must then show the same as the first manager.
 use crate::input::{Input, whole};
 use crate::managed::{Given, Shown, outcome};
 use klp_console::{ServeFault, Served};
 use klp_program::Fault;
 use std::alloc::{AllocError, Global};
 
-/// How many bytes a read gives or a write accepts, if it isn't all at once.
+/// How many bytes a read gives or a write accepts, if it is cut.
 const PIECE: usize = 7;
 
-/// A catalog with callbacks of each kind, which undo what others do, and with one that refuses.
+/// A catalog with callbacks of each kind. Some of them undo what others do, and one refuses.
 const CATALOG: &str = "\
 handler ffffffff81000000
 object vmlinux
@@ -33,7 +33,7 @@ pre -16
 /// How many callbacks this catalog has.
 const CALLBACKS: usize = 5;
 
-/// Lines that show all that can be seen of a manager. After that, they undo all events, and show it again.
+/// Lines that show all that can be seen of a manager. After that, they undo all events, and show the manager again.
 const LOOKS: &[u8] = b"\
 mark
 ls /sys/kernel/livepatch
@@ -58,7 +58,7 @@ shadow get 4 4
 shadow get 5 5
 ";
 
-/// Events of tasks. Except for the patch's, all of them are done before earlier answers are written.
+/// Events of tasks. All events except the patch's are done before earlier answers are written.
 const TASKS: &str = "\
 task new 1
 task enter 1
@@ -80,7 +80,7 @@ task enter 1
 task end 2
 ";
 
-/// Events, and between them queries whose answers have many lines.
+/// Events, with queries in between whose answers have many lines.
 const LISTS: &str = "\
 shadow alloc 4 4 4
 text vmlinux
@@ -140,22 +140,23 @@ load p
 task new 2
 ";
 
-/// A script, and what comes of it if nothing fails.
+/// A script, and its results if nothing fails.
 #[derive(Drop)]
 struct Known {
     lines: &'static [u8],
     answers: Vec<u8>,
-    /// For each line, where its answer ends.
+    /// For each line, the place where its answer ends.
     ends: Vec<usize>,
-    /// What a manager shows before the first line, and then after each line.
+    /// The text that a manager shows before the first line, and after each line.
     states: Vec<Vec<u8>>,
 }
 
-/// What is seen of a manager that served a script.
+/// The text that is seen of a manager after it served a script.
 #[derive(Drop)]
 struct Seen {
     ended: Option<Result<Served, ServeFault>>,
-    /// Whether what was written is a front of all answers. `answered` is how many lines have their whole answers in it.
+    /// Whether the written text is a front of all answers. `answered` is the number of lines whose whole answers are in
+    /// it.
     is_front: bool,
     answered: usize,
     state: Vec<u8>,
@@ -170,20 +171,20 @@ fn served(alloc: Global, inputs: &[Input<'_>]) -> Result<Shown, Fault> {
     outcome(alloc, given, inputs)
 }
 
-/// The answers to the first input, and the answers to the others.
+/// The answers to the first input, and the answers to the other inputs.
 fn answers(shown: &Shown) -> (&[u8], &[u8]) {
     let end = shown.looks.first().map_or(0, |look| look.said);
     let first = shown.said.get(..end).unwrap_or(&[]);
     (first, shown.said.get(end..).unwrap_or(&[]))
 }
 
-/// What a manager shows after these lines.
+/// The text that a manager shows after these lines.
 fn state_after(alloc: Global, lines: &[u8]) -> Result<Vec<u8>, Fault> {
     let shown = served(alloc, &[whole(lines), whole(LOOKS)])?;
     Ok(Vec::from_slice(alloc, answers(&shown).1)?)
 }
 
-/// Adds the lines of a text as inputs, so that each is served by itself.
+/// Adds the lines of a text as inputs, so that each line is served by itself.
 fn put_lines<'a>(inputs: &mut Vec<Input<'a>>, text: &'a str) -> Result<(), AllocError> {
     for line in text.lines() {
         inputs.push(whole(line.as_bytes()))?;
@@ -191,7 +192,7 @@ fn put_lines<'a>(inputs: &mut Vec<Input<'a>>, text: &'a str) -> Result<(), Alloc
     Ok(())
 }
 
-/// Adds what a manager shows before the first line, and then after each line.
+/// Adds the text that a manager shows before the first line, and after each line.
 fn put_states(alloc: Global, states: &mut Vec<Vec<u8>>, lines: &[u8]) -> Result<(), Fault> {
     states.push(state_after(alloc, b"")?)?;
     for (place, byte) in lines.iter().enumerate() {
@@ -220,7 +221,7 @@ fn known_of(alloc: Global, script: &'static str) -> Result<Known, Fault> {
     })
 }
 
-/// Serves the script, and returns what is then seen of the manager.
+/// Serves the script, and returns the text that is then seen of the manager.
 fn seen_of(alloc: Global, known: &Known, input: Input<'_>) -> Result<Seen, Fault> {
     let shown = served(alloc, &[input, whole(LOOKS)])?;
     let (front, state) = answers(&shown);
@@ -232,7 +233,7 @@ fn seen_of(alloc: Global, known: &Known, input: Input<'_>) -> Result<Seen, Fault
     })
 }
 
-/// Whether a manager that served only the first `lines` lines shows the same.
+/// Whether the same text is seen of a manager that served only the first `lines` lines.
 fn is_after(known: &Known, seen: &Seen, lines: usize) -> bool {
     match known.states.get(lines) {
         Some(state) => seen.is_front && *state == seen.state,
@@ -244,7 +245,8 @@ fn line_feeds(text: &[u8]) -> usize {
     text.iter().filter(|byte| **byte == b'\n').count()
 }
 
-/// Whether a failure of read number `k` is reported. Also, all lines before it must be answered, and stay done.
+/// Whether a failure of read number `k` is reported. All lines before the failed read must also be answered, and stay
+/// done.
 fn is_read_cut_off(alloc: Global, known: &Known, gives: usize, k: usize) -> Result<bool, Fault> {
     let input = Input {
         gives,
@@ -260,8 +262,8 @@ fn is_read_cut_off(alloc: Global, known: &Known, gives: usize, k: usize) -> Resu
     )
 }
 
-/// Whether a failure of write number `k` is reported. Also, the lines whose answers were written must stay done, and
-/// the one whose answer was cut off. `None` if there is no such write.
+/// Whether a failure of write number `k` is reported. The lines whose answers were written must also stay done, and the
+/// line whose answer was cut off. `None` if there is no such write.
 fn is_write_cut_off(
     alloc: Global,
     known: &Known,
@@ -287,8 +289,9 @@ fn is_write_cut_off(
     })
 }
 
-/// Whether each write that fails leaves the lines done whose answers were written, and the one whose answer was cut
-/// off. There must be at least as many writes as the answers need, with at most `cut[1]` bytes in each.
+/// Whether the right lines stay done after each failed write. These are the lines whose answers were written, and the
+/// line whose answer was cut off. There must be at least as many writes as the answers need, with at most `cut[1]`
+/// bytes in each write.
 fn are_writes_cut_off(alloc: Global, known: &Known, cut: [usize; 2]) -> Result<bool, Fault> {
     let mut right = true;
     for k in 0..known.answers.len() {
@@ -300,7 +303,8 @@ fn are_writes_cut_off(alloc: Global, known: &Known, cut: [usize; 2]) -> Result<b
     Ok(right)
 }
 
-/// Whether each read and each write that fails leaves done what was answered. The read behind the last byte fails too.
+/// Whether the answered lines stay done after each failed read and each failed write. The read behind the last byte
+/// fails in its turn too.
 fn are_all_cut_off(alloc: Global, script: &'static str) -> Result<bool, Fault> {
     let known = known_of(alloc, script)?;
     let mut right = known.states.len() == known.ends.len().saturating_add(1);

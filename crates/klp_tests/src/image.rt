@@ -1,5 +1,5 @@
-//! Faults of an image that no catalog's text can have, since such a text is refused earlier. The contract says which
-//! fault is returned, but allows that lack of memory is returned instead.
+//! Faults of an image that no catalog's text can have, since a text with such a fault is refused earlier. The contract
+//! says which fault is returned, but allows that lack of memory is returned instead.
 use klp_text::{Image, ImageFault};
 use klp_types::{ObjectText, SymbolText};
 use std::alloc::{AllocError, Global};
@@ -9,8 +9,8 @@ const HANDLER: u64 = 0xffff_ffff_8100_0000;
 /// The address that all symbols have.
 const ADDRESS: u64 = 0xffff_ffff_8100_1000;
 
-/// How many objects there are, how many symbols each has, and how many bytes each symbol has; and the fault of their
-/// image. Limits are checked before anything else.
+/// How many objects there are, how many symbols each object has, and how many bytes each symbol has. Also has the fault
+/// of their image. Limits are checked before anything else.
 const ROWS: [([usize; 3], ImageFault); 8] = [
     ([0, 0, 0], ImageFault::NoKernel),
     ([2, 0, 0], ImageFault::DuplicateObject),

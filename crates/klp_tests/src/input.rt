@@ -1,4 +1,4 @@
-//! Serves the console from memory and into memory, with reads and writes that may fail.
+//! Serves the console with an input and an output in memory. Reads and writes may fail.
 ghost use Rattle.std.specs.Prelude.{◌≡◌, ◌≤◌};
 
 use klp_console::{ServeFault, Served, serve};
@@ -14,15 +14,15 @@ const ROOM: usize = 4096;
 #[derive(Clone, Copy)]
 pub struct Input<'a> {
     pub lines: &'a [u8],
-    /// The most bytes that a read gives. `takes` is the most that a write accepts.
+    /// The most bytes that a read gives. `takes` is the most bytes that a write accepts.
     pub gives: usize,
     pub takes: usize,
-    /// The number of the read that fails, counted from 0. `write` is that of the write that fails.
+    /// The number of the read that fails, counted from 0. `write` is the number of the write that fails.
     pub read: Option<u32>,
     pub write: Option<u32>,
 }
 
-/// Returns an input whose lines are read at once, and answered at once.
+/// Returns an input whose lines are all read by one read, and all answered by one write.
 pub fn whole(lines: &[u8]) -> Input<'_> {
     Input {
         lines,

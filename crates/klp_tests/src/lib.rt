@@ -6,9 +6,9 @@
 //! - reads and writes that fail, and which lines stay done
 //! - what no line of the console shows
 //! - what docs/LIBRARY.md shows
-//! - catalogs that are cut after each of their bytes, checked by rules that don't read them
+//! - catalogs that are cut after each of their bytes, checked by rules that don't read the catalogs
 //!
-//! What a manager does is proved, and what a script prints is shown by the examples.
+//! The behaviour of a manager is proved, and the examples show what a script prints.
 #![tactic(auto)]
 
 #[cfg(test)]

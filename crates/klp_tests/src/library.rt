@@ -7,7 +7,7 @@ use klp_types::{ObjId, PatchId};
 use std::alloc::Global;
 use std::test::Fail;
 
-/// Boots a manager over a catalog's text. The catalog's patches must have no callbacks.
+/// Boots a manager with a catalog's text. The catalog's patches must have no callbacks.
 fn booted(alloc: Global, text: &[u8]) -> Result<Manager, Fault> {
     let mut plan = Catalog::read(alloc, text)?;
     let (image, modules) = opened(alloc, &mut plan)?;
@@ -21,14 +21,15 @@ fn enable(manager: &mut Manager, patch: PatchId) -> bool {
         && manager.transition(patch) == Some(false)
 }
 
-/// Returns the first byte of the kernel's first function. It asks by a query, which changes nothing.
+/// Returns the first byte of the kernel's first function. The function asks by a query, which changes nothing.
 fn first_byte(manager: &Manager) -> Option<u8> {
     let text = manager.text(ObjId(0))?;
     let (_name, _address, body) = text.get(0)?;
     body.first().copied()
 }
 
-/// Enables a patch, and undoes that. Returns the first byte of the kernel's text before, meanwhile and afterwards.
+/// Enables a patch, and undoes the events. Returns the first byte of the kernel's text before, meanwhile and
+/// afterwards.
 fn enable_and_undo(manager: &mut Manager, patch: PatchId) -> [Option<u8>; 3] {
     let (mark, before) = (manager.mark(), first_byte(manager));
     let is_complete = enable(manager, patch);

@@ -1,4 +1,5 @@
-//! What no line of the console shows: how many records still fit into the journal, and the values of system states.
+//! State that no line of the console shows: how many records still fit into the journal, and the values of system
+//! states.
 use crate::input::whole;
 use crate::large::LARGE;
 use crate::managed::{Given, Shown, outcome};
@@ -43,8 +44,8 @@ fn each_state_is_handed_over(rt: HostRuntime) -> Result<(), Fail> {
 /// Lines that enable a patch and disable it again.
 const CYCLE: &[u8] = b"load p\npoll\necho 0 > /sys/kernel/livepatch/p/enabled\npoll\n";
 
-/// How often the cycle is done. Each time it adds 262 of 16,384 records. For each of the patch's 64 functions,
-/// its entry adds two and its site adds two. The patch's place in the list adds two, and the transition adds four.
+/// How often the cycle is done. Each cycle adds 262 of 16,384 records. For each of the patch's 64 functions, its entry
+/// adds two and its site adds two. The patch's place in the list adds two, and the transition adds four.
 const CYCLES: usize = 44;
 
 /// Lines in which a task enters the kernel and leaves it. Each line adds one record.
@@ -71,7 +72,7 @@ fn filled(alloc: Global) -> Result<Shown, Fail> {
     Ok(outcome(alloc, given, &inputs)?)
 }
 
-/// How many records still fit after each input. The last event is refused, so it adds none.
+/// How many records still fit after each input. The last event is refused, so it adds no record.
 const FREE: [u32; 6] = [4856, 4855, 4097, 4096, 4095, 4095];
 
 fn is_counted(shown: &Shown) -> bool {

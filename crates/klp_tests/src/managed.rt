@@ -1,6 +1,6 @@
-//! What a manager over a catalog's text answers to several inputs, one after another. In this crate, only this file and
-//! library.rt own managers. A function that owns one is costly to prove, since each of its returns is proved on its
-//! own.
+//! The answers of a manager with a catalog's text to several inputs, one after another. Each return of a function is
+//! proved on its own, so a function that owns a manager is costly to prove. In this crate, only this file and
+//! library.rt own managers.
 ghost use Rattle.std.specs.Prelude.{length};
 ghost use Rattle.klp_catalog_text.specs.Within.{AreTargetsWithin};
 
@@ -16,15 +16,15 @@ use klp_types::PatchId;
 use klp_world::Script;
 use std::alloc::{AllocError, Global};
 
-/// A catalog's text, and how many callbacks a manager over it is booted with.
+/// A catalog's text, and the number of callbacks with which a manager over it is booted.
 #[derive(Clone, Copy)]
 pub struct Given<'a> {
     pub text: &'a str,
     pub callbacks: usize,
 }
 
-/// What came of an input, how many bytes were answered up to then, and how many records then still fit into the
-/// journal.
+/// The result of an input. Also has how many bytes were answered up to its end, and how many records then still fit
+/// into the journal.
 #[derive(Clone, Copy)]
 pub struct Look {
     pub ended: Result<Served, ServeFault>,
@@ -32,18 +32,19 @@ pub struct Look {
     pub free: u32,
 }
 
-/// What is seen of a manager that served some inputs.
+/// The data that is seen of a manager after it served some inputs.
 #[derive(Drop)]
 pub struct Shown {
     /// A look after each input.
     pub looks: Vec<Look>,
     /// The answers to all inputs together.
     pub said: Vec<u8>,
-    /// At the end, the values of the system states 3 and 4 of the first two patches.
+    /// The values of the system states 3 and 4 of the first two patches after all inputs.
     pub states: [Option<u64>; 4],
 }
 
-/// The script with this number, counted in the order of the text. If there is none, a script that does nothing.
+/// The script with this number, counted in the order of the text. If there is no such script, a script that does
+/// nothing.
 fn script_at(plan: &Plan, number: usize) -> Script {
     match plan.script(number) {
         Some(script) => script.copy(),
@@ -54,7 +55,7 @@ fn script_at(plan: &Plan, number: usize) -> Script {
     }
 }
 
-/// Boots a manager over a plan with these callbacks. Their number may be wrong.
+/// Boots a manager over a plan with these callbacks. The number of callbacks may be wrong.
 fn booted(alloc: Global, mut plan: Plan, callbacks: Vec<Boxed>) -> Result<Manager, Fault>
     requires { AreTargetsWithin (length plan.objects) plan.patches }
 {
@@ -73,7 +74,7 @@ fn states_of(manager: &Manager) -> [Option<u64>; 4] {
     ]
 }
 
-/// Returns what a manager answers to these inputs. `shown` must be empty, with room for a look after each input.
+/// Returns the answers of a manager to these inputs. `shown` must be empty, with room for a look after each input.
 fn after(
     booted: Result<Manager, Fault>,
     inputs: &[Input<'_>],
@@ -100,7 +101,8 @@ fn nothing_shown(alloc: Global, looks: usize) -> Result<Shown, AllocError> {
     })
 }
 
-/// Returns what a manager answers to these inputs. If memory for a callback's box is refused, that callback is missing.
+/// Returns the answers of a manager to these inputs. If memory for a callback's box is refused, that callback is
+/// missing.
 pub fn outcome(alloc: Global, given: Given<'_>, inputs: &[Input<'_>]) -> Result<Shown, Fault> {
     let plan = Catalog::read(alloc, given.text.as_bytes())?;
     let shown = nothing_shown(alloc, inputs.len())?;

@@ -1,4 +1,4 @@
-//! The numbers of faults and refusals, and the names that faults print. Most of these aren't in any example.
+//! The numbers of faults and refusals, and the names that faults print. No example has most of them.
 use klp_catalog::AssembleFault;
 use klp_catalog_text::TextFaultKind;
 use klp_core::BootFault;
@@ -75,7 +75,7 @@ fn is_printed(alloc: Global) -> bool {
     put_all(&mut out).is_ok() && out.as_str() == NAMES
 }
 
-/// The numbers of faults and refusals. For each type they count from 1.
+/// The numbers of faults and refusals. The numbers of each type count from 1.
 const NUMBERS: [&[u8]; 6] = [
     &[
         TextFaultKind::NotAscii as u8,

@@ -6,7 +6,7 @@ use klp_program::{Fault, opened};
 use klp_types::{ObjId, Site};
 use std::alloc::Global;
 
-/// Two functions of the kernel with the same name, and one of that name in a module.
+/// Two functions of the kernel with the same name, and a function of that name in a module.
 const TEXT: &str = "\
 handler ffffffff81000000
 object vmlinux

@@ -1,5 +1,5 @@
 //! How many entries fit into all function stacks together. There must be room for 15 patches with 64 functions each,
-//! and for one more patch, which has an entry on each of 256 sites. The script `pool` of the examples does the same,
+//! and for one more patch with an entry on each of 256 sites. The script `pool` of the examples does the same events,
 //! but no line shows the room.
 ghost use Rattle.std.specs.Prelude.{◌≡◌, ◌≢◌, ◌⊎◌, ◌<◌, ℕ, false, [], ◌∷◌, length, replicate, slice_set};
 ghost use Rattle.klp_types.specs.declared.version.Entry.{Entry as AnyEntry};
@@ -18,7 +18,7 @@ const NEWEST: u8 = 15;
 /// begins behind the sites of the patch before it. Behind the last site, the next patch begins at the first again.
 const FUNCTIONS: u16 = 64;
 
-/// Whether the patch has an entry on the site. The newest patch has one on each site.
+/// Whether the patch has an entry on the site. The newest patch has an entry on each site.
 fn is_on(patch: u8, site: Site) -> bool {
     patch == NEWEST || u16::from(patch % 4) == site.0 / FUNCTIONS
 }
@@ -47,7 +47,7 @@ fn push(stacks: &mut Stacks, site: Site, patch: u8) -> bool
     true
 }
 
-/// Pushes all entries of a site, oldest first. Returns whether there was room for all.
+/// Pushes all entries of a site, oldest first. Returns whether there was room for all entries.
 fn push_all(stacks: &mut Stacks, site: Site) -> bool
     requires there { site < length stacks.old }
     requires empty { entries_at stacks.old site ≡ [] }
@@ -63,7 +63,7 @@ fn push_all(stacks: &mut Stacks, site: Site) -> bool
     has_room
 }
 
-/// Pushes the entries of all sites. Returns whether there was room for all.
+/// Pushes the entries of all sites. Returns whether there was room for all entries.
 fn fill(stacks: &mut Stacks) -> bool
     requires { stacks.old ≡ replicate 256 [] }
     ensures { length stacks.new ≡ 256 }
@@ -86,8 +86,8 @@ fn take_newest(stacks: &mut Stacks) {
     }
 }
 
-/// How many entries fit at first, beside all entries, and after the newest patch's are removed. Also, whether there was
-/// room for all entries.
+/// How many entries fit at first, how many still fit beside all entries, and how many fit after the newest patch's
+/// entries are removed. Also has whether there was room for all entries.
 fn spares(alloc: Global) -> Result<([u16; 3], bool), AllocError> {
     let mut stacks = Stacks::new(alloc, 256)?;
     let at_first = stacks.spare();

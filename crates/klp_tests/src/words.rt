@@ -1,8 +1,8 @@
-//! Examples of the program's arguments: which of them are refused, and what the others ask for.
+//! Examples of the program's arguments: which arguments are refused, and what the accepted ones ask for.
 use klp_program::{Wanted, parse_arguments};
 use std::alloc::{AllocError, Global};
 
-/// Arguments, and what they ask for, with the files that they name.
+/// Arguments and their meaning, with the files that they name.
 const CASES: &str = "\
 console => console
  => console
@@ -43,7 +43,8 @@ fn wanted_words(alloc: Global, words: &Wanted) -> Result<String, AllocError> {
     }
 }
 
-/// Whether the arguments `given` ask for what `wanted` says. Only if they are refused, standard error must have a line.
+/// Whether the arguments `given` ask for what `wanted` says. Standard error must have a line if they are refused, and
+/// no line if they aren't.
 fn is_answer(alloc: Global, given: &[String], wanted: &str) -> Result<bool, AllocError> {
     let mut err = Vec::new(alloc);
     Ok(match parse_arguments(alloc, given, &mut err) {
