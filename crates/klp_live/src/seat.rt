@@ -18,7 +18,8 @@ use std::sync::ledger::Share;
 /// accepted.
 #[derive(Drop)]
 pub struct Seat<S: Start + Protocol<Published, View>> {
-    /// `None` only while the seat reads. An `Option` is taken out and put back in place, without a call.
+    /// `enter` takes the reader out and puts it back, so this is `None` only while `enter` reads. The kit's `replace_with`
+    /// would do the same, but isn't inlined into callers of `enter`.
     pub(crate) reader: Option<Place<S>>,
     pub(crate) front: Front<S>,
     pub(crate) share: Share<S>,
