@@ -6,11 +6,11 @@ use Rattle.klp_live.specs.Seats.{Knows}
 use Rattle.klp_live.specs.declared.target.EnterFault.TheVariants.{NoTable}
 use Rattle.klp_live.proofs.seat.Seat.enter.Goals as goal
 
-pub returns-in-Some : goal.returns-in-Some
-returns-in-Some g c =
+pub returns-in-Some-answer : goal.returns-in-Some-answer
+returns-in-Some-answer g c =
     let known = c.self.inside.front in
     let after = c.adopt.new.front in
-    let answer = c.in-Some.answer in
+    let answer = c.in-Some-answer.answer in
     ⊎_elim
     (λ (w : (c.adopt.result ≡ Err NoTable) × (after ≡ known)). inl (w.0, ap (λ (l : History). record { list = l; accepted = c.self.inside.share.amount }) w.1 ∙ c.self.view_is))
     (λ (w : (c.adopt.result ≡ answer.found) × (after ≡ answer.front) × IsPrefix known after). inr (record {
