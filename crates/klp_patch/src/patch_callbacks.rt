@@ -38,23 +38,34 @@ fn allocs_where_loaded(
     }
 }
 
+/// Sums up how many shadow variables the callbacks of one kind add at most, object by object.
+fn sum_allocs(catalog: &Catalog, modules: &Modules, patch: PatchId, which: Which) -> usize
+    ensures value { result ≡ allocs_of (calls_of patch which (loaded_in catalog.now modules.now patch)) }
+    ensures limit { result ≤ MAX_TARGETS * MAX_EDITS }
+    // from this clause a bound on the records follows
+    ensures records { records_of (calls_of patch which (loaded_in catalog.now modules.now patch)) ≤ MAX_KIND_RECORDS }
+{
+    let mut sum = 0;
+    for place in 0..catalog.target_len(patch) {
+        sum += usize::from(allocs_where_loaded(catalog, modules, patch, which, place));
+    }
+    sum
+}
+
 /// Returns how many shadow variables the callbacks of one kind add at most, for the loaded objects of a patch.
 /// Variables that exist already, or that the callbacks remove, aren't subtracted.
+#[inline(always)]
 pub fn allocs(catalog: &Catalog, modules: &Modules, patch: PatchId, which: Which) -> usize
     ensures value { result ≡ allocs_of (calls_of patch which (loaded_in catalog.now modules.now patch)) }
     ensures limit { result ≤ MAX_TARGETS * MAX_EDITS }
     // from this clause a bound on the records follows
     ensures records { records_of (calls_of patch which (loaded_in catalog.now modules.now patch)) ≤ MAX_KIND_RECORDS }
 {
-    // Most patches have no callbacks. Every event that may run callbacks calls this function first.
+    // Most patches have no callbacks. Each event that may run some needs this number, so it is found without the loop.
     if !catalog.has_callbacks(patch) {
         return 0;
     }
-    let mut sum = 0;
-    for place in 0..catalog.target_len(patch) {
-        sum += usize::from(allocs_where_loaded(catalog, modules, patch, which, place));
-    }
-    sum
+    sum_allocs(catalog, modules, patch, which)
 }
 
 /// Whether one object is loaded and has a callback of this kind.

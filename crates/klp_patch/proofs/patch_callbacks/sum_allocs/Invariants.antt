@@ -4,7 +4,7 @@ use Rattle.klp_patch.specs.Loaded.{is_loaded_in, loaded_from}
 use Rattle.klp_patch.specs.Calls.{records_of}
 use Rattle.klp_catalog.specs.Runs.{objects_at}
 use Rattle.klp_patch.proofs.LoopLemmas.{left_from}
-use Rattle.klp_patch.proofs.patch_callbacks.allocs.Given as goal
+use Rattle.klp_patch.proofs.patch_callbacks.sum_allocs.Given as goal
 
 -- what is counted and what is left are all
 abbrev pub invariant-loop-place : goal.invariant-loop-place
