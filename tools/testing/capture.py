@@ -60,6 +60,20 @@ def captured(shell):
     return "; ".join(filter(None, wrong)) or None
 
 
+def named(shell):
+    """A name is told on one line, without control characters: here line feeds, an escape, a backslash, a state's words."""
+    with tempfile.TemporaryDirectory(prefix="machine-") as room:
+        shutil.copytree(MACHINE, f"{room}/machine")
+        stat = f"{room}/machine/proc/91/task/91/stat"
+        with open(stat, encoding="utf-8") as it:
+            fields = it.read().rpartition(") ")[2]
+        with open(stat, "w", encoding="utf-8") as it:
+            it.write(f"91 (a) R 1\n\\n\x1b[2J\n) {fields}")
+        told = HOLDER.replace("bill) ing", "a) R 1?\\n?[2J?")
+        log = KERNEL + PATCHES + told + SAMPLE + LOG + SYMBOLS + END
+        return fault(finish(start([*shell, f"{TOP}/klpcap", "--root", f"{room}/machine", "--once"])), (0, log.encode(), ""))
+
+
 def ended(shell):
     """Once the transition has ended, so does the capture, by itself."""
     with tempfile.TemporaryDirectory(prefix="machine-") as room:
@@ -75,5 +89,5 @@ def ended(shell):
 
 def cases():
     there = [shell for shell in SHELLS if shutil.which(shell[0])]
-    runs = [(f"klpcap under {shell[0]}", functools.partial(captured, shell)) for shell in there]
-    return [*runs, *[(f"klpcap under {shell[0]}, to the end", functools.partial(ended, shell)) for shell in there]]
+    runs = (("", captured), (", names with line feeds", named), (", to the end", ended))
+    return [(f"klpcap under {shell[0]}{what}", functools.partial(run, shell)) for shell in there for what, run in runs]
