@@ -1,5 +1,6 @@
 """klpcap, over a stored machine (tools/testing/machine) in place of a running kernel, by each shell that is there."""
 import functools
+import os
 import shutil
 import tempfile
 import time
@@ -34,12 +35,12 @@ symbol ffffffff8be105a0 t cmdline_proc_show
 symbol ffffffffc04a8030 t livepatch_cmdline_proc_show [eventfd_fix]
 symbol ffffffffc04a8050 t livepatch_eventfd_read [eventfd_fix]
 """
-# _text is at 8b800000, and at 81000000 where it isn't moved: 0a800000 less.
+# _text is at 8b800000, and at 81000000 where it isn't moved: 0a800000 less. The lowest function of a module is at c0000000.
 MOVED = """symbol ffffffff8113ffe0 t klp_ftrace_handler
 symbol ffffffff815cbfa0 t eventfd_read
 symbol ffffffff816105a0 t cmdline_proc_show
-symbol ffffffffb5ca8030 t livepatch_cmdline_proc_show [eventfd_fix]
-symbol ffffffffb5ca8050 t livepatch_eventfd_read [eventfd_fix]
+symbol ffffffffc0000000 t livepatch_cmdline_proc_show [eventfd_fix]
+symbol ffffffffc0000020 t livepatch_eventfd_read [eventfd_fix]
 """
 KERNEL = "klpcap 1\nkernel 6.1.0-56-amd64 x86_64\n"
 END = "module eventfd_fix\nend count\n"
@@ -74,6 +75,32 @@ def named(shell):
         return fault(finish(start([*shell, f"{TOP}/klpcap", "--root", f"{room}/machine", "--once"])), (0, log.encode(), ""))
 
 
+def zeroed(shell):
+    """A frame that has no name is a bare address, which --zero doesn't write."""
+    with tempfile.TemporaryDirectory(prefix="machine-") as room:
+        shutil.copytree(MACHINE, f"{room}/machine")
+        with open(f"{room}/machine/proc/91/task/91/stack", "a", encoding="utf-8") as it:
+            it.write("[<0>] 0xffffffffc04a9123\n")
+        wrong = []
+        for words, frame, symbols in ((("--once",), "0xffffffffc04a9123", SYMBOLS), (("--once", "--zero"), "0x0", MOVED)):
+            log = KERNEL + PATCHES + HOLDER + f"frame {frame}\n" + SAMPLE + LOG + symbols + END
+            wrong.append(fault(finish(start([*shell, f"{TOP}/klpcap", "--root", f"{room}/machine", *words])), (0, log.encode(), "")))
+        return "; ".join(filter(None, wrong)) or None
+
+
+def logged(shell):
+    """A log replaces a file of its name, and only its owner may read it, whoever could before."""
+    with tempfile.TemporaryDirectory(prefix="machine-") as room:
+        log = f"{room}/a log"
+        with open(log, "w", encoding="utf-8") as it:
+            it.write("older\n" * 1000)
+        os.chmod(log, 0o644)
+        wrong = fault(finish(start([*shell, f"{TOP}/klpcap", "--root", MACHINE, "-c", "2", "-i", "0", log])), (0, b"", ""))
+        with open(log, encoding="utf-8") as it:
+            is_whole = it.read() == RUNS[0][1]
+        return wrong or (None if is_whole and os.stat(log).st_mode & 0o777 == 0o600 else f"mode {os.stat(log).st_mode:o}")
+
+
 def ended(shell):
     """Once the transition has ended, so does the capture, by itself."""
     with tempfile.TemporaryDirectory(prefix="machine-") as room:
@@ -89,5 +116,5 @@ def ended(shell):
 
 def cases():
     there = [shell for shell in SHELLS if shutil.which(shell[0])]
-    runs = (("", captured), (", names with line feeds", named), (", to the end", ended))
+    runs = (("", captured), (", names with line feeds", named), (", a bare address", zeroed), (", into a file", logged), (", to the end", ended))
     return [(f"klpcap under {shell[0]}{what}", functools.partial(run, shell)) for shell in there for what, run in runs]
