@@ -4,7 +4,10 @@
 //! functions. [`Functions::catalog`] writes these names as a catalog's text. `patch_lines` writes, as lines of a trace,
 //! what happened to a patch between two samples. `transition` says which transitions a log shows, and how each ended.
 //! `kernel_log` reads when a transition started, and whether it was forced, from the kernel's own log.
-//! `klp_capture_run` checks the results of this crate against the rules, so nothing in this crate has to be trusted.
+//!
+//! `klp_capture_run` checks the trace against the rules, and compares the trace's task states and patch files with the
+//! log. The names, the functions that tasks are inside of, and the moment of a force aren't compared. They come from this
+//! crate, which has no contracts.
 #![tactic(auto)]
 
 mod catalog;

@@ -2,9 +2,8 @@
 //!
 //! A log says in which states the kernel was, but not what happened. For each two successive samples, this module looks
 //! for events that the rules allow and that lead from one sample to the other. It tries lines of a trace on a manager,
-//! and compares what the manager then shows with the log. If the log shows something else, it undoes the lines. The
-//! trace that the search finds is checked against the rules, like any other trace. So the search doesn't have to be
-//! trusted.
+//! and compares what the manager then shows with the log. If the log shows something else, it undoes the lines.
+//! `explain` checks the trace that the search finds.
 ghost use Rattle.klp_core.specs.Journaled.{IsWellFormed};
 
 use crate::fits::fits;

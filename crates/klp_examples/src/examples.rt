@@ -43,7 +43,7 @@ fn is_served(alloc: Global, case: &Case, read: usize, written: usize) -> bool {
     let mut out = Vec::new(alloc);
     let mut err = Vec::new(alloc);
     let mut few = Few::new(&mut out, written);
-    let status = console(alloc, &case.catalog, &mut input, &mut few, &mut err);
+    let (status, ..) = console(alloc, &case.catalog, &mut input, &mut few, &mut err);
     case.is_met(status, &out, &err)
 }
 

@@ -117,7 +117,7 @@ impl Siege {
         self.room.hoard.take_all(self.alloc);
         self.span = None;
         let rest: Vec<u8> = Vec::with_capacity(self.alloc, SPAN.saturating_sub(left))?;
-        let status = console(
+        let (status, ..) = console(
             self.alloc,
             catalog,
             &mut input,

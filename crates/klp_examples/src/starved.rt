@@ -62,6 +62,6 @@ pub(crate) fn is_served(alloc: Global, case: &Case) -> Result<bool, AllocError> 
         hoard,
         is_starved: false,
     };
-    let status = console(alloc, &case.catalog, &mut input, &mut out, &mut err);
+    let (status, ..) = console(alloc, &case.catalog, &mut input, &mut out, &mut err);
     Ok(input.is_starved && case.is_met(status, &out, &err))
 }

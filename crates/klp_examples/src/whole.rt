@@ -27,7 +27,7 @@ fn done(alloc: Global, work: Work<'_>, out: &mut Vec<u8>) -> io::Result<()> {
         Work::Serve(catalog, mut input) => {
             out.clear();
             let mut err = Vec::new(alloc);
-            match console(alloc, catalog, &mut input, out, &mut err) {
+            match console(alloc, catalog, &mut input, out, &mut err).0 {
                 0 => Ok(()),
                 _ => Err(io::Error::other("a script isn't served")),
             }

@@ -1,5 +1,5 @@
 -- What the program comes to over a catalog's text.
-use Rattle.std.specs.Prelude.{◌≡◌, ℕ, List, Option, Result, Ok, Err}
+use Rattle.std.specs.Prelude.{◌≡◌, ℕ, false, List, Option, Result, Ok, Err}
 use Rattle.klp_catalog_text.specs.Plan.{Plan}
 use Rattle.klp_catalog_text.specs.Text.{plan_of, IsFaultOf}
 use Rattle.klp_core.specs.Journaled.{Journaled}
@@ -61,14 +61,25 @@ Runs text before after (Ok served) = Serves text before after (Ok served)
 Runs text before after (Err (Serve fault)) = Serves text before after (Err fault)
 Runs text before after (Err fault) = (after ≡ before) × IsFault text fault
 
--- The console was served over streams of std, or nothing was read and nothing was written. Of these streams the bytes are known that were left to read
--- and that were written before. What they have afterwards isn't: who gets a stream back from a loan doesn't know that it is the one which was lent
-pub record RunsOver (text : List ℕ) (left taken : Option (List ℕ)) (ended : Result Served Fault) : Type 0 where
-  pub before : Streams
-  pub after : Streams
-  pub is_input : before.supply.left ≡ left
-  pub is_output : before.written.taken ≡ taken
-  pub runs : Runs text before after ended
+-- What contracts know of a reader and of a writer of std: the bytes that the one has left, and those that the other
+-- took. Of standard input and standard output they know neither.
+pub record StdStreams : Type 0 where
+  pub left : Option (List ℕ)
+  pub taken : Option (List ℕ)
+
+-- these streams before the first read and the first write
+abbrev pub unused : StdStreams → Streams
+unused std = record {
+  supply = record { left = std.left; has_ended = false; failures = 0; reads = 0; asked = 0 };
+  written = record { taken = std.taken; failures = 0; stalls = 0 };
+}
+
+-- the console was served over streams of std, or nothing was read and nothing was written
+pub record RunsOver (text : List ℕ) (before after : StdStreams) (ended : Result Served Fault) : Type 0 where
+  pub streams : Streams
+  pub runs : Runs text (unused before) streams ended
+  pub input : streams.supply.left ≡ after.left
+  pub output : streams.written.taken ≡ after.taken
 
 -- the exit status of the program
 abbrev pub status_of : Result Served Fault → ℕ
@@ -76,13 +87,13 @@ status_of (Ok served) = 0
 status_of (Err fault) = 1
 
 -- what the program comes to over streams of std, and its exit status
-pub record Exits (text : List ℕ) (left taken : Option (List ℕ)) (status : ℕ) : Type 0 where
+pub record Exits (text : List ℕ) (before after : StdStreams) (status : ℕ) : Type 0 where
   pub ended : Result Served Fault
-  pub runs : RunsOver text left taken ended
+  pub runs : RunsOver text before after ended
   pub is_status : status ≡ status_of ended
 
--- a catalog's text was served, whatever standard input had and standard output took before
+-- a catalog's text was served between some streams
 pub record IsServed (text : List ℕ) (status : ℕ) : Type 0 where
-  pub left : Option (List ℕ)
-  pub taken : Option (List ℕ)
-  pub exits : Exits text left taken status
+  pub before : StdStreams
+  pub after : StdStreams
+  pub exits : Exits text before after status

@@ -81,42 +81,48 @@ pub fn over_text<R: Source, W: Sink>(
     over_plan(alloc, plan, reader, writer)
 }
 
-// Serves the console between two streams of std. `reads` and `writes` are tokens, by which the proof knows all that was
-// read and written.
+// Serves the console between two streams of std, and returns the streams. `reads` and `writes` are tokens, by which the
+// proof knows all that was read and written.
 fn over_std<R: Read, W: Write, L: Ledger, M: Ledger>(
     alloc: Global,
     catalog: &[u8],
-    input: &mut R,
-    out: &mut W,
+    input: R,
+    out: W,
     reads: Blank,
     writes: Blank,
-) -> Result<Served, Fault>
+) -> (Result<Served, Fault>, R, W)
     requires reads { (reads.name ≡ L.name) × (reads.parts ≡ L.parts) × (3 ≤ reads.parts) }
     requires writes { (writes.name ≡ M.name) × (writes.parts ≡ M.parts) × (2 ≤ writes.parts) }
-    ensures { RunsOver catalog.now (R.remaining input.old) (W.contents out.old) result }
+    ensures { RunsOver catalog.now (record { left = R.remaining input; taken = W.contents out })
+        (record { left = R.remaining result.1; taken = W.contents result.2 }) result.0 }
 {
-    let mut reader = OverRead::<&mut R, L>::new(input, reads);
-    let mut writer = OverWrite::<&mut W, M>::new(out, writes);
-    over_text(alloc, catalog, &mut reader, &mut writer)
+    let mut reader = OverRead::<R, L>::new(input, reads);
+    let mut writer = OverWrite::<W, M>::new(out, writes);
+    let ended = over_text(alloc, catalog, &mut reader, &mut writer);
+    (ended, reader.into_inner(), writer.into_inner())
 }
 
-/// Serves the console with a catalog's text until the input ends, and returns the exit status. The status is 0, or 1
-/// after a fault. After a fault, writes a line about the fault to `err`. If the catalog has a fault, writes nothing to
-/// `out`. No clause says what the streams contain afterwards (docs/DECISIONS.md, "What gathers answers, and its sink").
-/// Tests show what they contain.
+/// Serves the console with a catalog's text until the input ends. Returns the exit status and both streams, so that
+/// contracts know what the streams have afterwards, if they knew it before. The status is 0, or 1 after a fault. After a
+/// fault, writes a line about the fault to `err`. If the catalog has a fault, reads nothing and writes nothing to `out`.
 pub fn console<R: Read, W: Write, E: Write>(
     alloc: Global,
     catalog: &[u8],
-    input: &mut R,
-    out: &mut W,
+    input: R,
+    out: W,
     err: &mut E,
-) -> u8
-    ensures { Exits catalog.now (R.remaining input.old) (W.contents out.old) result }
+) -> (u8, R, W)
+    ensures { Exits catalog.now (record { left = R.remaining input; taken = W.contents out })
+        (record { left = R.remaining result.1; taken = W.contents result.2 }) result.0 }
 {
     let reads = Blank::new(3);
     let writes = Blank::new(2);
-    match over_std::<R, W, Brand, Brand>(alloc, catalog, input, out, reads, writes) {
+    let (ended, input, out) = over_std::<R, W, Brand, Brand>(
+        alloc, catalog, input, out, reads, writes,
+    );
+    let status = match ended {
         Ok(_) => 0,
         Err(fault) => report_fault(fault, err),
-    }
+    };
+    (status, input, out)
 }

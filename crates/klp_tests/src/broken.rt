@@ -51,7 +51,7 @@ fn failing(lines: &'static [u8]) -> Broken {
 /// Whether the console ends with status 1, and writes exactly `printed` to `err`.
 fn ends_with(alloc: Global, mut input: Broken, mut out: Broken, printed: &[u8]) -> bool {
     let mut err = Vec::new(alloc);
-    let status = console(alloc, CATALOG, &mut input, &mut out, &mut err);
+    let (status, ..) = console(alloc, CATALOG, &mut input, &mut out, &mut err);
     status == 1 && err.as_slice() == printed
 }
 
@@ -61,7 +61,7 @@ fn long_line(alloc: Global) -> Result<(u8, Vec<u8>, Vec<u8>), AllocError> {
     input.extend_from_slice(&[b'x'; 257])?;
     let mut out = Vec::new(alloc);
     let mut err = Vec::new(alloc);
-    let status = console(alloc, CATALOG, &mut input.as_slice(), &mut out, &mut err);
+    let (status, ..) = console(alloc, CATALOG, &mut input.as_slice(), &mut out, &mut err);
     Ok((status, out, err))
 }
 

@@ -245,7 +245,7 @@ fn reported(alloc: Global, catalog: &[u8]) -> Result<Option<Vec<u8>>, AllocError
     let mut out = Vec::new(alloc);
     let mut err = Vec::new(alloc);
     let mut input = b"".as_slice();
-    let status = console(alloc, catalog, &mut input, &mut out, &mut err);
+    let (status, ..) = console(alloc, catalog, &mut input, &mut out, &mut err);
     let is_right = out.is_empty() && status == u8::from(!err.is_empty());
     Ok(if is_right { Some(err) } else { None })
 }

@@ -25,9 +25,12 @@ const NAME: &str = "klpsim";
 fn serve(rt: &HostRuntime, path: Option<String>) -> u8
     ensures { (result ≡ 1) ⊎ ((text : List ℕ) × (path ≡ None → text ≡ CATALOG.now) × IsServed text result) }
 {
-    let (mut input, mut out, mut err) = (rt.reader(), io::writer(rt), rt.stderr());
+    let mut err = rt.stderr();
     match catalog_in(rt, path) {
-        Ok(catalog) => console(rt.alloc(), &catalog, &mut input, &mut out, &mut err),
+        Ok(catalog) => {
+            let (input, out) = (rt.reader(), io::writer(rt));
+            console(rt.alloc(), &catalog, input, out, &mut err).0
+        }
         Err(fault) => report_fault(fault, &mut err),
     }
 }

@@ -1,13 +1,18 @@
-use Rattle.std.proofs.Common.{ap}
+use Rattle.std.proofs.Common.{sym, subst}
 use Rattle.klp_console_io.specs.Supply.{Supply}
 use Rattle.klp_console_io.specs.Written.{Written}
+use Rattle.klp_program.specs.Runs.{Streams, Runs}
 use Rattle.klp_program.proofs.serve.over_std.Goals as goal
 
 pub returns : goal.returns
-returns g c = record {
-  before = record { supply = c.new-reader.result; written = c.new-writer.result };
-  after = record { supply = c.over_text.new.reader; written = c.over_text.new.writer };
-  is_input = ap (λ (s : Supply). s.left) c.new-reader.ensures;
-  is_output = ap (λ (w : Written). w.taken) c.new-writer.ensures;
-  runs = c.over_text.ensures;
-}
+returns g c =
+    let streams : Streams = record { supply = c.over_text-ended.new.reader; written = c.over_text-ended.new.writer } in
+    let nothing : Written = record { taken = g.W.Write.contents c.args.out; failures = 0; stalls = 0 } in
+    record {
+      streams = streams;
+      runs = subst (λ (s : Supply). Runs c.args.catalog.now (record { supply = s; written = nothing }) streams c.over_text-ended.result) c.new-reader.ensures
+          (subst (λ (w : Written). Runs c.args.catalog.now (record { supply = c.new-reader.result; written = w }) streams c.over_text-ended.result) c.new-writer.ensures
+          c.over_text-ended.ensures);
+      input = sym c.into_inner.ensures;
+      output = sym c.into_inner-2.ensures;
+    }
