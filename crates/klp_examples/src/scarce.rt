@@ -7,7 +7,7 @@ use crate::tally::Tally;
 use klp_program::console;
 use std::alloc::{AllocError, Global};
 use std::rt::Files;
-use std::{fs, io};
+use std::{fs, io, mem};
 
 /// A file of catalogs that are refused. In front of each catalog is a line with a mark, and with the text that is
 /// written to standard error. The line feed in front of a mark isn't part of a catalog. So a catalog's last line ends
@@ -113,24 +113,19 @@ impl Siege {
     fn run(&mut self, catalog: &[u8], left: usize) -> Result<(u8, usize), AllocError> {
         self.room.out.clear();
         self.room.err.clear();
-        let mut input = INPUT;
         self.room.hoard.take_all(self.alloc);
         self.span = None;
         let rest: Vec<u8> = Vec::with_capacity(self.alloc, SPAN.saturating_sub(left))?;
-        let (status, ..) = console(
-            self.alloc,
-            catalog,
-            &mut input,
-            &mut self.room.out,
-            &mut self.room.err,
-        );
+        let out = mem::replace(&mut self.room.out, Vec::new(self.alloc));
+        let (status, unread, out) = console(self.alloc, catalog, INPUT, out, &mut self.room.err);
+        self.room.out = out;
         drop(rest);
         self.room.hoard.take_all(self.alloc);
         self.few.clear();
         self.room.hoard.clear();
         self.span = Some(Vec::with_capacity(self.alloc, SPAN)?);
         self.few.take_few(self.alloc);
-        Ok((status, input.len()))
+        Ok((status, unread.len()))
     }
 
     // Whether there was enough memory, so that the input was answered.
