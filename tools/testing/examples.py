@@ -156,10 +156,11 @@ def lint_names():
 
 
 def lint_kinds():
-    """Each kind of thing that docs/LINT.md has is told of an example, and no other."""
+    """Each kind that the man page has is told of an example, and no other."""
     told = {it["kind"] for name in lint_names() for it in lint_objects(run(["klplint", "--json", *lint_words(name)])[1])}
-    with open(f"{TOP}/docs/LINT.md", encoding="utf-8") as it:
-        documented = set(re.findall(r"`([\w-]+)`", re.search(r"The kinds are (.*?)\.\n", it.read(), re.S)[1]))
+    with open(f"{TOP}/man/klplint.1", encoding="utf-8") as it:
+        kinds = re.search(r"The kinds are (.*?)\.\n", it.read().replace("\\-", "-"), re.S)[1]
+    documented = set(re.findall(r"[\w-]+", kinds)) - {"and"}
     return None if told == documented else f"{sorted(told ^ documented)}"
 
 
