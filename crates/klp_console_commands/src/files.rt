@@ -29,12 +29,10 @@ const PROC: &[u8] = b"/proc/";
 fn switch(value: &[u8]) -> Result<bool, LineFault>
     ensures { result ≡ switch value.now }
 {
-    if is_word(value, b"0") {
-        Ok(false)
-    } else if is_word(value, b"1") {
-        Ok(true)
-    } else {
-        Err(LineFault::BadValue)
+    match value {
+        b"0" => Ok(false),
+        b"1" => Ok(true),
+        _ => Err(LineFault::BadValue),
     }
 }
 

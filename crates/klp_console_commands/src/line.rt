@@ -1,6 +1,6 @@
 //! Reading a line of the console.
 
-ghost use Rattle.std.specs.Prelude.{◌≡◌};
+ghost use Rattle.std.specs.Prelude.{◌≡◌, length};
 ghost use Rattle.klp_console_commands.specs.Names.{names_of};
 ghost use Rattle.klp_console_commands.specs.Lines.{keyword_of, load_line, insmod_line, rmmod_line, alone, text_line};
 ghost use Rattle.klp_console_commands.specs.Lines.{stack_line, pick_line, runs_line, rewind_line, line_of, request_of};
@@ -15,7 +15,7 @@ use crate::names::{NameResolver, task};
 use crate::request::{Asked, Query};
 use crate::shadow::shadow_line;
 use crate::tasks::task_line;
-use crate::words::{end, is_console_name, is_word, number_to, only_name, only_word, two_words};
+use crate::words::{end, is_console_name, number_to, only_name, only_word, two_words};
 use klp_catalog::Catalog;
 use klp_model::Event;
 use klp_modules::Modules;
@@ -43,45 +43,41 @@ pub(crate) enum Keyword {
     Seal,
 }
 
-/// Returns the keyword that a word spells. Returns `None` if the word spells no keyword. The most frequent keywords are
-/// compared first.
+/// Returns the keyword that a word of four bytes spells. Returns `None` if the word spells no keyword. Most keywords
+/// have four bytes.
+fn keyword_of_four(word: &[u8]) -> Option<Keyword>
+    requires { length word.now ≡ 4 }
+    ensures { result ≡ keyword_of word.now }
+{
+    match word {
+        b"task" => Some(Keyword::Task),
+        b"poll" => Some(Keyword::Poll),
+        b"echo" => Some(Keyword::Echo),
+        b"load" => Some(Keyword::Load),
+        b"text" => Some(Keyword::Text),
+        b"pick" => Some(Keyword::Pick),
+        b"runs" => Some(Keyword::Runs),
+        b"mark" => Some(Keyword::Mark),
+        b"seal" => Some(Keyword::Seal),
+        _ => None,
+    }
+}
+
+/// Returns the keyword that a word spells. Returns `None` if the word spells no keyword. Patterns are compared byte by
+/// byte, so no keyword costs a call.
 fn keyword_of(word: &[u8]) -> Option<Keyword>
     ensures { result ≡ keyword_of word.now }
 {
-    if is_word(word, b"task") {
-        Some(Keyword::Task)
-    } else if is_word(word, b"poll") {
-        Some(Keyword::Poll)
-    } else if is_word(word, b"shadow") {
-        Some(Keyword::Shadow)
-    } else if is_word(word, b"cat") {
-        Some(Keyword::Cat)
-    } else if is_word(word, b"echo") {
-        Some(Keyword::Echo)
-    } else if is_word(word, b"load") {
-        Some(Keyword::Load)
-    } else if is_word(word, b"insmod") {
-        Some(Keyword::Insmod)
-    } else if is_word(word, b"rmmod") {
-        Some(Keyword::Rmmod)
-    } else if is_word(word, b"ls") {
-        Some(Keyword::List)
-    } else if is_word(word, b"text") {
-        Some(Keyword::Text)
-    } else if is_word(word, b"stack") {
-        Some(Keyword::Stack)
-    } else if is_word(word, b"pick") {
-        Some(Keyword::Pick)
-    } else if is_word(word, b"runs") {
-        Some(Keyword::Runs)
-    } else if is_word(word, b"mark") {
-        Some(Keyword::Mark)
-    } else if is_word(word, b"rewind") {
-        Some(Keyword::Rewind)
-    } else if is_word(word, b"seal") {
-        Some(Keyword::Seal)
-    } else {
-        None
+    match word {
+        [_, _, _, _] => keyword_of_four(word),
+        b"shadow" => Some(Keyword::Shadow),
+        b"cat" => Some(Keyword::Cat),
+        b"insmod" => Some(Keyword::Insmod),
+        b"rmmod" => Some(Keyword::Rmmod),
+        b"ls" => Some(Keyword::List),
+        b"stack" => Some(Keyword::Stack),
+        b"rewind" => Some(Keyword::Rewind),
+        _ => None,
     }
 }
 

@@ -91,18 +91,13 @@ fn fork_line(number: u64, words: &mut LineWords<'_>, event: &mut Event) -> Resul
 fn plain_event(verb: &[u8], number: u64, event: &mut Event) -> Result<Asked, LineFault>
     ensures { line_with result event.new ≡ plain_event verb.now number }
 {
-    if is_word(verb, b"new") {
-        *event = Event::NewTask(task(number)?);
-    } else if is_word(verb, b"end") {
-        *event = Event::EndTask(task(number)?);
-    } else if is_word(verb, b"enter") {
-        *event = Event::EnterKernel(task(number)?);
-    } else if is_word(verb, b"exit") {
-        *event = Event::ExitToUser(task(number)?);
-    } else if is_word(verb, b"wake") {
-        *event = Event::Wake(task(number)?);
-    } else {
-        return Err(LineFault::BadLine);
+    match verb {
+        b"new" => *event = Event::NewTask(task(number)?),
+        b"end" => *event = Event::EndTask(task(number)?),
+        b"enter" => *event = Event::EnterKernel(task(number)?),
+        b"exit" => *event = Event::ExitToUser(task(number)?),
+        b"wake" => *event = Event::Wake(task(number)?),
+        _ => return Err(LineFault::BadLine),
     }
     Ok(Asked::Take)
 }
