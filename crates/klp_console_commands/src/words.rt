@@ -66,11 +66,11 @@ pub(crate) fn two_words<'a>(words: &mut LineWords<'a>) -> Result<(&'a [u8], &'a 
     Ok((first, second))
 }
 
-/// Whether the two words have the same bytes.
+/// Whether the two words have the same bytes. The lengths are compared first, so most different words cost no call.
 pub(crate) fn is_word(word: &[u8], other: &[u8]) -> bool
     ensures { result ≡ bytes_eq word.now other.now }
 {
-    word == other
+    word.len() == other.len() && word == other
 }
 
 /// Whether the word may name a patch or an object. It may if it isn't empty and has neither `/` nor `:`, since `/` and
