@@ -146,6 +146,7 @@ impl Answers {
 
     /// If there is no room for `len` more bytes behind the gathered bytes, writes the gathered bytes. So texts are
     /// written in the order in which they were said.
+    #[inline(always)]
     #[tactic(auto, unfolding(crate::specs::Says::Speaks))]
     fn make_room<W: Sink>(&mut self, writer: &mut W, len: usize)
         ensures says { Says (self.old, W.written writer.old) (self.new, W.written writer.new) [] }
@@ -159,6 +160,7 @@ impl Answers {
 
     /// Says a text. It must fit behind the gathered bytes, unless nothing is gathered. A text that is longer than the
     /// whole buffer is written at once.
+    #[inline(always)]
     #[tactic(auto, unfolding(crate::specs::Says::Speaks))]
     fn take<W: Sink>(&mut self, writer: &mut W, text: &[u8])
         requires { (length self.old.bytes + length text.now ≤ ANSWER_ROOM) ⊎
@@ -173,6 +175,9 @@ impl Answers {
     /// Says a text. If there is no room for the text behind the gathered bytes, first writes the gathered bytes. The
     /// text is then gathered. A text that is longer than the whole buffer is written at once, so a text may have any
     /// length. After a failure of the sink, does nothing.
+    ///
+    /// The function is inlined, so that a short text whose length the compiler knows is stored without a call.
+    #[inline(always)]
     pub fn say<W: Sink>(&mut self, writer: &mut W, text: &[u8])
         ensures { Says (self.old, W.written writer.old) (self.new, W.written writer.new) text.now }
     {
