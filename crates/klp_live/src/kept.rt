@@ -45,7 +45,7 @@ impl Kept {
     }
 
     /// Returns the event.
-    pub(crate) fn event(&self) -> Event
+    pub fn event(&self) -> Event
         ensures { result ≡ event_kept self.now }
     {
         match self {
@@ -59,7 +59,7 @@ impl Kept {
     }
 
     /// Returns the reply.
-    pub(crate) fn reply(&self) -> Reply
+    pub fn reply(&self) -> Reply
         ensures { result ≡ reply_kept self.now }
     {
         match self {

@@ -30,6 +30,7 @@ mod target;
 pub use book::Book;
 pub use entering::{Reads, TaskPass};
 pub use history::{Front, Head, Opened, Start};
+pub use kept::{Kept, TaskEvent};
 pub use law::{Accepted, Law};
 pub use live::{BadTask, CloseFault, Live};
 pub use opening::{StartCause, StartFault};

@@ -132,4 +132,19 @@ impl<S: Start> Receipt<S> {
     {
         self.kept.reply()
     }
+
+    /// Takes the receipt apart. Returns the number, and the row with the event and the reply. The row is the one that
+    /// the receipt stored, so nothing is allocated.
+    pub fn into_parts(self) -> (u64, Kept)
+        ensures number { result.0 ≡ self.number }
+        ensures event { event_kept result.1 ≡ self.event }
+        ensures reply { reply_kept result.1 ≡ self.reply }
+    {
+        let Receipt {
+            number,
+            kept,
+            front: _front,
+        } = self;
+        (number, kept)
+    }
 }
