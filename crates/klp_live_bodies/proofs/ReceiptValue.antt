@@ -7,7 +7,7 @@ use Rattle.klp_model.specs.State.{State}
 use Rattle.klp_model.specs.Legal.{History}
 use Rattle.klp_model.specs.declared.event.Event.{Event}
 use Rattle.klp_live.specs.Seats.{IsLast}
-use Rattle.klp_live_bodies.specs.declared.step.Accepted.{Accepted}
+use Rattle.klp_live_bodies.specs.Receipts.{AcceptedValue}
 use Rattle.klp_live_bodies.specs.declared.step.Outcome.{Outcome}
 use Rattle.klp_live_bodies.specs.declared.step.Step.{Step}
 use Rattle.klp_live_bodies.specs.declared.step.Step.TheVariants.{Submit, Call, Return, Nap}
@@ -41,14 +41,14 @@ is_within setting base task list before frames steps outcomes place outcome d at
     let one = one_of setting base task list before frames steps outcomes place outcome d at in
     let g = one.done.grows in let l = one.later in (omega arith, one.done.within)
 
-receipt_in : (setting : Setting) (base : State) (task before : ℕ) (frames : List Version) (seen : History) (step : Step) (what : What) (accepted : Accepted)
+receipt_in : (setting : Setting) (base : State) (task before : ℕ) (frames : List Version) (seen : History) (step : Step) (what : What) (accepted : AcceptedValue)
     → what ≡ Receipt accepted → CameTo setting base task before frames seen step what → (event : Event) × IsReceipt before seen event accepted
 receipt_in setting base task before frames seen (Submit event) what accepted is came = (event, subst (λ (w : What). CameTo setting base task before frames seen (Submit event) w) is came)
 receipt_in setting base task before frames seen (Call site) what accepted is came = absurd (subst (λ (w : What). CameTo setting base task before frames seen (Call site) w) is came)
 receipt_in setting base task before frames seen Return what accepted is came = absurd (subst (λ (w : What). CameTo setting base task before frames seen Return w) is came)
 receipt_in setting base task before frames seen Nap what accepted is came = (_, subst (λ (w : What). CameTo setting base task before frames seen Nap w) is came)
 
-pub is_reported : (setting : Setting) (base : State) (task : ℕ) (list : History) (before : ℕ) (frames : List Version) (steps : List Step) (outcomes : List Outcome) (place : ℕ) (outcome : Outcome) (accepted : Accepted)
+pub is_reported : (setting : Setting) (base : State) (task : ℕ) (list : History) (before : ℕ) (frames : List Version) (steps : List Step) (outcomes : List Outcome) (place : ℕ) (outcome : Outcome) (accepted : AcceptedValue)
     → AreDone setting base task list before frames steps outcomes → slice_get outcomes place ≡ Some outcome → outcome.what ≡ Receipt accepted
     → (accepted.number ≡ outcome.known) × (before < accepted.number) × IsLast (take accepted.number list) accepted.event accepted.reply
 is_reported setting base task list before frames steps outcomes place outcome accepted d at is =
@@ -83,7 +83,7 @@ is_in_order setting base task list before frames steps outcomes place next earli
     let one = behind setting base task list before frames steps outcomes place next earlier later d at then less in
     let g = one.done.grows in let l = one.later in omega arith
 
-pub is_above : (setting : Setting) (base : State) (task : ℕ) (list : History) (before : ℕ) (frames : List Version) (steps : List Step) (outcomes : List Outcome) (place next : ℕ) (earlier later : Outcome) (accepted : Accepted)
+pub is_above : (setting : Setting) (base : State) (task : ℕ) (list : History) (before : ℕ) (frames : List Version) (steps : List Step) (outcomes : List Outcome) (place next : ℕ) (earlier later : Outcome) (accepted : AcceptedValue)
     → AreDone setting base task list before frames steps outcomes → slice_get outcomes place ≡ Some earlier → slice_get outcomes next ≡ Some later → place < next
     → later.what ≡ Receipt accepted → earlier.known < accepted.number
 is_above setting base task list before frames steps outcomes place next earlier later accepted d at then less is =

@@ -1,3 +1,4 @@
+pub mod Receipts
 pub mod Steps
 pub mod Running
 pub mod Jobs

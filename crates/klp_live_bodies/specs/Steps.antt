@@ -16,7 +16,7 @@ use Rattle.klp_live.specs.declared.target.EnterFault.TheVariants.{NoTable}
 use Rattle.klp_live.specs.Found.{entered}
 use Rattle.klp_live.specs.Admitting.{FindsNoRoom}
 use Rattle.klp_live.specs.Seats.{IsLast}
-use Rattle.klp_live_bodies.specs.declared.step.Accepted.{Accepted}
+use Rattle.klp_live_bodies.specs.Receipts.{AcceptedValue}
 use Rattle.klp_live_bodies.specs.declared.step.Step.{Step}
 use Rattle.klp_live_bodies.specs.declared.step.Step.TheVariants.{Submit, Call, Return, Nap}
 use Rattle.klp_live_bodies.specs.declared.step.What.{What}
@@ -40,7 +40,7 @@ submits Nap = true
 submits other = false
 
 -- The event was accepted: its row is the last of the known history, with its reply and number, behind all known before.
-pub record IsReceipt (before : ℕ) (seen : History) (event : Event) (accepted : Accepted) : Type 0 where
+pub record IsReceipt (before : ℕ) (seen : History) (event : Event) (accepted : AcceptedValue) : Type 0 where
   pub event_is : accepted.event ≡ event
   pub number : accepted.number ≡ length seen
   pub later : before < accepted.number

@@ -48,11 +48,10 @@ fn submitted<S: Start + Protocol<Published, View>, M: Machine + Drop, R: Wait + 
     ensures none { IfNone result (pass.new ≡ pass.old) }
 {
     match pass.submit(rt, alloc, live, event) {
-        Ok(receipt) => Some(What::Receipt(Accepted {
-            number: receipt.number(),
-            event: receipt.event(),
-            reply: receipt.reply(),
-        })),
+        Ok(receipt) => {
+            let (number, kept) = receipt.into_parts();
+            Some(What::Receipt(Accepted::new(number, kept)))
+        }
         Err(LiveRefusal::Refused(refusal)) => Some(What::Refused(refusal)),
         Err(LiveRefusal::NoMemory) => None,
     }

@@ -62,12 +62,8 @@ pub(crate) fn show_outcomes<R: Print>(
 
 /// Prints the answer to an accepted event. If a task was woken, prints only the versions in its frames.
 fn show_receipt<R: Print>(rt: &R, known: u64, accepted: &Accepted) -> io::Result<()> {
-    let Accepted {
-        number,
-        event: _,
-        reply,
-    } = accepted;
-    match reply {
+    let number = accepted.number();
+    match accepted.reply() {
         Reply::Woken(frames) => println!(rt; "{known}: {number} Woken {:?}", frames.as_slice()),
         other => println!(rt; "{known}: {number} {other:?}"),
     }
