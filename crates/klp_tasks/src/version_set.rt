@@ -1,6 +1,8 @@
 ghost use Rattle.std.specs.Prelude.{◌≡◌, ℕ, ◌<◌, ◌==◌, ◌||◌, false, List, [], ◌∷◌, ◌++◌, length, slice_index_or};
+ghost use Rattle.std.specs.Prelude.{IfSome};
 ghost use Rattle.std.specs.List.{list_any};
 ghost use Rattle.klp_types.specs.declared.version.Version.{Version as AnyVersion};
+ghost use Rattle.klp_types.specs.declared.version.Version.TheVariants.{Original};
 ghost use Rattle.klp_model.specs.Blocked.{is_version};
 ghost use Rattle.klp_tasks.specs.Members.{has, IsSetOf, IsWithin};
 
@@ -41,6 +43,18 @@ fn set(flags: &mut [bool], number: u16)
         || other == number) }
 {
     flags[usize::from(number)] = true;
+}
+
+/// Returns the number of the version's site or function, and whether the version is a new function. Every version has
+/// its number in the same place. So reading the number takes no branch.
+#[inline(always)]
+fn number_of(version: Version) -> (u16, bool)
+    ensures original { result.1 ≡ false → version ≡ Original result.0 }
+{
+    match version {
+        Version::Original(site) => (site.0, false),
+        Version::New(_patch, function) => (function, true),
+    }
 }
 
 impl VersionSet {
@@ -93,14 +107,46 @@ impl VersionSet {
     }
 
     /// Whether one of the frames is in the set. The innermost frame is checked first, since a sleeper mostly waits in a
-    /// function that it called last. The cost is one look-up for each frame, up to the first frame that is in the set.
+    /// function that it called last. The cost is at most two look-ups for each frame.
     pub(crate) fn holds(&self, frames: &Frames) -> bool
         ensures { result ≡ list_any (has self.now) frames.now }
     {
-        frames
-            .as_slice()
-            .iter()
-            .rev()
-            .any(|version| self.contains(*version))
+        let frames = frames.as_slice();
+        let Some(innermost) = frames.last() else {
+            return false;
+        };
+        if self.contains(*innermost) {
+            return true;
+        }
+        match self.holds_originals(frames) {
+            Some(held) => held,
+            None => self.holds_any(frames),
+        }
+    }
+
+    /// Whether one of the frames is in the set, if all frames are originals. Returns `None` if a frame is a new
+    /// function, or is at a site that can't exist. Most sleepers are inside of originals alone. So no branch depends on
+    /// a frame, which lets the processor look up several frames at once.
+    #[inline(always)]
+    fn holds_originals(&self, frames: &[Version]) -> Option<bool>
+        ensures { IfSome result (λ held. held ≡ list_any (has self.now) frames.now) }
+    {
+        let mut held = false;
+        let mut others = false;
+        for frame in frames {
+            let (number, is_new) = number_of(*frame);
+            let number = usize::from(number);
+            held |= self.originals[number % MAX_SITES];
+            others |= is_new | (number >= MAX_SITES);
+        }
+        if others { None } else { Some(held) }
+    }
+
+    /// Whether one of the frames is in the set, whatever the frames are. The cost is one look-up for each frame, up to
+    /// the first frame that is in the set.
+    fn holds_any(&self, frames: &[Version]) -> bool
+        ensures { result ≡ list_any (has self.now) frames.now }
+    {
+        frames.iter().any(|version| self.contains(*version))
     }
 }
