@@ -18,6 +18,7 @@ use klp_model::Event;
 /// Whether a line can be undone, so that it may be done before earlier answers are written. False for an event that may
 /// run a callback, since the count of its runs can't be undone. False also for `seal` and `rewind`, which remove events
 /// from the journal.
+#[inline(always)]
 pub(crate) fn can_be_taken_back(
     manager: &Manager,
     asked: &Option<Result<Asked, LineFault>>,

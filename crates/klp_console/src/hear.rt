@@ -36,15 +36,20 @@ pub(crate) fn hear_lines<W: Sink>(
 {
     let mut rest = piece;
     while !rest.is_empty() {
-        match line.hear(rest) {
-            // The clause identifies a long line by the bytes of the source. The bytes of standard input aren't known,
-            // but this function serves all sources (docs/DECISIONS.md, "Long lines of standard input").
-            Err(TooLong) => return Err(ServeFault::LineTooLong),
-            Ok(None) => return Ok(()),
-            Ok(Some(after)) => {
-                serve_line(manager, line.bytes(), served, answers, marks, writer);
-                line.clear();
-                rest = after;
+        if let Some((whole, after)) = line.whole_line(rest) {
+            serve_line(manager, whole, served, answers, marks, writer);
+            rest = after;
+        } else {
+            match line.hear(rest) {
+                // The clause identifies a long line by the bytes of the source. The bytes of standard input aren't
+                // known, but this function serves all sources (docs/DECISIONS.md, "Long lines of standard input").
+                Err(TooLong) => return Err(ServeFault::LineTooLong),
+                Ok(None) => return Ok(()),
+                Ok(Some(after)) => {
+                    serve_line(manager, line.bytes(), served, answers, marks, writer);
+                    line.clear();
+                    rest = after;
+                }
             }
         }
         // checked after each line, since no line may be done behind the one whose answer was cut off
