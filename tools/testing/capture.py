@@ -75,6 +75,26 @@ def named(shell):
         return fault(finish(start([*shell, f"{TOP}/klpcap", "--root", f"{room}/machine", "--once"])), (0, log.encode(), ""))
 
 
+def harmless(shell):
+    """What is named like a command, or has one where a number belongs, is passed over, and no command runs."""
+    with tempfile.TemporaryDirectory(prefix="machine-") as room:
+        root = f"{room}/a $(touch made) machine"
+        shutil.copytree(MACHINE, root)
+        command = "1:-$(touch made)}"
+        for process, thread in (("91", command), (command, "91"), (command, command), ("91", "93")):
+            shutil.copytree(f"{MACHINE}/proc/91/task/91", f"{root}/proc/{process}/task/{thread}")
+        stat = f"{root}/proc/91/task/93/stat"
+        with open(stat, encoding="utf-8") as it:
+            head, _, tail = it.read().rpartition(") ")
+        fields = tail.split(" ")
+        with open(stat, "w", encoding="utf-8") as it:
+            it.write(f"{head}) {' '.join([*fields[:6], 'a[$(touch${IFS}made)]', *fields[7:]])}")
+        sample = SAMPLE.replace(" 3 0 0 0", " 4 0 0 0")
+        log = KERNEL + PATCHES + HOLDER + sample + sample + LOG + SYMBOLS + END
+        came = finish(start([*shell, f"{TOP}/klpcap", "--root", root, "-c", "2", "-i", "0"], room))
+        return fault(came, (0, log.encode(), "")) or ("a command ran" if os.path.exists(f"{room}/made") else None)
+
+
 def zeroed(shell):
     """A frame that has no name is a bare address, which --zero doesn't write."""
     with tempfile.TemporaryDirectory(prefix="machine-") as room:
@@ -116,5 +136,5 @@ def ended(shell):
 
 def cases():
     there = [shell for shell in SHELLS if shutil.which(shell[0])]
-    runs = (("", captured), (", names with line feeds", named), (", a bare address", zeroed), (", into a file", logged), (", to the end", ended))
+    runs = (("", captured), (", names with line feeds", named), (", commands for names", harmless), (", a bare address", zeroed), (", into a file", logged), (", to the end", ended))
     return [(f"klpcap under {shell[0]}{what}", functools.partial(run, shell)) for shell in there for what, run in runs]
