@@ -41,53 +41,59 @@ _klpsim() {
   esac
 }
 
+# Puts the files in front of the word at the cursor into klp_before, and that word into klp_word. The options that take a value
+# are named. Fails where the word is the value of such an option, which klp_option is then, or begins as an option does.
+_klp_options() {
+  local at
+  klp_before=() klp_option='' klp_word="${klp_words[-1]-}"
+  for ((at = 0; at < ${#klp_words[@]} - 1; at++)); do
+    if [ -n "$klp_option" ]; then klp_option=''
+    elif [[ " $* " == *" ${klp_words[at]} "* ]]; then klp_option="${klp_words[at]}"
+    elif [[ "${klp_words[at]}" != -* ]]; then klp_before+=("${klp_words[at]}"); fi
+  done
+  [[ -z "$klp_option" && "$klp_word" != -* ]]
+}
+
+_klp_offer() { mapfile -t COMPREPLY < <(compgen -W "$1" -- "$klp_word"); }
+
 _klpwatch() {
-  local klp_words
+  local klp_words klp_before klp_option klp_word
   _klp_words || return 0
-  case "${#klp_words[@]}" in
-    1) _klp_files catalog "${klp_words[0]}" ;;
-    2) _klp_files trace "${klp_words[1]}" ;;
-  esac
+  if ! _klp_options; then _klp_offer --help
+  elif [ "${#klp_before[@]}" = 0 ]; then _klp_files catalog "$klp_word"
+  else _klp_files trace "$klp_word"; fi
 }
 
 _klppage() {
-  local klp_words
+  local klp_words klp_before klp_option klp_word
   _klp_words || return 0
-  case "${#klp_words[@]}" in
-    1) _klp_files catalog "${klp_words[0]}" ;;
-    2) _klp_files script "${klp_words[1]}" ;;
-    3)
-      if [ "${klp_words[1]}" = --trace ]; then _klp_files trace "${klp_words[2]}"
-      else _klp_files names "${klp_words[2]}"; fi
-      ;;
-    4) _klp_files names "${klp_words[3]}" ;;
+  if ! _klp_options --trace; then
+    if [ "$klp_option" = --trace ]; then _klp_files trace "$klp_word"; else _klp_offer '--trace --help'; fi
+    return
+  fi
+  case "${#klp_before[@]} ${klp_words[*]}" in
+    0*) _klp_files catalog "$klp_word" ;;
+    2* | *' --trace '*) _klp_files names "$klp_word" ;;
+    *) _klp_files script "$klp_word" ;;
   esac
 }
 
 _klplint() {
-  local klp_words
+  local klp_words klp_before klp_option klp_word
   _klp_words || return 0
-  if [ "${#klp_words[@]}" -gt 1 ] && [ "${klp_words[0]}" = --json ]; then klp_words=("${klp_words[@]:1}"); fi
-  case "${#klp_words[@]}" in
-    1)
-      _klp_files catalog "${klp_words[0]}"
-      mapfile -t -O "${#COMPREPLY[@]}" COMPREPLY < <(compgen -W "--json" -- "${klp_words[0]}")
-      ;;
-    2) _klp_files script "${klp_words[1]}" ;;
-  esac
+  if ! _klp_options; then _klp_offer '--json --help'
+  elif [ "${#klp_before[@]}" = 0 ]; then _klp_files catalog "$klp_word"
+  else _klp_files script "$klp_word"; fi
 }
 
 _klpsee() {
-  local klp_words
+  local klp_words klp_before klp_option klp_word
   _klp_words || return 0
-  case "${#klp_words[@]}" in
-    1) _klp_files log "${klp_words[0]}" ;;
-    *) case "${klp_words[-2]}" in
-        -o) compopt -o filenames 2>/dev/null
-          mapfile -t COMPREPLY < <(compgen -d -- "${klp_words[-1]}") ;;
-        *) mapfile -t COMPREPLY < <(compgen -W "-o --json" -- "${klp_words[-1]}") ;;
-      esac ;;
-  esac
+  if _klp_options -o && [ "${#klp_before[@]}" = 0 ]; then _klp_files log "$klp_word"
+  elif [ "$klp_option" = -o ]; then
+    compopt -o filenames 2>/dev/null
+    mapfile -t COMPREPLY < <(compgen -d -- "$klp_word")
+  else _klp_offer '-o --json --help'; fi
 }
 
 complete -F _klpsim klpsim

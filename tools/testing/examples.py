@@ -2,9 +2,7 @@
 
 Each function gives the cases of one kind: a name, and a call that returns what is wrong, or None.
 """
-import filecmp
 import functools
-import glob
 import json
 import os
 import re
@@ -230,21 +228,6 @@ def unreadable_paths():
     return [(f"unreadable.paths, {it}", functools.partial(unreadable, it)) for it in paths]
 
 
-def original(path):
-    """The example that a file of a crate's data is a copy of, or None where it is the crate's own."""
-    folder = f"{EXAMPLES}/pages" if "/klppage/" in path else f"{EXAMPLES}/lint" if "/klplint/" in path else EXAMPLES
-    name = f"{folder}/{os.path.basename(path)}"
-    return name if os.path.exists(name) else None
-
-
-def copies():
-    """A program is run in its own data/, where a link is refused: so crates have copies of examples (tools/stored writes them)."""
-    paths = [it for it in sorted(glob.glob(f"{TOP}/crates/*/data/*")) if original(it)]
-    differing = [it for it in paths if not filecmp.cmp(it, original(it), shallow=False)]
-    return [(f"{len(paths)} copies of examples", lambda: "; ".join(os.path.relpath(it, TOP) for it in differing) or None)]
-
-
 def cases():
     kinds = (scripts, traces, long_traces, cut_traces, lives, pages, lints, refused_catalogs, faulty_lines, unreadable_paths)
-    kinds += (copies,)
     return [case for kind in kinds for case in kind()]

@@ -318,9 +318,6 @@ SCRIPTS = [
     (b"\xff\xfem\t\r\n# a", 0, f"line 1: hint: {WIDE}"),
     (b"\xfe\xffm\n", 0, f"line 1: hint: {WIDE}"),
 ]
-# How the programs say that they are called, and words that they refuse.
-USAGE = {"klpwatch": "CATALOG TRACE", "klppage": "CATALOG SCRIPT|--trace TRACE [NAMES]"}
-REFUSED = [(), ("k.catalog",), ("--help",), ("k.catalog", "-"), ("k.catalog", "k.catalog", "-"), ("k.catalog",) * 4, ("k.catalog", b"\xff")]
 # Texts of names, and what is told of them.
 NAME = "wanted is a name of 1 to 64 bytes without control characters"
 SECONDS = "wanted are seconds, with up to six decimals behind a point"
@@ -331,7 +328,7 @@ NAMES = [
     ("task 1\n", f"line 1: BadName: '': {NAME}"),
     ("task 1 \n", f"line 1: BadName: '': {NAME}"),
     ("task 1 a\tb\n", f"line 1: BadName: 'a\\tb': {NAME}"),
-    (f"task 1 {64 * 'n'}\ntask 2 {65 * 'n'}\n", f"line 2: BadName: '{64 * 'n'}': {NAME}"),
+    (f"task 1 {64 * 'n'}\ntask 2 {65 * 'n'}\n", f"line 2: BadName: '{64 * 'n'}'..: {NAME}"),
     ("line 0 1\n", "line 1: BadLine: '0': wanted is a line's number, from 1 on"),
     ("line 1 1,5\n", f"line 1: BadTime: '1,5': {SECONDS}"),
     ("line 1 1.0000001\n", f"line 1: BadTime: '1.0000001': {SECONDS}"),
@@ -365,13 +362,6 @@ def unreadable(program, words, said):
     """A file can't be read, and is named."""
     status, out, err = finish(start([f"{TOP}/{program}", *words], f"{TOP}/examples"))
     return fault((status, out, own(err)), (1, b"", said))
-
-
-def not_called_so(program, words):
-    """The words are refused, and how the program is called is told."""
-    came, _, err = finish(start([f"{TOP}/{program}", *words]))
-    said = f"{program}: usage: {program} {USAGE[program]} (man {program})\n"
-    return fault((came, own(err)), (2, said))
 
 
 def last_line(trace, status, said):
@@ -409,15 +399,13 @@ def cases():
     made += [last_line(trace, 3, said) for trace, said in [*DISHONEST, *DIFFERING]]
     made.append(case("klpwatch", TWICE, IN_MODULE, 3, f"line 7: Frames: 'task sleep 1': {SLEEP} p:1 (g_p)", of="trace"))
     made += [case("klpwatch", KERNEL, trace, 0, said, of="trace") for trace, said in REFUSED_EVENTS]
-    for program, (line, second, said) in itertools.product(USAGE, UNLOADABLE):
+    for program, (line, second, said) in itertools.product(("klpwatch", "klppage"), UNLOADABLE):
         made.append(case(program, f"{MORE}{line}\n", second, 0, said))
     made.append(("klpwatch, an ambiguous function", ambiguous))
     made += [case("klppage", KERNEL, script, status, said, of="script") for script, status, said in SCRIPTS]
     for names, said in NAMES:
         texts = {"a.catalog": KERNEL, "a.script": "poll\n", "a.names": names}
         made.append((f"klppage, {names[:60]!r}", functools.partial(told, "klppage", texts, 1, f"klppage: a.names: {said}\n")))
-    for program, words in itertools.product(USAGE, REFUSED):
-        made.append((f"{program}, the words {words}", functools.partial(not_called_so, program, words)))
     swapped = "line 1: UnknownWord: wanted is a catalog, which a.script is: are the two swapped?"
     made.append(case("klppage", "load p\n", PATCH, 1, swapped))
     missing = [("klpwatch", ("k.catalog", "missing"), "missing"), ("klppage", (".", "k.script"), ".")]

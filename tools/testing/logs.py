@@ -10,7 +10,7 @@ import stat
 import tempfile
 
 import testing.run
-from testing.run import EXAMPLES, TOP, fault, finish, read, run, start
+from testing.run import EXAMPLES, TOP, built_program, fault, finish, read, run, start
 
 # What klpsee ends with where no run of the rules shows a log, and klpwatch where a trace isn't as the rules say.
 REFUTED, DISHONEST = 3, 3
@@ -94,8 +94,7 @@ def seen(text):
     with tempfile.TemporaryDirectory(prefix="log-") as room:
         with open(f"{room}/a.log", "wb") as it:
             it.write(text if isinstance(text, bytes) else text.encode())
-        program = f"{TOP}/crates/klpsee/out/klpsee" if testing.run.IS_BUILT else f"{TOP}/out/unproved/klpsee"
-        return finish(start([program, "a.log"], room))
+        return finish(start(["klpsee", "a.log"], room, executable=built_program()))
 
 
 def cut_off(name):

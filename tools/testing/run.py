@@ -5,10 +5,9 @@ import subprocess
 TOP = os.path.dirname(os.path.dirname(os.path.dirname(os.path.abspath(__file__))))
 EXAMPLES = f"{TOP}/examples"
 PROGRAMS = ("klpsim", "klpwatch", "klppage", "klplint", "klpsee")
-# What ./klpsim says on standard error, of a program that isn't proved and of words that are refused, beside what the program
-# says itself.
-DOOR = (": what follows isn't proved;", ": it is compiled first,", ": it is still being compiled,", ": how it is called,")
-# Whether the programs are those that the gate has built.
+# What ./klpsim says on standard error of a program that isn't proved, beside what the program says itself.
+DOOR = (": what follows isn't proved;", ": it is compiled first,", ": it is still being compiled,")
+# Whether the program is the one that the gate has built.
 IS_BUILT = False
 # How long a run may take, and one that compiles first, on a machine that does much else.
 SECONDS, COMPILE_SECONDS = 300, 3600
@@ -43,10 +42,14 @@ def run(words, given=b"", seconds=SECONDS):
     return status, out, own(err)
 
 
+def built_program():
+    """The one program that all five are, each where it is called so."""
+    return f"{TOP}/crates/klpsim/out/klpsim" if IS_BUILT else f"{TOP}/out/unproved/klpsim"
+
+
 def run_itself(words, given=b"", seconds=SECONDS):
     """The same of the program that its script has built or compiled: what is called a thousand times takes no script."""
-    built, kept = f"{TOP}/crates/{words[0]}/out/{words[0]}", f"{TOP}/out/unproved/{words[0]}"
-    return finish(start([built if IS_BUILT else kept, *words[1:]]), given, seconds)
+    return finish(start(words, executable=built_program()), given, seconds)
 
 
 def fault(came, wanted):

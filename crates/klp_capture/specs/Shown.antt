@@ -11,7 +11,7 @@ use Rattle.klp_capture.specs.declared.capture.Span.{Span}
 use Rattle.klp_capture.specs.declared.line.PatchedState.{PatchedState}
 use Rattle.klp_capture.specs.declared.line.PatchedState.TheVariants.{Undefined, Unpatched, Patched}
 use Rattle.klp_capture.specs.declared.thread.Thread.{Thread}
-use Rattle.klp_capture.specs.declared.time.Moment.{Moment}
+use Rattle.klp_capture.specs.declared.time.BootTime.{BootTime}
 use Rattle.klp_capture.specs.declared.thread.PatchName.{PatchName}
 
 -- some of the items of a list that follow one another; none if the list has fewer
@@ -92,18 +92,18 @@ StandInOrder [] from to = from ≡ to
 StandInOrder (item ∷ items) from to = (behind : List (List ℕ)) × StandsIn item from behind × StandInOrder items behind to
 
 -- a sample that had ended before a force
-abbrev pub is_before : Option Moment → Sample → Bool
+abbrev pub is_before : Option BootTime → Sample → Bool
 is_before None sample = true
 is_before (Some forced) sample = nat_lt sample.line.to.0 forced.0
 
-abbrev pub is_judged : Capture → Option Moment → Sample → Bool
+abbrev pub is_judged : Capture → Option BootTime → Sample → Bool
 is_judged capture forced sample = is_before forced sample && is_settled capture sample
 
-abbrev pub judged_items : Capture → Option Moment → List PatchName → List Thread → Sample → List (List ℕ)
+abbrev pub judged_items : Capture → Option BootTime → List PatchName → List Thread → Sample → List (List ℕ)
 judged_items capture forced patches threads sample = if is_judged capture forced sample then sample_items capture patches threads sample else []
 
 -- the lines have each of these samples that is settled and before the force, one behind the other
-pub record ShowSamples (capture : Capture) (forced : Option Moment) (patches : List PatchName) (threads : List Thread) (samples : List Sample)
+pub record ShowSamples (capture : Capture) (forced : Option BootTime) (patches : List PatchName) (threads : List Thread) (samples : List Sample)
     (lines : List (List ℕ)) : Type 0 where
   pub rest : List (List ℕ)
   pub stand : StandInOrder (flat_map (judged_items capture forced patches threads) samples) lines rest

@@ -4,7 +4,7 @@ ghost use Rattle.klp_capture.specs.Shown.{span_of};
 
 use crate::fault::{CaptureFault, CaptureFaultKind};
 use crate::line::{FrameLine, Line, SampleLine, SymbolLine, TaskLine};
-use crate::time::Moment;
+use crate::time::BootTime;
 use klp_catalog_text::Lines;
 use std::alloc::Global;
 
@@ -82,7 +82,7 @@ pub struct Sample {
 #[derive(Clone, Copy)]
 pub struct LogLine<'a> {
     /// When the kernel wrote the line.
-    pub at: Moment,
+    pub at: BootTime,
     /// The text of the line.
     pub text: &'a [u8],
 }

@@ -19,4 +19,4 @@ pub use line::{Activity, FrameLine, PatchedState, SampleLine, SymbolLine, TaskLi
 pub use shown::patch_in;
 pub use text::Text;
 pub use thread::{PatchName, Thread};
-pub use time::{Elapsed, Moment};
+pub use time::{BootTime, Elapsed};

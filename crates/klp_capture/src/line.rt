@@ -1,5 +1,5 @@
 //! One line of a log: a word, and the rest of the line (docs/CAPTURE.md, "What a log says").
-use crate::time::Moment;
+use crate::time::BootTime;
 use klp_words::{LineWords, Separators, cut, hexadecimal, microseconds, number32, number64};
 
 /// What a task does, by the letter in `/proc/<pid>/stat`.
@@ -58,9 +58,9 @@ pub struct FrameLine<'a> {
 #[derive(Clone, Copy)]
 pub struct SampleLine {
     /// When the sample began.
-    pub from: Moment,
+    pub from: BootTime,
     /// When the sample had ended.
-    pub to: Moment,
+    pub to: BootTime,
     /// How many tasks there were in all.
     pub tasks: u64,
     /// How many tasks lagged and ran, without the tasks that `klpcap` followed.
@@ -111,7 +111,7 @@ pub(crate) enum Line<'a> {
     Gone(u64),
     Sample(SampleLine),
     Log {
-        at: Moment,
+        at: BootTime,
         text: &'a [u8],
     },
     Symbol(SymbolLine<'a>),
@@ -129,9 +129,9 @@ fn flag_of(word: &[u8]) -> Option<bool> {
     }
 }
 
-fn moment_of(word: &[u8]) -> Option<Moment> {
+fn boot_time_of(word: &[u8]) -> Option<BootTime> {
     match microseconds(word) {
-        Some(at) => Some(Moment(at)),
+        Some(at) => Some(BootTime(at)),
         None => None,
     }
 }
@@ -236,8 +236,8 @@ fn frame_line(rest: &[u8]) -> Option<Line<'_>> {
 fn sample_line(rest: &[u8]) -> Option<Line<'_>> {
     let mut words = LineWords::new(rest, Separators::Spaces);
     let line = SampleLine {
-        from: moment_of(words.next()?)?,
-        to: moment_of(words.next()?)?,
+        from: boot_time_of(words.next()?)?,
+        to: boot_time_of(words.next()?)?,
         tasks: number64(words.next()?)?,
         running: number64(words.next()?)?,
         sleeping: number64(words.next()?)?,
@@ -252,7 +252,7 @@ fn sample_line(rest: &[u8]) -> Option<Line<'_>> {
 fn log_line(rest: &[u8]) -> Option<Line<'_>> {
     let (at, text) = cut(rest, b' ');
     Some(Line::Log {
-        at: moment_of(at)?,
+        at: boot_time_of(at)?,
         text,
     })
 }

@@ -8,7 +8,7 @@ ghost use Rattle.klp_capture.specs.Shown.{span_of, is_there_as, is_half_there, i
 use crate::capture::{Capture, PatchRow, Sample, SeenTask};
 use crate::line::PatchedState;
 use crate::thread::{PatchName, Thread};
-use crate::time::Moment;
+use crate::time::BootTime;
 use klp_catalog_text::Lines;
 use klp_words::cut;
 use std::alloc::{AllocError, Global};
@@ -207,7 +207,7 @@ fn patches_stand(
 }
 
 /// Whether a sample had ended before the transition was forced. True if it wasn't forced.
-fn is_before(forced: Option<Moment>, sample: &Sample) -> bool
+fn is_before(forced: Option<BootTime>, sample: &Sample) -> bool
     ensures { result ≡ is_before forced sample.now }
 {
     match forced {
@@ -238,7 +238,7 @@ impl<'a> Capture<'a> {
 
     /// Whether a sample is judged. A sample is judged if no patch changed during it, and if it had ended before a
     /// force.
-    pub fn is_judged(&self, forced: Option<Moment>, sample: &Sample) -> bool
+    pub fn is_judged(&self, forced: Option<BootTime>, sample: &Sample) -> bool
         ensures { result ≡ is_judged self.now forced sample.now }
     {
         is_before(forced, sample) && self.is_settled(sample)
@@ -248,7 +248,7 @@ impl<'a> Capture<'a> {
         &self,
         alloc: Global,
         lines: &mut Lines<'_>,
-        forced: Option<Moment>,
+        forced: Option<BootTime>,
         patches: &[PatchName<'_>],
         threads: &[Thread],
         sample: &Sample,
@@ -270,7 +270,7 @@ impl<'a> Capture<'a> {
         &self,
         alloc: Global,
         trace: &[u8],
-        forced: Option<Moment>,
+        forced: Option<BootTime>,
         patches: &[PatchName<'_>],
         threads: &[Thread],
         samples: &[Sample],

@@ -2,12 +2,12 @@
 use crate::inside::inside_of;
 use crate::refused::refused_of;
 use crate::report::{
-    Becomes, Counts, EndReport, Holder, How, Lagging, Left, Report, Samples, TaskReport,
-    TransitionReport, Why,
+    Becomes, EndReport, HolderReport, HowEnded, LaggingReport, LeftReport, Report, SampleCounts,
+    TaskCounts, TaskReport, TransitionReport, WhyLags,
 };
 use klp_capture::{Capture, Text};
-use klp_capture_catalog::{Ending, Moved, Since};
-use klp_capture_run::{Explained, Followed, Holder as Holding, Run, Stay};
+use klp_capture_catalog::{SeenTransition, TransitionEnding, TransitionStart};
+use klp_capture_run::{Explained, Followed, Holder, HoldingSleep, Run};
 use klp_core::Lag;
 use klp_types::{Mode, Version};
 use std::alloc::{AllocError, Global};
@@ -55,57 +55,62 @@ fn patch_name(alloc: Global, run: &Run<'_>, patch: usize) -> Result<String, Allo
     }
 }
 
-/// Returns the report's entry of a stay. `holds_still` says whether the task still holds the transition up.
+/// Returns the report's entry of a sleep. `holds_still` says whether the task still holds the transition up.
 fn holder_of(
     alloc: Global,
     run: &Run<'_>,
     task: &Followed<'_>,
-    stay: Stay,
+    sleep: HoldingSleep,
     holds_still: bool,
-) -> Result<Holder, AllocError> {
-    Ok(Holder {
+) -> Result<HolderReport, AllocError> {
+    Ok(HolderReport {
         task: task_of(alloc, task)?,
-        function: function_name(alloc, run, stay.version)?,
-        from_us: stay.from.0,
-        to_us: stay.to.0,
+        function: function_name(alloc, run, sleep.version)?,
+        from_us: sleep.from.0,
+        to_us: sleep.to.0,
         holds_still,
     })
 }
 
-/// Returns the stays in which tasks held a transition up. If the transition hasn't ended, `holding` are the tasks that
+/// Returns the sleeps in which tasks held a transition up. If the transition hasn't ended, `holding` are the tasks that
 /// hold it up in the last sample.
 fn holders_of(
     alloc: Global,
     run: &Run<'_>,
     transition: usize,
-    moved: &Moved,
-    holding: &[Holding],
-) -> Result<Vec<Holder>, AllocError> {
+    moved: &SeenTransition,
+    holding: &[Holder],
+) -> Result<Vec<HolderReport>, AllocError> {
     let mut holders = Vec::new(alloc);
     for (number, task) in run.tasks.iter().enumerate() {
         let holds = holding.iter().find(|holder| holder.number == number);
-        for stay in &task.stays {
-            let holds_still = holds.is_some() && stay.to == moved.to;
-            if stay.transition == transition && !holds_still {
-                holders.push(holder_of(alloc, run, task, *stay, false)?)?;
+        for sleep in &task.sleeps {
+            let holds_still = holds.is_some() && sleep.to == moved.to;
+            if sleep.transition == transition && !holds_still {
+                holders.push(holder_of(alloc, run, task, *sleep, false)?)?;
             }
         }
         if let Some(holder) = holds {
-            let stay = stay_of(task, transition, moved, holder.version);
-            holders.push(holder_of(alloc, run, task, stay, true)?)?;
+            let sleep = sleep_of(task, transition, moved, holder.version);
+            holders.push(holder_of(alloc, run, task, sleep, true)?)?;
         }
     }
     Ok(holders)
 }
 
-/// Returns the stay in which a task holds a transition up in the last sample. The stay began with the first sample that
-/// shows it.
-fn stay_of(task: &Followed<'_>, transition: usize, moved: &Moved, version: Version) -> Stay {
-    let from = match task.stays.last() {
-        Some(stay) if stay.transition == transition && stay.to == moved.to => stay.from,
+/// Returns the sleep in which a task holds a transition up in the last sample. The sleep began with the first sample
+/// that shows it.
+fn sleep_of(
+    task: &Followed<'_>,
+    transition: usize,
+    moved: &SeenTransition,
+    version: Version,
+) -> HoldingSleep {
+    let from = match task.sleeps.last() {
+        Some(sleep) if sleep.transition == transition && sleep.to == moved.to => sleep.from,
         _ => moved.to,
     };
-    Stay {
+    HoldingSleep {
         transition,
         from,
         to: moved.to,
@@ -114,27 +119,31 @@ fn stay_of(task: &Followed<'_>, transition: usize, moved: &Moved, version: Versi
 }
 
 /// Returns the tasks that lag in the last sample without holding the transition up.
-fn lagging_of(alloc: Global, run: &Run<'_>) -> Result<Vec<Lagging>, AllocError> {
+fn lagging_of(alloc: Global, run: &Run<'_>) -> Result<Vec<LaggingReport>, AllocError> {
     let mut lagging = Vec::new(alloc);
     for task in &run.tasks {
         let why = match task.lag {
-            Some(Lag::Waits(Mode::Asleep)) => Why::AsleepElsewhere,
-            Some(Lag::Waits(_)) => Why::Runs,
+            Some(Lag::Waits(Mode::Asleep)) => WhyLags::AsleepElsewhere,
+            Some(Lag::Waits(_)) => WhyLags::Runs,
             _ => continue,
         };
         let task = task_of(alloc, task)?;
-        lagging.push(Lagging { task, why })?;
+        lagging.push(LaggingReport { task, why })?;
     }
     Ok(lagging)
 }
 
 /// Returns the tasks that a force left asleep in a function that is no longer called. If nothing was forced, returns
 /// the tasks that a force would leave asleep in such a function.
-fn left_of(alloc: Global, run: &Run<'_>, holding: &[Holding]) -> Result<Vec<Left>, AllocError> {
+fn left_of(
+    alloc: Global,
+    run: &Run<'_>,
+    holding: &[Holder],
+) -> Result<Vec<LeftReport>, AllocError> {
     let mut left = Vec::new(alloc);
     for holder in holding {
         if let Some(task) = run.tasks.get(holder.number) {
-            left.push(Left {
+            left.push(LeftReport {
                 task: task_of(alloc, task)?,
                 function: function_name(alloc, run, holder.version)?,
             })?;
@@ -145,11 +154,11 @@ fn left_of(alloc: Global, run: &Run<'_>, holding: &[Holding]) -> Result<Vec<Left
 
 /// Returns how a transition ended, or `None` if it hasn't ended. If the log shows a force, the force ended the last
 /// transition.
-fn end_of(found: &Explained<'_>, moved: &Moved, is_last: bool) -> Option<EndReport> {
+fn end_of(found: &Explained<'_>, moved: &SeenTransition, is_last: bool) -> Option<EndReport> {
     if let Some(end) = moved.end {
         let how = match end.ending {
-            Ending::Complete => How::Complete,
-            Ending::Reversed => How::Reversed,
+            TransitionEnding::Complete => HowEnded::Complete,
+            TransitionEnding::Reversed => HowEnded::Reversed,
         };
         return Some(EndReport {
             at_us: end.at.0,
@@ -159,7 +168,7 @@ fn end_of(found: &Explained<'_>, moved: &Moved, is_last: bool) -> Option<EndRepo
     match found.forced {
         Some(at) if is_last => Some(EndReport {
             at_us: at.0,
-            how: How::Forced,
+            how: HowEnded::Forced,
         }),
         _ => None,
     }
@@ -169,15 +178,15 @@ fn transition_of(
     alloc: Global,
     found: &Explained<'_>,
     number: usize,
-    moved: &Moved,
-    holding: &[Holding],
+    moved: &SeenTransition,
+    holding: &[Holder],
 ) -> Result<TransitionReport, AllocError> {
     let run = &found.run;
     let is_last = number.saturating_add(1) == run.transitions.len();
     let end = end_of(found, moved, is_last);
     let (since, is_start_known) = match moved.since {
-        Since::Logged(at) => (at, true),
-        Since::AtOrBefore(at) => (at, false),
+        TransitionStart::Logged(at) => (at, true),
+        TransitionStart::AtOrBefore(at) => (at, false),
     };
     let becomes = if moved.target {
         Becomes::Enabled
@@ -207,7 +216,7 @@ fn transition_of(
 fn transitions_of(
     alloc: Global,
     found: &Explained<'_>,
-    holding: &[Holding],
+    holding: &[Holder],
 ) -> Result<Vec<TransitionReport>, AllocError> {
     let mut transitions = Vec::new(alloc);
     for (number, moved) in found.run.transitions.iter().enumerate() {
@@ -217,12 +226,12 @@ fn transitions_of(
 }
 
 /// Counts the tasks that lag but aren't followed.
-fn others_of(capture: &Capture<'_>, run: &Run<'_>) -> Counts {
+fn others_of(capture: &Capture<'_>, run: &Run<'_>) -> TaskCounts {
     let (tasks, running, sleeping) = match run.last.and_then(|last| capture.samples.get(last)) {
         Some(sample) => (sample.line.tasks, sample.line.running, sample.line.sleeping),
         None => (0, 0, 0),
     };
-    Counts {
+    TaskCounts {
         tasks,
         running,
         sleeping,
@@ -261,7 +270,7 @@ pub fn report_of(
             None => None,
         },
         others: others_of(capture, run),
-        samples: Samples {
+        samples: SampleCounts {
             shown: run.shown,
             left_out: run.torn,
             later: found.later,

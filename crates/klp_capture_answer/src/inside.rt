@@ -1,13 +1,13 @@
 //! The tasks inside of functions that a patch would change, before the patch is loaded.
 use crate::gather::text_of;
-use crate::report::{Inside, TaskReport};
+use crate::report::{InsideReport, TaskReport};
 use klp_capture::{Activity, Capture, Sample, SeenTask};
 use std::alloc::{AllocError, Global};
 
 /// A task as it was last seen. Also has the number of samples in which the task was inside of a function for which
 /// `klpcap` was told to look.
 #[derive(Clone, Copy)]
-struct Seen<'a> {
+struct LastSeen<'a> {
     task: SeenTask<'a>,
     function: Option<&'a [u8]>,
     samples: u64,
@@ -27,7 +27,7 @@ fn asked_of<'a>(capture: &Capture<'a>, seen: &SeenTask<'a>) -> Option<&'a [u8]> 
 fn take_sample<'a>(
     capture: &Capture<'a>,
     sample: &Sample,
-    all: &mut Vec<Seen<'a>>,
+    all: &mut Vec<LastSeen<'a>>,
 ) -> Result<(), AllocError> {
     for task in sample.tasks.of(&capture.seen) {
         let function = asked_of(capture, task);
@@ -38,7 +38,7 @@ fn take_sample<'a>(
                 own.task = *task;
                 own.function = function;
             }
-            None => all.push(Seen {
+            None => all.push(LastSeen {
                 task: *task,
                 function,
                 samples: 0,
@@ -62,7 +62,10 @@ fn take_sample<'a>(
 
 /// Returns the tasks that the last sample shows inside of functions for which `klpcap` was told to look. If `klpcap`
 /// wasn't told to look for any function, the list is empty.
-pub(crate) fn inside_of(alloc: Global, capture: &Capture<'_>) -> Result<Vec<Inside>, AllocError> {
+pub(crate) fn inside_of(
+    alloc: Global,
+    capture: &Capture<'_>,
+) -> Result<Vec<InsideReport>, AllocError> {
     let mut inside = Vec::new(alloc);
     let mut all = Vec::new(alloc);
     if capture.asked.is_empty() {
@@ -76,7 +79,7 @@ pub(crate) fn inside_of(alloc: Global, capture: &Capture<'_>) -> Result<Vec<Insi
             continue;
         };
         let task = seen.task.task;
-        inside.push(Inside {
+        inside.push(InsideReport {
             task: TaskReport {
                 name: text_of(alloc, task.name)?,
                 thread: task.thread,

@@ -1,76 +1,96 @@
 //! The sample that none of the tried runs shows: the state in the log at this sample, and the state by the rules.
-use crate::report::Refused;
+use crate::report::RefusedReport;
 use klp_capture::{Capture, Text};
 use klp_capture_run::{Explained, Followed};
-use klp_diagnostics::rules_of;
-use klp_faulty_words::lines::line_at;
+use klp_diagnostics::{NamedSight, Sides, TaskNames, TaskNumbers, sides_in};
+use klp_messages::line_at;
 use klp_program::Verdict;
+use klp_types::TaskId;
 use std::alloc::{AllocError, Global};
 use std::fmt;
 
-/// A sentence, printed with names. Each `task N` in the sentence is printed as the task's name and the number of its
-/// thread.
+/// Names a task by its name and the number of its thread, such as `billing[90]`. A task that the run doesn't have is
+/// named by its number.
 #[derive(Clone, Copy)]
-struct WithNames<'r, 'a> {
-    text: &'r str,
-    tasks: &'r [Followed<'a>],
-}
+struct ThreadNames<'r, 'a>(&'r [Followed<'a>]);
 
-/// Returns the number at the front of a text, and the rest of the text. Returns `None` if there is no number.
-fn number_at_front(text: &str) -> Option<(usize, &str)> {
-    let length = text
-        .bytes()
-        .take_while(|byte| byte.is_ascii_digit())
-        .count();
-    let (digits, behind) = (text.get(..length)?, text.get(length..)?);
-    match digits.parse::<usize>() {
-        Ok(number) => Some((number, behind)),
-        Err(_) => None,
+impl TaskNames for ThreadNames<'_, '_> {
+    fn write_name<W: fmt::Write>(&self, task: TaskId, f: &mut fmt::Formatter<W>) -> fmt::Result {
+        match self.0.get(usize::from(task.0)) {
+            Some(Followed { name, thread, .. }) => write!(f, "{}[{thread}]", Text(name)),
+            None => TaskNumbers.write_name(task, f),
+        }
     }
 }
 
-impl fmt::Display for WithNames<'_, '_> {
+/// A task of the run, printed by its name.
+#[derive(Clone, Copy)]
+struct RunTask<'r, 'a> {
+    names: ThreadNames<'r, 'a>,
+    task: TaskId,
+}
+
+impl fmt::Display for RunTask<'_, '_> {
     fn fmt<W: fmt::Write>(&self, f: &mut fmt::Formatter<W>) -> fmt::Result {
-        let mut parts = self.text.split("task ");
-        if let Some(first) = parts.next() {
-            f.write_str(first)?;
-        }
-        for part in parts {
-            let found = match number_at_front(part) {
-                Some((number, behind)) => match self.tasks.get(number) {
-                    Some(task) => Some((task, behind)),
-                    None => None,
-                },
-                None => None,
-            };
-            match found {
-                Some((task, behind)) => {
-                    let (name, thread) = (Text(task.name), task.thread);
-                    write!(f, "{name}[{thread}]{behind}")?;
-                }
-                None => write!(f, "task {part}")?,
-            }
-        }
-        Ok(())
+        self.names.write_name(self.task, f)
     }
 }
 
-/// Returns in words what was seen, by a line of the trace.
-fn seen_at(alloc: Global, tasks: &[Followed<'_>], line: &str) -> Result<String, AllocError> {
-    let words = line.split_once(' ');
-    let shown = match words {
-        Some(("saw", rest)) => match number_at_front(rest) {
-            Some((number, state)) => format!(in alloc; "patch_state{state} of task {number}")?,
-            None => format!(in alloc; "{rest} (a patch, `enabled`, `transition`)")?,
+/// Returns in words what was seen. Returns `None` of a sight that no sample has.
+fn sight_words(
+    alloc: Global,
+    names: ThreadNames<'_, '_>,
+    sight: &NamedSight,
+) -> Result<Option<String>, AllocError> {
+    Ok(match sight {
+        NamedSight::State {
+            task,
+            state: Some(state),
+        } => {
+            let (state, task) = (state.number(), RunTask { names, task: *task });
+            Some(format!(in alloc; "patch_state {state} of {task}")?)
+        }
+        NamedSight::Files {
+            patch,
+            files: Some(files),
+        } => {
+            let (enabled, transition) = (u8::from(files.enabled), u8::from(files.transition));
+            Some(format!(in alloc;
+                "{patch} {enabled} {transition} (a patch, `enabled`, `transition`)"
+            )?)
+        }
+        NamedSight::Files { patch, files: None } => {
+            Some(format!(in alloc; "{patch} gone (a patch, `enabled`, `transition`)")?)
+        }
+        NamedSight::Version { task, version } => {
+            let (task, version) = (RunTask { names, task: *task }, version.spelled());
+            Some(format!(in alloc; "{task} inside of {version}")?)
+        }
+        NamedSight::State { state: None, .. } | NamedSight::Text => None,
+    })
+}
+
+/// Returns in words the state in the log. If nothing was seen at the line of the trace, returns the line.
+fn log_side(
+    alloc: Global,
+    names: ThreadNames<'_, '_>,
+    sides: &Option<Sides>,
+    line: &[u8],
+) -> Result<Option<String>, AllocError> {
+    if let Some(
+        Sides {
+            kernel: Some(sight),
+            ..
         },
-        Some(("ran", rest)) => match number_at_front(rest) {
-            Some((number, version)) => format!(in alloc; "task {number} inside of{version}")?,
-            None => format!(in alloc; "{line}")?,
-        },
-        _ => format!(in alloc; "{line}")?,
-    };
-    let text = shown.as_str();
-    format!(in alloc; "{}", WithNames { text, tasks })
+    ) = sides
+        && let Some(words) = sight_words(alloc, names, sight)?
+    {
+        return Ok(Some(words));
+    }
+    match str::from_utf8(line) {
+        Ok(text) => Ok(Some(String::from_str(alloc, text)?)),
+        Err(_) => Ok(None),
+    }
 }
 
 /// Returns both sides at the line of the trace where the run ends. The first is the state in the log, and the second
@@ -79,22 +99,17 @@ fn both_sides(
     alloc: Global,
     found: &Explained<'_>,
 ) -> Result<(Option<String>, Option<String>), AllocError> {
-    let tasks = found.run.tasks.as_slice();
+    let names = ThreadNames(found.run.tasks.as_slice());
     let trace = found.run.trace.as_bytes();
     let line = match found.verdict {
         Verdict::Differs(differs) => differs.item as u64,
         Verdict::Dishonest(fault) => fault.item as u64,
         Verdict::Honest(_) => return Ok((None, None)),
     };
-    let log = match str::from_utf8(line_at(trace, line)) {
-        Ok(text) => Some(seen_at(alloc, tasks, text)?),
-        Err(_) => None,
-    };
-    let rules = match rules_of(alloc, found.catalog.as_bytes(), trace, line) {
-        Some(text) => {
-            let text = text.as_str();
-            Some(format!(in alloc; "{}", WithNames { text, tasks })?)
-        }
+    let sides = sides_in(alloc, found.catalog.as_bytes(), trace, line);
+    let log = log_side(alloc, names, &sides, line_at(trace, line))?;
+    let rules = match &sides {
+        Some(sides) => Some(format!(in alloc; "{}", sides.rules.in_words(&names))?),
         None => None,
     };
     Ok((log, rules))
@@ -105,12 +120,12 @@ pub(crate) fn refused_of(
     alloc: Global,
     capture: &Capture<'_>,
     found: &Explained<'_>,
-) -> Result<Option<Refused>, AllocError> {
+) -> Result<Option<RefusedReport>, AllocError> {
     let Some(sample) = found.failed.and_then(|failed| capture.samples.get(failed)) else {
         return Ok(None);
     };
     let (log, rules) = both_sides(alloc, found)?;
-    Ok(Some(Refused {
+    Ok(Some(RefusedReport {
         from_us: sample.line.from.0,
         to_us: sample.line.to.0,
         log,

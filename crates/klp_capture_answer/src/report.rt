@@ -1,5 +1,5 @@
 //! The findings about a log, as data. Times are microseconds since the machine booted.
-use klp_capture::Moment;
+use klp_capture::BootTime;
 use serde::Serialize;
 use std::alloc::Global;
 use std::io;
@@ -15,10 +15,10 @@ pub struct TaskReport {
 
 /// A period in which a task held a transition up. The task slept in one function all this time, and didn't run.
 #[derive(Drop, Serialize)]
-pub struct Holder {
+pub struct HolderReport {
     pub(crate) task: TaskReport,
     pub(crate) function: String,
-    /// The time of the first sample that shows the stay. `to_us` is the time of the last one.
+    /// The time of the first sample that shows the sleep. `to_us` is the time of the last one.
     pub(crate) from_us: u64,
     pub(crate) to_us: u64,
     /// Whether the task held the transition up in the last sample, and the transition hasn't ended.
@@ -28,7 +28,7 @@ pub struct Holder {
 /// Why a task lags without holding the transition up.
 #[derive(Clone, Copy, PartialEq, Eq, Serialize)]
 #[serde(rename_all = "snake_case")]
-pub(crate) enum Why {
+pub(crate) enum WhyLags {
     /// The task runs.
     Runs,
     /// The task sleeps, but in none of those functions of the patch that the log names.
@@ -37,9 +37,9 @@ pub(crate) enum Why {
 
 /// A task that lags without holding the transition up.
 #[derive(Drop, Serialize)]
-pub struct Lagging {
+pub struct LaggingReport {
     pub(crate) task: TaskReport,
-    pub(crate) why: Why,
+    pub(crate) why: WhyLags,
 }
 
 /// What the patch in transition becomes.
@@ -53,7 +53,7 @@ pub(crate) enum Becomes {
 /// How a transition ended.
 #[derive(Clone, Copy, PartialEq, Eq, Serialize)]
 #[serde(rename_all = "snake_case")]
-pub(crate) enum How {
+pub(crate) enum HowEnded {
     Complete,
     Reversed,
     Forced,
@@ -63,7 +63,7 @@ pub(crate) enum How {
 #[derive(Clone, Copy, Serialize)]
 pub struct EndReport {
     pub(crate) at_us: u64,
-    pub(crate) how: How,
+    pub(crate) how: HowEnded,
 }
 
 /// A transition that the log shows.
@@ -78,21 +78,21 @@ pub struct TransitionReport {
     pub(crate) first_sample_us: u64,
     pub(crate) last_sample_us: u64,
     pub(crate) end: Option<EndReport>,
-    pub(crate) holders: Vec<Holder>,
+    pub(crate) holders: Vec<HolderReport>,
     /// The tasks that lag in the last sample without holding the transition up.
-    pub(crate) lagging: Vec<Lagging>,
+    pub(crate) lagging: Vec<LaggingReport>,
 }
 
 /// A task that a force leaves asleep in a function that is no longer called.
 #[derive(Drop, Serialize)]
-pub struct Left {
+pub struct LeftReport {
     pub(crate) task: TaskReport,
     pub(crate) function: String,
 }
 
 /// The sample that none of the tried runs shows, with the states of the log and of the rules at this sample.
 #[derive(Drop, Serialize)]
-pub struct Refused {
+pub struct RefusedReport {
     pub(crate) from_us: u64,
     pub(crate) to_us: u64,
     /// The state in the log.
@@ -103,7 +103,7 @@ pub struct Refused {
 
 /// A task that was seen inside of a function for which `klpcap` was told to look.
 #[derive(Drop, Serialize)]
-pub struct Inside {
+pub struct InsideReport {
     pub(crate) task: TaskReport,
     pub(crate) function: String,
     /// Whether the task sleeps in the function. If so, it would hold a transition up. A running task may leave the
@@ -115,7 +115,7 @@ pub struct Inside {
 
 /// How many tasks the last sample shows, and how many of these tasks lag without being followed.
 #[derive(Clone, Copy, Serialize)]
-pub struct Counts {
+pub struct TaskCounts {
     pub(crate) tasks: u64,
     pub(crate) running: u64,
     pub(crate) sleeping: u64,
@@ -130,7 +130,7 @@ pub struct Counts {
 /// How many samples a run of the rules shows. Also has the number of samples that were left out, since a patch changed
 /// while they were taken.
 #[derive(Clone, Copy, Serialize)]
-pub struct Samples {
+pub struct SampleCounts {
     pub(crate) shown: u64,
     pub(crate) left_out: u64,
     /// How many samples weren't reached. They are the samples after a force, and the samples from the first one that no
@@ -146,17 +146,17 @@ pub struct Report {
     pub(crate) missing: Vec<String>,
     /// Whether `klpcap` was told to look for functions that a patch would change.
     pub(crate) is_preflight: bool,
-    pub(crate) inside: Vec<Inside>,
+    pub(crate) inside: Vec<InsideReport>,
     pub(crate) transitions: Vec<TransitionReport>,
     /// The tasks that a force left, or would leave, asleep in a function that is no longer called.
-    pub(crate) left_by_force: Vec<Left>,
+    pub(crate) left_by_force: Vec<LeftReport>,
     pub(crate) forced_at_us: Option<u64>,
-    pub(crate) others: Counts,
-    pub(crate) samples: Samples,
+    pub(crate) others: TaskCounts,
+    pub(crate) samples: SampleCounts,
     pub(crate) is_cut_off: bool,
     pub(crate) is_explained: bool,
     pub(crate) is_refuted: bool,
-    pub(crate) refused: Option<Refused>,
+    pub(crate) refused: Option<RefusedReport>,
 }
 
 impl Report {
@@ -166,9 +166,9 @@ impl Report {
     }
 }
 
-/// Returns a time of a report as a moment.
-pub(crate) fn seconds(microseconds: u64) -> Moment {
-    Moment(microseconds)
+/// Returns a time of a report.
+pub(crate) fn seconds(microseconds: u64) -> BootTime {
+    BootTime(microseconds)
 }
 
 /// Writes a report as JSON: one object, whose fields are those of [`Report`].

@@ -1,10 +1,10 @@
 //! A report in words.
 use crate::report::{
-    Becomes, EndReport, Holder, How, Inside, Lagging, Left, Refused, Report, TaskReport,
-    TransitionReport, Why, seconds,
+    Becomes, EndReport, HolderReport, HowEnded, InsideReport, LaggingReport, LeftReport,
+    RefusedReport, Report, TaskReport, TransitionReport, WhyLags, seconds,
 };
 use klp_capture::Elapsed;
-use klp_faulty_words::escaped::Escaped;
+use klp_messages::Escaped;
 use std::io::Write;
 use std::{fmt, io};
 
@@ -33,7 +33,7 @@ impl fmt::Display for Becomes {
     }
 }
 
-/// Returns the time between two moments, the earlier one first.
+/// Returns the time between two times, the earlier one first.
 fn elapsed(from_us: u64, to_us: u64) -> Elapsed {
     Elapsed(seconds(from_us), seconds(to_us))
 }
@@ -47,7 +47,7 @@ fn print_more<W: Write>(count: usize, what: &str, out: &mut W) -> io::Result<()>
 }
 
 /// Writes which task holds the transition up, or held it up, and for how long.
-fn print_holder<W: Write>(holder: &Holder, last_us: u64, out: &mut W) -> io::Result<()> {
+fn print_holder<W: Write>(holder: &HolderReport, last_us: u64, out: &mut W) -> io::Result<()> {
     let (task, function) = (&holder.task, shown(&holder.function));
     let kind = if task.is_kernel_thread {
         ", a kernel thread,"
@@ -93,19 +93,19 @@ fn print_holders<W: Write>(
 }
 
 /// Writes which task lags without holding the transition up.
-fn print_lagging<W: Write>(lagging: &Lagging, out: &mut W) -> io::Result<()> {
+fn print_lagging<W: Write>(lagging: &LaggingReport, out: &mut W) -> io::Result<()> {
     let task = &lagging.task;
     match lagging.why {
-        Why::AsleepElsewhere => writeln!(
+        WhyLags::AsleepElsewhere => writeln!(
             out,
             "  {task} lags, asleep in no function that the log has of the patch: a try switches it, \
             unless its stack can't be read"
         ),
-        Why::Runs if task.is_kernel_thread => writeln!(
+        WhyLags::Runs if task.is_kernel_thread => writeln!(
             out,
             "  {task}, a kernel thread, lags, and runs: a try switches it once it sleeps elsewhere"
         ),
-        Why::Runs => writeln!(
+        WhyLags::Runs => writeln!(
             out,
             "  {task} lags, and runs: it is switched when it next leaves the kernel"
         ),
@@ -115,10 +115,10 @@ fn print_lagging<W: Write>(lagging: &Lagging, out: &mut W) -> io::Result<()> {
 /// Returns in words how a transition ended.
 fn ending(transition: &TransitionReport, end: EndReport) -> &'static str {
     match (end.how, transition.becomes) {
-        (How::Complete, _) => "and that is complete",
-        (How::Reversed, Becomes::Enabled) => "and that was reversed",
-        (How::Reversed, Becomes::Disabled) => "and that was reversed: it stays enabled",
-        (How::Forced, _) => "and then it was forced",
+        (HowEnded::Complete, _) => "and that is complete",
+        (HowEnded::Reversed, Becomes::Enabled) => "and that was reversed",
+        (HowEnded::Reversed, Becomes::Disabled) => "and that was reversed: it stays enabled",
+        (HowEnded::Forced, _) => "and then it was forced",
     }
 }
 
@@ -158,7 +158,7 @@ fn print_transition<W: Write>(transition: &TransitionReport, out: &mut W) -> io:
 }
 
 /// Writes which tasks a force left asleep, or would leave asleep.
-fn print_left<W: Write>(left: &[Left], front: &str, out: &mut W) -> io::Result<()> {
+fn print_left<W: Write>(left: &[LeftReport], front: &str, out: &mut W) -> io::Result<()> {
     for left in left.iter().take(SHOWN) {
         let (task, function) = (&left.task, shown(&left.function));
         writeln!(
@@ -237,7 +237,7 @@ impl Report {
                 if matches!(
                     last.end,
                     Some(EndReport {
-                        how: How::Forced,
+                        how: HowEnded::Forced,
                         ..
                     })
                 ) => { print_left(&self.left_by_force, "the force left ", out) }
@@ -312,7 +312,7 @@ impl Report {
 }
 
 /// Writes a task that is inside of a function for which `klpcap` was told to look.
-fn print_inside<W: Write>(inside: &Inside, out: &mut W) -> io::Result<()> {
+fn print_inside<W: Write>(inside: &InsideReport, out: &mut W) -> io::Result<()> {
     let (task, function) = (&inside.task, shown(&inside.function));
     if inside.is_asleep {
         write!(out, "{task} would hold it up: it is asleep in {function}")?;
@@ -329,7 +329,7 @@ fn print_inside<W: Write>(inside: &Inside, out: &mut W) -> io::Result<()> {
 }
 
 /// Writes the sample that none of the tried runs shows, with the states of the log and of the rules at this sample.
-fn print_refused<W: Write>(refused: &Refused, out: &mut W) -> io::Result<()> {
+fn print_refused<W: Write>(refused: &RefusedReport, out: &mut W) -> io::Result<()> {
     let (from, to) = (seconds(refused.from_us), seconds(refused.to_us));
     writeln!(
         out,

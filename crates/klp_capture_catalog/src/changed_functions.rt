@@ -18,13 +18,13 @@ pub(crate) struct FoundFunction<'a> {
 
 /// The functions that any row has. Each function is listed once.
 #[derive(Drop)]
-pub(crate) struct Found<'a> {
+pub(crate) struct FoundFunctions<'a> {
     pub(crate) functions: Vec<FoundFunction<'a>>,
     /// The functions that a catalog has no room for.
     pub(crate) left_out: Vec<FoundFunction<'a>>,
 }
 
-impl<'a> Found<'a> {
+impl<'a> FoundFunctions<'a> {
     /// Returns how many objects a patch changes.
     fn targets(&self, patch: usize) -> usize {
         let mut targets: usize = 0;
@@ -73,8 +73,8 @@ pub(crate) fn found_in<'a>(
     rows: &[PatchRow<'a>],
     patches: &[&'a [u8]],
     objects: &mut Vec<&'a [u8]>,
-) -> Result<Found<'a>, AllocError> {
-    let mut found = Found {
+) -> Result<FoundFunctions<'a>, AllocError> {
+    let mut found = FoundFunctions {
         functions: Vec::new(alloc),
         left_out: Vec::new(alloc),
     };

@@ -1,14 +1,14 @@
 //! Reads the kernel's own log, which a log of `klpcap` contains. It says when a transition started, and whether it was
 //! forced.
-use klp_capture::{Capture, Moment, Sample};
+use klp_capture::{BootTime, Capture, Sample};
 
 /// When a transition started.
 #[derive(Clone, Copy, PartialEq, Eq)]
-pub enum Since {
-    /// The moment at which the transition started, by the kernel's own log.
-    Logged(Moment),
+pub enum TransitionStart {
+    /// The time at which the transition started, by the kernel's own log.
+    Logged(BootTime),
     /// The start isn't known. It was when this sample was taken, the first of the transition, or before.
-    AtOrBefore(Moment),
+    AtOrBefore(BootTime),
 }
 
 /// The text that the kernel writes to its log when a transition is forced.
@@ -40,9 +40,9 @@ fn milestone_of(text: &[u8], patch: &[u8]) -> Option<Milestone> {
 /// By how many microseconds the clock of the kernel's log and that of the samples may differ.
 const CLOCKS_APART: u64 = 200_000;
 
-/// Whether a moment of the kernel's log may be after the beginning of a sample. The two clocks differ by at most
+/// Whether a time of the kernel's log may be after the beginning of a sample. The two clocks differ by at most
 /// `CLOCKS_APART`.
-fn is_behind(at: Moment, sample: Moment) -> bool {
+fn is_behind(at: BootTime, sample: BootTime) -> bool {
     at.0.saturating_add(CLOCKS_APART) >= sample.0
 }
 
@@ -53,8 +53,8 @@ pub fn since_when(
     patch: &[u8],
     target: bool,
     sample: &Sample,
-    before: Option<Moment>,
-) -> Since {
+    before: Option<BootTime>,
+) -> TransitionStart {
     let mut start = None;
     for line in &capture.log {
         if line.at > sample.line.to {
@@ -67,8 +67,10 @@ pub fn since_when(
         }
     }
     match start {
-        Some(at) if before.is_none_or(|before| is_behind(at, before)) => Since::Logged(at),
-        _ => Since::AtOrBefore(sample.line.from),
+        Some(at) if before.is_none_or(|before| is_behind(at, before)) => TransitionStart::Logged(
+            at,
+        ),
+        _ => TransitionStart::AtOrBefore(sample.line.from),
     }
 }
 
@@ -81,7 +83,7 @@ fn contains(bytes: &[u8], wanted: &[u8]) -> bool {
 
 /// Returns when a transition was forced while `klpcap` recorded, by the kernel's log. A force before the recording
 /// doesn't count, even if the kernel's log has it.
-pub fn forced_in(capture: &Capture<'_>) -> Option<Moment> {
+pub fn forced_in(capture: &Capture<'_>) -> Option<BootTime> {
     let first = capture.samples.first()?.line.from;
     let line = capture
         .log

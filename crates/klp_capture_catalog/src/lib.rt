@@ -6,7 +6,7 @@
 //! `kernel_log` reads when a transition started, and whether it was forced, from the kernel's own log.
 //!
 //! `klp_capture_run` checks the trace against the rules, and compares the trace's task states and patch files with the
-//! log. The names, the functions that tasks are inside of, and the moment of a force aren't compared. They come from this
+//! log. The names, the functions that tasks are inside of, and the time of a force aren't compared. They come from this
 //! crate, which has no contracts.
 #![tactic(auto)]
 
@@ -17,7 +17,7 @@ mod named;
 mod patch_lines;
 mod transition;
 
-pub use kernel_log::{Since, forced_in, since_when};
+pub use kernel_log::{TransitionStart, forced_in, since_when};
 pub use named::{Functions, SeenFunction, SeenPatch, SeenVersion, files_in, moving_in};
 pub use patch_lines::{Files, PatchLines, completes, starts};
-pub use transition::{End, Ending, Moved};
+pub use transition::{SeenTransition, TransitionEnd, TransitionEnding};

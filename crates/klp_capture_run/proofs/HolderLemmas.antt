@@ -1,5 +1,5 @@
 -- Who holds a transition up, task by task; which samples are shown; and what is known of an option's value.
-use Rattle.std.proofs.Common.{◌≡◌, ℕ, ◌+◌, ◌<◌, suc, List, ◌∷◌, ◌++◌, length, get_or, drop, Option, Some, None, refl, subst, add-one}
+use Rattle.std.proofs.Common.{◌≡◌, ℕ, ◌+◌, ◌<◌, List, ◌++◌, length, get_or, drop, Option, Some, None, refl, subst, add-one}
 use Rattle.std.specs.Prelude.{IfSome}
 use Rattle.std.proofs.Math.Seq.{drop-cons}
 use Rattle.klp_core.specs.declared.holders.Lag.{Lag}
@@ -7,7 +7,7 @@ use Rattle.klp_capture.specs.declared.capture.Capture.{Capture}
 use Rattle.klp_capture.specs.declared.capture.Sample.{Sample}
 use Rattle.klp_capture.specs.declared.thread.Thread.{Thread}
 use Rattle.klp_capture.specs.declared.thread.PatchName.{PatchName}
-use Rattle.klp_capture.specs.declared.time.Moment.{Moment}
+use Rattle.klp_capture.specs.declared.time.BootTime.{BootTime}
 use Rattle.klp_capture.specs.Shown.{ShowSamples, samples_before}
 use Rattle.klp_capture_run.specs.Holders.{holder_at, holders_from}
 
@@ -21,7 +21,7 @@ if_some P Q None follows given = given
 if_some P Q (Some value) follows given = follows value given
 
 -- what is shown of the samples that are reached is shown of those before the first that fails
-pub shown_of : {capture : Capture} {forced : Option Moment} {patches : List PatchName} {threads : List Thread} {lines : List (List ℕ)}
+pub shown_of : {capture : Capture} {forced : Option BootTime} {patches : List PatchName} {threads : List Thread} {lines : List (List ℕ)}
     {own inner outer : List Sample} (unshown failed unjudged : Option ℕ) (all : List Sample) → outer ≡ samples_before failed inner
     → inner ≡ samples_before unjudged own → own ≡ all → ShowSamples capture forced patches threads (samples_before unshown outer) lines
     → ShowSamples capture forced patches threads (samples_before unshown (samples_before failed (samples_before unjudged all))) lines

@@ -1,6 +1,5 @@
 -- Who holds a transition up behind a trace: the rules' own answer in the state that the trace leads to.
 use Rattle.std.specs.Prelude.{◌≡◌, ℕ, suc, List, [], ◌∷◌, ◌++◌, Option, Some, None, Ok}
-use Rattle.klp_types.specs.declared.version.Version.{Version}
 use Rattle.klp_catalog_text.specs.Plan.{Plan}
 use Rattle.klp_catalog_text.specs.Text.{plan_of}
 use Rattle.klp_manager_state.specs.Managed.{Managed, setting_of}
@@ -11,7 +10,7 @@ use Rattle.klp_core.specs.declared.holders.Lag.TheVariants.{Holds}
 use Rattle.klp_watch.specs.declared.observed.Observed.{Observed}
 use Rattle.klp_watch.specs.ComparedWhole.{AreAllSo}
 use Rattle.klp_trace.specs.Traces.{IsTraceOf}
-use Rattle.klp_program.specs.Booted.{IsBootedOver}
+use Rattle.klp_boot.specs.Booted.{IsBootedOver}
 use Rattle.klp_capture_run.specs.declared.holders.Holder.{Holder}
 
 -- each item is as the rules say, and in the state behind them tasks lag so

@@ -3,7 +3,6 @@
 ghost use Rattle.std.specs.Prelude.{◌≡◌, ◌≤◌, ◌<◌, ◌↔◌, true, false, length, string_bytes, None, is_some, Ok, IfOk};
 ghost use Rattle.std.specs.Prelude.{IfSome};
 ghost use Rattle.std.specs.Str.Lines.{lines};
-ghost use Rattle.klp_catalog_text.specs.Within.{AreTargetsWithin};
 ghost use Rattle.klp_program.specs.Watches.{Watches};
 ghost use Rattle.klp_capture.specs.Shown.{ShowSamples, samples_before};
 ghost use Rattle.klp_capture_run.specs.Explained.{is_honest};
@@ -11,13 +10,11 @@ ghost use Rattle.klp_capture_run.specs.Holders.{LagOver, holders_in};
 
 use crate::holders::{Holder, Lags, holders_of, lags_over};
 use crate::run::Run;
-use klp_callback::Boxed;
-use klp_capture::{Capture, Moment, PatchName, Sample, Text, Thread};
+use klp_boot::{Fault, ManagerUse, over_text};
+use klp_capture::{BootTime, Capture, PatchName, Sample, Text, Thread};
 use klp_capture_catalog::{Functions, forced_in};
-use klp_catalog::Catalog;
-use klp_catalog_text::Plan;
 use klp_core::Manager;
-use klp_program::{Fault, Verdict, boot, close, scripted, watch_over_text};
+use klp_program::{Verdict, watch_over_text};
 use std::alloc::{AllocError, Global};
 
 /// What was found out about a log.
@@ -43,7 +40,7 @@ pub struct Explained<'a> {
     /// which nothing leads.
     pub later: u64,
     /// When the transition was forced, or `None`. Samples after a force aren't looked at.
-    pub forced: Option<Moment>,
+    pub forced: Option<BootTime>,
     /// The verdict on the trace.
     pub verdict: Verdict,
     /// The tasks that lag at the end of the trace, by their numbers. `None` if the trace breaks the rules.
@@ -110,43 +107,29 @@ impl<'a> Explained<'a> {
     }
 }
 
-// Explores the samples, and then drops the manager.
-fn explore_by<'a>(
-    alloc: Global,
-    manager: Manager,
-    run: &mut Run<'a>,
-    capture: &Capture<'a>,
-    forced: Option<Moment>,
-) -> Result<Option<usize>, AllocError> {
-    let mut manager = manager;
-    let _for_its_clause = manager.mark();
-    let failed = run.explore(alloc, &mut manager, capture, forced);
-    close(manager);
-    failed
+/// The search for a run that shows the samples of a log.
+#[derive(Drop)]
+struct Search<'c, 'a> {
+    run: Run<'a>,
+    capture: &'c Capture<'a>,
+    forced: Option<BootTime>,
 }
 
-// Boots a manager with a plan, and explores the samples. The callbacks are made here, as for watching a trace. A plan
-// that is made of a log has no callbacks.
-fn explore_over_plan<'a>(
-    alloc: Global,
-    plan: Plan,
-    run: &mut Run<'a>,
-    capture: &Capture<'a>,
-    forced: Option<Moment>,
-) -> Result<Option<usize>, Fault>
-    requires { AreTargetsWithin (length plan.objects) plan.patches }
-{
-    let mut callbacks = Vec::new(alloc);
-    while let Some(callback) = scripted(alloc, &plan, callbacks.len())? {
-        callbacks.push(Boxed::new(callback))?;
+impl ManagerUse for Search<'_, '_> {
+    /// The first sample to which the run doesn't lead, if there is such a sample.
+    type Done = Result<Option<usize>, AllocError>;
+
+    ghost comes_to = { λ _ _ _ _. Unit {0} };
+
+    fn run(&mut self, alloc: Global, manager: &mut Manager) -> Result<Option<usize>, AllocError> {
+        let _for_its_clause = manager.mark();
+        self.run.explore(alloc, manager, self.capture, self.forced)
     }
-    let manager = boot(alloc, plan, callbacks)?;
-    Ok(explore_by(alloc, manager, run, capture, forced)?)
 }
 
 /// A run, and the first sample to which it doesn't lead, if there is such a sample.
 #[derive(Drop)]
-struct Outcome<'a> {
+struct Exploration<'a> {
     run: Run<'a>,
     catalog: String,
     stopped: Option<usize>,
@@ -156,16 +139,19 @@ struct Outcome<'a> {
 fn explored<'a>(
     alloc: Global,
     capture: &Capture<'a>,
-    forced: Option<Moment>,
+    forced: Option<BootTime>,
     guesses: bool,
-) -> Result<Outcome<'a>, Fault> {
+) -> Result<Exploration<'a>, Fault> {
     let functions = Functions::of(alloc, capture, guesses)?;
     let catalog = functions.catalog(alloc)?;
-    let mut run = Run::new(alloc, functions)?;
-    let plan = Catalog::read(alloc, catalog.as_bytes())?;
-    let stopped = explore_over_plan(alloc, plan, &mut run, capture, forced)?;
-    Ok(Outcome {
-        run,
+    let mut search = Search {
+        run: Run::new(alloc, functions)?,
+        capture,
+        forced,
+    };
+    let stopped = over_text(alloc, catalog.as_bytes(), &mut search)??;
+    Ok(Exploration {
+        run: search.run,
         catalog,
         stopped,
     })
@@ -175,7 +161,7 @@ fn explored<'a>(
 fn reached(
     alloc: Global,
     capture: &Capture<'_>,
-    forced: Option<Moment>,
+    forced: Option<BootTime>,
     guesses: bool,
 ) -> Result<Option<usize>, Fault> {
     let found = explored(alloc, capture, forced, guesses)?;
@@ -188,7 +174,7 @@ fn reached(
 fn is_better_guessed(
     alloc: Global,
     capture: &Capture<'_>,
-    forced: Option<Moment>,
+    forced: Option<BootTime>,
 ) -> Result<bool, Fault> {
     if capture.is_whole {
         return Ok(false);
@@ -230,7 +216,7 @@ pub fn explain<'a>(alloc: Global, capture: &Capture<'a>) -> Result<Explained<'a>
 {
     let forced = forced_in(capture);
     let guesses = is_better_guessed(alloc, capture, forced)?;
-    let Outcome {
+    let Exploration {
         run,
         catalog,
         stopped,

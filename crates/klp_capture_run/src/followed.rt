@@ -1,5 +1,5 @@
 //! A task that a log follows, in its state after the part of the run that was found so far.
-use klp_capture::{Activity, Moment, PatchedState};
+use klp_capture::{Activity, BootTime, PatchedState};
 use klp_capture_catalog::{Functions, SeenVersion};
 use klp_core::Lag;
 use klp_types::{Mode, Version};
@@ -22,25 +22,25 @@ pub struct Followed<'a> {
     pub(crate) state: PatchedState,
     /// How often the task had got a processor when it was last seen.
     pub(crate) runs: u64,
-    /// The moment since which the task hasn't run, by what samples show.
-    pub(crate) since: Moment,
+    /// The time since which the task hasn't run, by what samples show.
+    pub(crate) since: BootTime,
     pub(crate) has_ended: bool,
     /// Why the task wasn't at the target in the last sample that showed a transition. `None` if the task was at the
     /// target.
     pub lag: Option<Lag>,
-    /// The stays in which the task held a transition up, in order of time.
-    pub stays: Vec<Stay>,
+    /// The sleeps in which the task held a transition up, in order of time.
+    pub sleeps: Vec<HoldingSleep>,
 }
 
 /// A time in which a task held a transition up, in one function and without running.
 #[derive(Clone, Copy)]
-pub struct Stay {
+pub struct HoldingSleep {
     /// The index of the transition.
     pub transition: usize,
-    /// When the first sample that shows the stay was taken.
-    pub from: Moment,
-    /// When the last sample that shows the stay was taken.
-    pub to: Moment,
+    /// When the first sample that shows the sleep was taken.
+    pub from: BootTime,
+    /// When the last sample that shows the sleep was taken.
+    pub to: BootTime,
     /// The function that the task slept in.
     pub version: Version,
 }

@@ -1,18 +1,13 @@
 //! Finds the tasks that hold a transition up at the end of a trace. The trace is read again, and done with a newly
 //! booted manager. So the result follows from the rules and the trace alone, however the trace was found.
 ghost use Rattle.std.specs.Prelude.{◌≡◌, ◌≤◌, ◌++◌, length, OnOk, IfOk, IfSome};
-ghost use Rattle.klp_catalog_text.specs.Within.{AreTargetsWithin};
-ghost use Rattle.klp_capture_run.specs.Holders.{LagBehind, LagBehindTrace, LagOverPlan, LagOver, holder_at};
-ghost use Rattle.klp_capture_run.specs.Holders.{holders_from, holders_in};
+ghost use Rattle.klp_capture_run.specs.Holders.{LagBehindTrace, LagOver, holder_at, holders_from, holders_in};
 
-use klp_callback::Boxed;
-use klp_catalog::Catalog;
-use klp_catalog_text::Plan;
+use klp_boot::{Fault, ManagerUse, over_text};
 use klp_core::{Lag, Manager};
-use klp_program::{Fault, boot, close, scripted};
 use klp_trace::Trace;
 use klp_types::{MAX_TASKS, Version};
-use klp_watch::{Observed, compare_whole};
+use klp_watch::compare_whole;
 use std::alloc::{AllocError, Global};
 
 /// For each task number, why the task isn't at the target of the transition. `None` if the task is at the target, or if
@@ -28,46 +23,27 @@ pub struct Holder {
     pub version: Version,
 }
 
-// Does the items, and then drops the manager. Returns `None` if an item breaks the rules.
-fn lags_behind(manager: Manager, items: &[Observed]) -> Option<Lags>
-    ensures { IfSome result (λ lags. LagBehind manager.managed items.now lags) }
-{
-    let mut manager = manager;
-    let ended = compare_whole(&mut manager, items);
-    let lags = manager.holders();
-    close(manager);
-    match ended {
-        Ok(()) => Some(lags),
-        Err(_) => None,
-    }
+/// A trace at whose end tasks may lag.
+#[derive(Drop)]
+struct TraceEnd<'a> {
+    trace: &'a [u8],
 }
 
-// Does the items of a trace, and then drops the manager. Returns `None` if the trace can't be read, or an item breaks
-// the rules.
-fn lags_behind_trace(alloc: Global, manager: Manager, trace: &[u8]) -> Option<Lags>
-    ensures { IfSome result (λ lags. LagBehindTrace manager trace.now lags) }
-{
-    match Trace::read(alloc, trace, &manager) {
-        Ok(trace) => lags_behind(manager, &trace.items),
-        Err(_) => {
-            close(manager);
-            None
+impl ManagerUse for TraceEnd<'_> {
+    /// `None` if the trace can't be read, or an item breaks the rules.
+    type Done = Option<Lags>;
+
+    ghost comes_to = { λ before _ booted found. IfSome found (λ lags. LagBehindTrace booted before.trace.now lags) };
+
+    fn run(&mut self, alloc: Global, manager: &mut Manager) -> Option<Lags> {
+        let Ok(trace) = Trace::read(alloc, self.trace, manager) else {
+            return None;
+        };
+        match compare_whole(manager, &trace.items) {
+            Ok(_) => Some(manager.holders()),
+            Err(_) => None,
         }
     }
-}
-
-// Does a trace with a manager of this plan. The callbacks are made here, as for watching a trace. A plan that is made
-// of a log has no callbacks.
-fn lags_over_plan(alloc: Global, plan: Plan, trace: &[u8]) -> Result<Option<Lags>, Fault>
-    requires { AreTargetsWithin (length plan.objects) plan.patches }
-    ensures { IfOk result (λ found. IfSome found (λ lags. LagOverPlan plan trace.now lags)) }
-{
-    let mut callbacks = Vec::new(alloc);
-    while let Some(callback) = scripted(alloc, &plan, callbacks.len())? {
-        callbacks.push(Boxed::new(callback))?;
-    }
-    let manager = boot(alloc, plan, callbacks)?;
-    Ok(lags_behind_trace(alloc, manager, trace))
 }
 
 /// Returns which tasks lag at the end of a trace, and why. `catalog` is the catalog's text. Returns `None` if the trace
@@ -75,8 +51,7 @@ fn lags_over_plan(alloc: Global, plan: Plan, trace: &[u8]) -> Result<Option<Lags
 pub(crate) fn lags_over(alloc: Global, catalog: &[u8], trace: &[u8]) -> Result<Option<Lags>, Fault>
     ensures { IfOk result (λ found. IfSome found (λ lags. LagOver catalog.now trace.now lags)) }
 {
-    let plan = Catalog::read(alloc, catalog)?;
-    let found = lags_over_plan(alloc, plan, trace)?;
+    let found = over_text(alloc, catalog, &mut TraceEnd { trace })?;
     Ok(found)
 }
 

@@ -16,6 +16,6 @@ mod settle;
 mod step;
 
 pub use explained::{Explained, explain};
-pub use followed::{Followed, Stay};
+pub use followed::{Followed, HoldingSleep};
 pub use holders::{Holder, Lags};
 pub use run::Run;

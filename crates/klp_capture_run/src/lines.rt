@@ -1,14 +1,14 @@
 //! Lines of a trace that lead from one sample to the next.
 use crate::followed::TaskLines;
 use crate::run::Run;
-use crate::step::{Facts, Named, Step};
+use crate::step::{Facts, NamedTask, Step};
 use klp_capture::Text;
 use klp_capture_catalog::{Files, PatchLines};
 use std::alloc::{AllocError, Global};
 
 /// Lines of a trace that lead to one sample. At most one line is a poll.
 #[derive(Drop)]
-struct Lines<'r, 'a> {
+struct StepLines<'r, 'a> {
     run: &'r Run<'a>,
     text: String,
     /// The number of the place, from 0, where a poll is written. `None` if no poll is written.
@@ -16,7 +16,7 @@ struct Lines<'r, 'a> {
     place: usize,
 }
 
-impl<'r, 'a> Lines<'r, 'a> {
+impl<'r, 'a> StepLines<'r, 'a> {
     /// Marks a place where a poll may be. If the poll belongs at this place, writes it.
     fn place(&mut self) -> Result<(), AllocError> {
         if self.poll == Some(self.place) {
@@ -96,7 +96,7 @@ impl<'r, 'a> Lines<'r, 'a> {
     }
 
     /// If a task that the sample names ran, adds what the task did.
-    fn add_task(&mut self, facts: &Facts, named: &Named) -> Result<(), AllocError> {
+    fn add_task(&mut self, facts: &Facts, named: &NamedTask) -> Result<(), AllocError> {
         let Some(task) = self.run.tasks.get(named.number) else {
             return Ok(());
         };
@@ -153,15 +153,15 @@ impl<'a> Run<'a> {
         loads: &[usize],
         poll: Option<usize>,
     ) -> Result<String, AllocError> {
-        let mut lines = Lines {
+        let mut lines = StepLines {
             run: self,
             text: String::new(alloc),
             poll,
             place: 0,
         };
         let known = self.tasks.len().saturating_sub(step.begun.len());
-        let moment = step.facts.moment;
-        write!(lines.text, "@{moment} ")?;
+        let at = step.facts.at;
+        write!(lines.text, "@{at} ")?;
         let empty = lines.text.len();
         lines.add_loads(loads)?;
         if self.last.is_none() {
@@ -182,7 +182,7 @@ impl<'a> Run<'a> {
         }
         lines.add_tasks(step)?;
         lines.add_files(after)?;
-        let Lines { text, .. } = lines;
+        let StepLines { text, .. } = lines;
         // A sample may show nothing. A time without an item is no line of a trace.
         if text.len() == empty {
             return Ok(String::new(alloc));

@@ -8,8 +8,8 @@ ghost use Rattle.klp_core.specs.Journaled.{IsWellFormed};
 
 use crate::fits::fits;
 use crate::followed::Followed;
-use klp_capture::{Capture, Moment, PatchRow, Sample, Thread};
-use klp_capture_catalog::{End, Files, Functions, Moved, since_when};
+use klp_capture::{BootTime, Capture, PatchRow, Sample, Thread};
+use klp_capture_catalog::{Files, Functions, SeenTransition, TransitionEnd, since_when};
 use klp_core::Manager;
 use klp_types::MAX_GROUPS;
 use std::alloc::{AllocError, Global};
@@ -38,7 +38,7 @@ pub struct Run<'a> {
     /// How many samples the run shows.
     pub shown: u64,
     /// The transitions that the log shows, in order of time.
-    pub transitions: Vec<Moved>,
+    pub transitions: Vec<SeenTransition>,
     /// The last sample that the run reached. `None` before the first sample is reached.
     pub last: Option<usize>,
 }
@@ -165,14 +165,14 @@ impl<'a> Run<'a> {
     }
 
     /// Notes that the last transition has ended, if it was under way.
-    fn note_end(&mut self, moment: Moment) {
+    fn note_end(&mut self, at: BootTime) {
         let Some(moved) = self.transitions.last_mut() else {
             return;
         };
         if moved.end.is_none() {
             let files = self.files.get(moved.patch).copied().unwrap_or(None);
             let ending = moved.ending_by(files);
-            moved.end = Some(End { at: moment, ending });
+            moved.end = Some(TransitionEnd { at, ending });
         }
     }
 
@@ -184,18 +184,18 @@ impl<'a> Run<'a> {
         sample: &Sample,
         moving: Option<(usize, bool)>,
     ) -> Result<(), AllocError> {
-        let moment = sample.line.from;
+        let at = sample.line.from;
         let Some((patch, target)) = moving else {
-            self.note_end(moment);
+            self.note_end(at);
             return Ok(());
         };
         if self.is_under_way(patch, target) {
             if let Some(moved) = self.transitions.last_mut() {
-                moved.to = moment;
+                moved.to = at;
             }
             return Ok(());
         }
-        self.note_end(moment);
+        self.note_end(at);
         let name = match self.functions.patches.get(patch) {
             Some(patch) => patch.name,
             None => b"",
@@ -204,12 +204,12 @@ impl<'a> Run<'a> {
             Some(last) => Some(last.line.from),
             None => None,
         };
-        self.transitions.push(Moved {
+        self.transitions.push(SeenTransition {
             patch,
             target,
             since: since_when(capture, name, target, sample, before),
-            from: moment,
-            to: moment,
+            from: at,
+            to: at,
             end: None,
         })?;
         Ok(())
@@ -241,14 +241,14 @@ impl<'a> Run<'a> {
         Ok(())
     }
 
-    /// Leads the run from sample to sample, up to this moment. Returns the number of the first sample to which nothing
+    /// Leads the run from sample to sample, up to this time. Returns the number of the first sample to which nothing
     /// leads.
     pub(crate) fn explore(
         &mut self,
         alloc: Global,
         manager: &mut Manager,
         capture: &Capture<'a>,
-        until: Option<Moment>,
+        until: Option<BootTime>,
     ) -> Result<Option<usize>, AllocError>
         requires { IsWellFormed manager.old }
     {

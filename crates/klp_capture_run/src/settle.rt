@@ -1,8 +1,8 @@
 //! Notes the state that a run has reached with a sample.
-use crate::followed::{Followed, Sighting, Stay};
+use crate::followed::{Followed, HoldingSleep, Sighting};
 use crate::run::Run;
-use crate::step::{Facts, Named, Step, state_at};
-use klp_capture::{Activity, Moment};
+use crate::step::{Facts, NamedTask, Step, state_at};
+use klp_capture::{Activity, BootTime};
 use klp_capture_catalog::Files;
 use klp_core::Lag;
 use klp_types::Mode;
@@ -18,13 +18,13 @@ fn mode_of(seen: &Sighting) -> Mode {
 }
 
 impl<'a> Followed<'a> {
-    /// If the task lags in a sample of a transition, notes why. A stay continues through successive samples as long as
+    /// If the task lags in a sample of a transition, notes why. A sleep continues through successive samples as long as
     /// the task holds the transition up in the same function and doesn't run.
     pub(crate) fn note_lag(
         &mut self,
         lag: Option<Lag>,
         transition: usize,
-        moment: Moment,
+        at: BootTime,
     ) -> Result<(), AllocError> {
         let is_same = self.lag == lag;
         self.lag = lag;
@@ -32,18 +32,18 @@ impl<'a> Followed<'a> {
             return Ok(());
         };
         let since = self.since;
-        if let Some(stay) = self.stays.last_mut()
+        if let Some(sleep) = self.sleeps.last_mut()
             && is_same
-            && stay.transition == transition
-            && since <= stay.to
+            && sleep.transition == transition
+            && since <= sleep.to
         {
-            stay.to = moment;
+            sleep.to = at;
             return Ok(());
         }
-        self.stays.push(Stay {
+        self.sleeps.push(HoldingSleep {
             transition,
-            from: moment,
-            to: moment,
+            from: at,
+            to: at,
             version,
         })?;
         Ok(())
@@ -75,7 +75,7 @@ impl<'a> Followed<'a> {
             return;
         }
         self.runs = seen.runs;
-        self.since = facts.moment;
+        self.since = facts.at;
         self.mode = mode_of(&seen);
         if seen.is_stable {
             self.inside = seen.places;
@@ -101,7 +101,7 @@ impl<'a> Run<'a> {
             }
             number = number.saturating_add(1);
         }
-        for Named { number, seen } in named {
+        for NamedTask { number, seen } in named {
             if let Some(task) = self.tasks.get_mut(number) {
                 task.settle(&facts, seen);
             }

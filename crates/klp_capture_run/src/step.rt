@@ -1,7 +1,7 @@
 //! A sample, and what has changed since the sample before it.
 use crate::followed::{Followed, Sighting};
 use crate::run::Run;
-use klp_capture::{Activity, Capture, Moment, PatchRow, PatchedState, Sample, SeenTask};
+use klp_capture::{Activity, BootTime, Capture, PatchRow, PatchedState, Sample, SeenTask};
 use klp_capture_catalog::{Files, SeenVersion, completes, files_in, moving_in, starts};
 use klp_types::{MAX_FRAMES, MAX_TASKS, Mode};
 use std::alloc::{AllocError, Global};
@@ -9,7 +9,8 @@ use std::alloc::{AllocError, Global};
 /// What has changed since the sample before.
 #[derive(Clone, Copy)]
 pub(crate) struct Facts {
-    pub(crate) moment: Moment,
+    /// When the sample was taken.
+    pub(crate) at: BootTime,
     /// Whether the files of a patch changed.
     pub(crate) has_changed: bool,
     /// Whether a transition starts. If so, all tasks are first at its other end.
@@ -22,7 +23,7 @@ pub(crate) struct Facts {
 
 /// A task's number, and how a sample shows the task.
 #[derive(Drop)]
-pub(crate) struct Named {
+pub(crate) struct NamedTask {
     pub(crate) number: usize,
     pub(crate) seen: Sighting,
 }
@@ -32,7 +33,7 @@ pub(crate) struct Named {
 pub(crate) struct Step {
     pub(crate) facts: Facts,
     /// The tasks that the sample names.
-    pub(crate) named: Vec<Named>,
+    pub(crate) named: Vec<NamedTask>,
     /// The numbers of the tasks that have ended.
     pub(crate) ended: Vec<usize>,
     /// The tasks that begin before the sample. The first of them gets the next free number, the second the number after
@@ -120,7 +121,7 @@ impl<'a> Run<'a> {
                     since: sample.line.from,
                     has_ended: false,
                     lag: None,
-                    stays: Vec::new(alloc),
+                    sleeps: Vec::new(alloc),
                 })?;
             }
         }
@@ -211,7 +212,7 @@ impl<'a> Run<'a> {
         alloc: Global,
         capture: &Capture<'a>,
         sample: &Sample,
-        named: &mut Vec<Named>,
+        named: &mut Vec<NamedTask>,
     ) -> Result<(), AllocError> {
         for seen in sample.tasks.of(&capture.seen) {
             if let Some(number) = self.number_of(seen.task.thread, seen.task.start) {
@@ -219,7 +220,7 @@ impl<'a> Run<'a> {
                 if let Some(place) = named.iter().position(|own| own.number == number) {
                     named.remove(place);
                 }
-                named.push(Named { number, seen })?;
+                named.push(NamedTask { number, seen })?;
             }
         }
         Ok(())
@@ -249,7 +250,7 @@ impl<'a> Run<'a> {
     /// Returns what has changed since the sample before.
     fn facts(&self, sample: &Sample, after: &[Files]) -> Facts {
         let mut facts = Facts {
-            moment: sample.line.from,
+            at: sample.line.from,
             has_changed: false,
             starts: false,
             target: None,

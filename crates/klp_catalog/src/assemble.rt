@@ -79,6 +79,7 @@ fn resolve(modules: &Modules, object: ObjId, function: PlanFunction) -> CatalogF
         sympos,
         new_name,
         address,
+        line: _,
     } = function;
     let site = modules.resolve(object, symbol.as_str(), sympos).ok();
     CatalogFunction {
@@ -183,6 +184,7 @@ fn assemble_target(
         object,
         functions: given,
         callbacks,
+        line: _,
     } = target;
     let first = numbers.take(callbacks.len())?;
     let kinds = kinds_of(alloc, &callbacks)?;
@@ -216,6 +218,7 @@ fn assemble_patch(
         replace,
         targets: given,
         states,
+        line: _,
     } = patch;
     let mut targets = Targets::with_capacity(alloc, given.len())?;
     let mut functions = Vec::new(alloc);

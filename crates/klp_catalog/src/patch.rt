@@ -107,7 +107,7 @@ impl CatalogPatch {
         ensures { result ≡ list_all (λ (s : StateValue). compatible.is_compatible_with self.now.replace s
             (compatible.version_among s.id self.now.states)) states.now }
     {
-        states.iter().all(|state| is_compatible_with(self.replace, &self.states, *state))
+        states.iter().all(|state| is_compatible_with(self.replace, &self.states, state))
     }
 }
 
@@ -164,8 +164,9 @@ fn version_among(id: u64, states: &[SystemState]) -> Option<u32>
 
 /// Whether a patch with the states `own` can be installed beside a patch with the state `state`. `own` must name
 /// `state` with the same or a higher version. Only a patch that isn't cumulative may leave the state out.
-fn is_compatible_with(replace: bool, own: &[SystemState], state: SystemState) -> bool
-    ensures { result ≡ compatible.is_compatible_with replace state (compatible.version_among state.id own.now) }
+fn is_compatible_with(replace: bool, own: &[SystemState], state: &SystemState) -> bool
+    ensures { result ≡ compatible.is_compatible_with replace state.now
+        (compatible.version_among state.now.id own.now) }
 {
     match version_among(state.id, own) {
         Some(version) => state.version <= version,

@@ -42,6 +42,8 @@ pub(crate) struct Draft {
     /// How many functions the last patch has, for all of its targets together. One limit holds for all of these
     /// functions.
     functions: usize,
+    /// The number of the line that is being read, from 1. What the line adds keeps this number.
+    line: u64,
 }
 
 impl Model for Draft {
@@ -69,13 +71,18 @@ fn push_symbol(objects: &mut Vec<ObjectText>, symbol: SymbolText) -> Result<(), 
 }
 
 /// Adds an object to the last patch, as its open target. If memory runs out, nothing changes.
-fn push_target(alloc: Global, patches: &mut Vec<PlanPatch>, object: ObjId) -> Result<(), AllocError>
+fn push_target(
+    alloc: Global,
+    patches: &mut Vec<PlanPatch>,
+    object: ObjId,
+    line: u64,
+) -> Result<(), AllocError>
     requires { 0 < vec_len patches.old }
     ensures ok { OnOk result (patches.new.items ≡ on_last (with_target (Some object)) patches.old.items) }
     ensures err { OnErr result (patches.new.items ≡ patches.old.items) }
 {
     let last = patches.len() - 1;
-    patches[last].push_target(alloc, object)
+    patches[last].push_target(alloc, object, line)
 }
 
 /// Adds a function to the last target of the last patch. If memory runs out, nothing changes.
@@ -189,6 +196,7 @@ impl Draft {
             symbols: 0,
             patches: Vec::new(alloc),
             functions: 0,
+            line: 0,
         }
     }
 
@@ -273,6 +281,7 @@ impl Draft {
             replace,
             targets: Vec::new(alloc),
             states: SmallVec::new(alloc),
+            line: self.line,
         })?;
         self.functions = 0;
         Ok(())
@@ -297,7 +306,7 @@ impl Draft {
         if targets.len() >= MAX_TARGETS {
             return Err(TextFaultKind::TooMany);
         }
-        push_target(alloc, &mut self.patches, object)?;
+        push_target(alloc, &mut self.patches, object, self.line)?;
         Ok(())
     }
 
@@ -331,7 +340,15 @@ impl Draft {
         let Some(script) = script.into_script() else {
             return Err(TextFaultKind::TooMany);
         };
-        push_callback(&mut self.patches, PlanCallback { which, script })?;
+        let line = self.line;
+        push_callback(
+            &mut self.patches,
+            PlanCallback {
+                which,
+                script,
+                line,
+            },
+        )?;
         Ok(())
     }
 
@@ -355,11 +372,20 @@ impl Draft {
         Ok(())
     }
 
+    /// Counts the line that is read next, and returns its number.
+    fn begin_line(&mut self) -> u64
+        ensures { self.new ≡ self.old }
+    {
+        self.line = self.line.saturating_add(1);
+        self.line
+    }
+
     /// Reads one line of the text, and adds what the line says. `text` doesn't have the bytes that end the line. An
     /// empty line adds nothing.
     pub(crate) fn read_line(&mut self, alloc: Global, text: &[u8]) -> Result<(), TextFaultKind>
         ensures { Becomes result self.new (with_line self.old text.now) }
     {
+        let number = self.begin_line();
         // A line is a comment only if its very first byte is `#`. So a word may begin with `#` (docs/DECISIONS.md,
         // "Comments").
         if let [b'#', ..] = text {
@@ -371,7 +397,7 @@ impl Draft {
         };
         // The words are checked before the place of the line. So a misspelled line is reported as misspelled at any
         // place (docs/DECISIONS.md, "Words before the place of a line").
-        let line = CatalogLine::read(alloc, self.open_object(), text, first, &mut words)?;
+        let line = CatalogLine::read(alloc, self.open_object(), number, text, first, &mut words)?;
         self.place(alloc, line)
     }
 
@@ -392,10 +418,11 @@ impl Draft {
             CatalogLine::Target(NameWord(name)) => self.place_target(alloc, name),
             CatalogLine::Function(function) => self.place_function(function),
             CatalogLine::Callback(which, script) => self.place_callback(which, script),
-            // A whole `SystemState` can't be moved out of a line that borrows, so its two fields are copied.
-            CatalogLine::State(SystemState { id, version }) => self.place_state(SystemState {
+            // A whole `SystemState` can't be moved out of a line that borrows, so its fields are copied.
+            CatalogLine::State(SystemState { id, version, line }) => self.place_state(SystemState {
                 id,
                 version,
+                line,
             }),
         }
     }

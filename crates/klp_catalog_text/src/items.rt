@@ -39,6 +39,8 @@ pub struct PlanFunction {
     pub sympos: u32,
     pub new_name: String,
     pub address: u64,
+    /// The number of the function's line in the text, from 1. Contracts don't see it.
+    pub line: u64,
 }
 
 impl Model for PlanFunction {
@@ -64,16 +66,19 @@ impl MadeWith<Global> for PlanFunction {
             sympos: 0,
             new_name: String::new(alloc),
             address: 0,
+            line: 0,
         }
     }
 }
 
 /// A system state that a patch names (system-state): its id, and the version of the state that the patch uses. The
 /// versions decide which patches are compatible.
-#[derive(Clone, Copy, Default)]
+#[derive(Default, Drop)]
 pub struct SystemState {
     pub id: u64,
     pub version: u32,
+    /// The number of the state's line in the text, from 1. Contracts don't see it.
+    pub line: u64,
 }
 
 impl Model for SystemState {
@@ -82,6 +87,4 @@ impl Model for SystemState {
     ghost Value = { SystemState };
 
     ghost view = { λ s. record { id = s.id; version = s.version } };
-
-    ghost inverse = { λ s. record { id = s.id; version = s.version } };
 }

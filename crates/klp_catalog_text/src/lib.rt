@@ -6,6 +6,7 @@
 //! edits. Then each line is added to the [`Plan`] (`src/draft.rt`, `specs/Draft`). [`read`] returns the plan of a whole
 //! text, or the first faulty line and its fault. If memory runs out before any faulty line, it returns `NoMemory` with
 //! the line at which memory ran out. `specs/Text` defines what a whole text means, and `specs/Plan` what a plan has.
+//! Each item of a plan also has the number of its line, which contracts don't see.
 //!
 //! [`Plan::handler`], `take_objects`, `into_patches` and `script` return the items of the text, in its order. The
 //! patches of a plan don't exceed the limits (`specs/Limits`). No patch has an object twice, a state id twice, or two

@@ -179,11 +179,12 @@ fn target_line<'a>(words: &mut LineWords<'a>) -> Result<CatalogLine<'a>, TextFau
 }
 
 /// Reads the words of a `func` line after its first word: a symbol, a name and an address. `target` is the name of the
-/// open target's object, if a target is open.
+/// open target's object, if a target is open. `number` is the number of the line.
 #[tactic(auto, using(crate::proofs::CountLemmas::func_count))]
 fn func_line<'a>(
     alloc: Global,
     target: Option<&str>,
+    number: u64,
     words: &mut LineWords<'a>,
 ) -> Result<CatalogLine<'a>, TextFaultKind>
     ensures { Gives (λ l. l) result (func_line (option_copied target.entry) words.old) }
@@ -201,6 +202,7 @@ fn func_line<'a>(
         sympos: spelling.sympos,
         new_name,
         address,
+        line: number,
     }))
 }
 
@@ -215,8 +217,8 @@ fn callback_line<'a>(
     Ok(CatalogLine::Callback(which, edit::script(alloc, words)?))
 }
 
-/// Reads the words of a `state` line after its first word: an id and a version.
-fn state_line<'a>(words: &mut LineWords<'a>) -> Result<CatalogLine<'a>, TextFaultKind>
+/// Reads the words of a `state` line after its first word: an id and a version. `number` is the number of the line.
+fn state_line<'a>(number: u64, words: &mut LineWords<'a>) -> Result<CatalogLine<'a>, TextFaultKind>
     ensures { Gives (λ l. l) result (state_line words.old) }
 {
     let (Some(id), Some(version), None) = (words.next(), words.next(), words.next()) else {
@@ -227,11 +229,16 @@ fn state_line<'a>(words: &mut LineWords<'a>) -> Result<CatalogLine<'a>, TextFaul
     let (Some(id), Some(version)) = (number64(id), number32(version)) else {
         return Err(TextFaultKind::BadNumber);
     };
-    Ok(CatalogLine::State(SystemState { id, version }))
+    Ok(CatalogLine::State(SystemState {
+        id,
+        version,
+        line: number,
+    }))
 }
 
 impl<'a> CatalogLine<'a> {
-    /// Reads one line. `text` is the whole line, `first` its first word, and `words` the words after it.
+    /// Reads one line. `number` is the line's number, from 1. `text` is the whole line, `first` its first word, and
+    /// `words` the words after it.
     ///
     /// `target` is the name of the open target's object, if a target is open. The time is linear in the length of the
     /// line. `Err` has the first of the line's faults, in the order of [`TextFaultKind`]. The fault is never
@@ -240,6 +247,7 @@ impl<'a> CatalogLine<'a> {
     pub fn read(
         alloc: Global,
         target: Option<&str>,
+        number: u64,
         text: &[u8],
         first: &[u8],
         words: &mut LineWords<'a>,
@@ -261,9 +269,9 @@ impl<'a> CatalogLine<'a> {
             Keyword::Symbol => symbol_line(alloc, words),
             Keyword::Patch => patch_line(alloc, words),
             Keyword::Target => target_line(words),
-            Keyword::Func => func_line(alloc, target, words),
+            Keyword::Func => func_line(alloc, target, number, words),
             Keyword::Callback(which) => callback_line(alloc, which, words),
-            Keyword::State => state_line(words),
+            Keyword::State => state_line(number, words),
         }
     }
 }

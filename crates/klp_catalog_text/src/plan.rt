@@ -17,6 +17,8 @@ use std::mem;
 pub struct PlanCallback {
     pub which: Which,
     pub script: Script,
+    /// The number of the callback's line in the text, from 1. Contracts don't see it.
+    pub line: u64,
 }
 
 impl Model for PlanCallback {
@@ -41,6 +43,8 @@ pub struct PlanTarget {
     pub functions: PlanFunctions,
     /// The callbacks in the order of the text. Each kind occurs at most once, as in the kernel's `klp_object`.
     pub callbacks: Vec<PlanCallback>,
+    /// The number of the target's line in the text, from 1. Contracts don't see it.
+    pub line: u64,
 }
 
 impl Model for PlanTarget {
@@ -86,6 +90,8 @@ pub struct PlanPatch {
     pub targets: Vec<PlanTarget>,
     /// The system states that the patch names, in the order of the text. Each id occurs once.
     pub states: PlanStates,
+    /// The number of the patch's line in the text, from 1. Contracts don't see it.
+    pub line: u64,
 }
 
 impl Model for PlanPatch {
@@ -103,8 +109,13 @@ impl Model for PlanPatch {
 }
 
 impl PlanPatch {
-    /// Appends an object without functions, as the open target.
-    pub(crate) fn push_target(&mut self, alloc: Global, object: ObjId) -> Result<(), AllocError>
+    /// Appends an object without functions, as the open target. The target's line has the number `line`.
+    pub(crate) fn push_target(
+        &mut self,
+        alloc: Global,
+        object: ObjId,
+        line: u64,
+    ) -> Result<(), AllocError>
         ensures ok { OnOk result (self.new ≡ with_target (Some object) self.old) }
         ensures err { OnErr result (self.new ≡ self.old) }
     {
@@ -112,6 +123,7 @@ impl PlanPatch {
             object,
             functions: SmallVec::new(alloc),
             callbacks: Vec::new(alloc),
+            line,
         })?;
         Ok(())
     }

@@ -19,7 +19,7 @@ use Rattle.klp_console_commands.specs.Lines.{request_of}
 use Rattle.klp_console.specs.Answered.{Answer, IsAnswered, IsDoneIf, names_in}
 use Rattle.klp_console.specs.Back.{CanGoBack, IsMarked, AreMarked, IsTakenBack, can_be_taken_back, marks_on}
 use Rattle.klp_console.specs.Lines.{AreAnswered, are_short, is_short, texts_of}
-use Rattle.klp_console.specs.Said.{Moment, IsSaid, Serves, HasMarks, Ahead, IsCut}
+use Rattle.klp_console.specs.Said.{Serving, IsSaid, Serves, HasMarks, Ahead, IsCut}
 use Rattle.klp_console.proofs.SaidLemmas.{answered_on, texts_on, refusals_on, serves_none, Goes, goes, fails, blame_on, stops_within}
 use Rattle.klp_console.proofs.BackLemmas.{back_to_now, back_on, back_to, back_within, line_back}
 
@@ -28,7 +28,7 @@ abbrev pub hold : Gathered × Written → Gathered × Written
 hold said = (record said.0 { held = length said.0.bytes }, said.1)
 
 -- nothing is served yet
-pub ahead_none : (a : Moment) → a.said.0.bytes ≡ [] → a.said.0.has_failed ≡ false → a.marks ≡ [] → Ahead a a []
+pub ahead_none : (a : Serving) → a.said.0.bytes ≡ [] → a.said.0.has_failed ≡ false → a.marks ≡ [] → Ahead a a []
 ahead_none a empty still unmarked = record {
   serves = serves_none a empty still;
   has_marks = record {
@@ -165,11 +165,11 @@ none_at end now written taken place before (l ∷ ls) (x ∷ xs) (m ∷ ms) mark
     omega (arith, rest, length-append x.text (texts_of xs)))
 
 -- all answers are written or gathered
-all_bytes : (a b : Moment) (lines : List (List ℕ)) → (serves : Serves a b lines) → length (texts_of serves.answers) ≡ length serves.gone + length b.said.0.bytes
+all_bytes : (a b : Serving) (lines : List (List ℕ)) → (serves : Serves a b lines) → length (texts_of serves.answers) ≡ length serves.gone + length b.said.0.bytes
 all_bytes a b lines serves = ap length serves.cut ∙ length-append serves.gone b.said.0.bytes
 
 -- where nothing is marked, all is written
-none_gathered : (a b : Moment) (lines : List (List ℕ)) → Ahead a b lines → b.marks ≡ [] → length b.said.0.bytes ≡ 0
+none_gathered : (a b : Serving) (lines : List (List ℕ)) → Ahead a b lines → b.marks ≡ [] → length b.said.0.bytes ≡ 0
 none_gathered a b lines ahead unmarked =
     let has = ahead.has_marks in
     let all = none_at b.manager b.manager (length ahead.serves.gone) 0 (length (texts_of has.early_answers)) has.start has.held has.held_answers b.marks has.marked
@@ -184,7 +184,7 @@ none_gathered a b lines ahead unmarked =
     )
 
 -- what was gathered is written
-pub ahead_written : (a b : Moment) (said : Gathered × Written) (lines : List (List ℕ)) → Ahead a b lines → Says (hold b.said) said [] → said.0.has_failed ≡ false → said.0.bytes ≡ []
+pub ahead_written : (a b : Serving) (said : Gathered × Written) (lines : List (List ℕ)) → Ahead a b lines → Says (hold b.said) said [] → said.0.has_failed ≡ false → said.0.bytes ≡ []
     → Ahead a (record b { said = said; marks = [] }) lines
 ahead_written a b said lines ahead more still empty =
     let serves = ahead.serves in
@@ -221,7 +221,7 @@ short_front : (lines more all : List (List ℕ)) → all ≡ lines ++ more → a
 short_front lines more all is short = (and_parts (are_short lines) (are_short more) (sym (list_all-append is_short lines more) ∙ sym (ap are_short is) ∙ short)).0
 
 -- The sink failed: it is known which answer it cut off, of a gathered line, which the manager is taken back to; or all that was gathered is written.
-cut_back : (a b c : Moment) (now : Journaled) (lines : List (List ℕ)) → (ahead : Ahead a b lines) → (tail gone rest : List ℕ) (taken : ℕ)
+cut_back : (a b c : Serving) (now : Journaled) (lines : List (List ℕ)) → (ahead : Ahead a b lines) → (tail gone rest : List ℕ) (taken : ℕ)
     → (b.marks ≡ []) ⊎ CanGoBack b.manager now → texts_of ahead.serves.answers ++ tail ≡ (ahead.serves.gone ++ gone) ++ rest
     → Appends a.said.1.taken c.said.1.taken (ahead.serves.gone ++ gone) → IsToBlame a.said.1 c.said.1
     → taken ≡ length b.said.0.bytes - (length b.said.0.bytes - length gone)
@@ -296,7 +296,7 @@ cut_all gone gathered tail taken rest text first next =
     ap (λ (l : List ℕ). l ++ tail) first ∙ append_assoc gone gathered tail ∙ ap (λ (l : List ℕ). gone ++ l) next ∙ sym (append_assoc gone taken rest)
 
 -- what was gathered can't be written
-pub flush_cut : (a b c : Moment) (lines : List (List ℕ)) → Ahead a b lines → Says (hold b.said) c.said [] → c.said.0.has_failed ≡ true
+pub flush_cut : (a b c : Serving) (lines : List (List ℕ)) → Ahead a b lines → Says (hold b.said) c.said [] → c.said.0.has_failed ≡ true
     → IsTakenBack b.manager c.manager (events_at_cut (length b.said.0.bytes - c.said.0.held) b.marks) → IsCut a c lines
 flush_cut a b c lines ahead more failed back =
     let serves = ahead.serves in
@@ -317,7 +317,7 @@ flush_cut a b c lines ahead more failed back =
     ]
 
 -- the lines behind it are none of those that are done
-pub cut_on : (a c : Moment) (lines more : List (List ℕ)) → IsCut a c lines → IsCut a c (lines ++ more)
+pub cut_on : (a c : Serving) (lines more : List (List ℕ)) → IsCut a c lines → IsCut a c (lines ++ more)
 cut_on a c lines more cut = record {
   done = cut.done;
   later = cut.later ++ more;
@@ -329,7 +329,7 @@ cut_on a c lines more cut = record {
 }
 
 -- a line was done, counted and its answer said; it can be taken back, or nothing before it has a mark
-pub record Does (b n : Moment) (line : List ℕ) : Type 0 where
+pub record Does (b n : Serving) (line : List ℕ) : Type 0 where
   pub answer : Answer
   pub is_answered : IsAnswered b.manager n.manager line answer
   pub says : Says (hold b.said) n.said answer.text
@@ -343,7 +343,7 @@ quiet_if : (before after : Journaled) (request : Option (Result Request LineFaul
 quiet_if before after request answer marks done (inl can) = inr (line_back before after request answer can done)
 quiet_if before after request answer marks done (inr none) = inl none
 
-pub does_line : (b n : Moment) (line : List ℕ) (request : Option (Result Request LineFault)) (sent : Bool) → request ≡ request_of (names_in b.manager) line
+pub does_line : (b n : Serving) (line : List ℕ) (request : Option (Result Request LineFault)) (sent : Bool) → request ≡ request_of (names_in b.manager) line
     → IsSaid (IsDoneIf b.manager n.manager request) (hold b.said) n.said sent → IsWellFormed n.manager → length line ≤ MAX_CONSOLE_LINE
     → n.served.lines ≡ b.served.lines + 1 → n.served.refused ≡ b.served.refused + cond sent 1 0
     → (can_be_taken_back b.manager request ≡ true) ⊎ (b.marks ≡ []) → Does b n line
@@ -360,7 +360,7 @@ does_line b n line request sent asked said well_formed short lines refused back 
     }
 
 -- one more line is served
-abbrev serves_next : (a b n : Moment) (lines : List (List ℕ)) (line : List ℕ) → Serves a b lines → (does : Does b n line) → n.said.0.has_failed ≡ false
+abbrev serves_next : (a b n : Serving) (lines : List (List ℕ)) (line : List ℕ) → Serves a b lines → (does : Does b n line) → n.said.0.has_failed ≡ false
     → Goes (hold b.said) n.said does.answer.text → Serves a n (lines ++ line ∷ [])
 serves_next a b n lines line first does still now = record {
   answers = first.answers ++ does.answer ∷ [];
@@ -377,7 +377,7 @@ serves_next a b n lines line first does still now = record {
 }
 
 -- how far all answers reach with one more
-place_on : (a b n : Moment) (lines : List (List ℕ)) (line : List ℕ) → (first : Serves a b lines) → (does : Does b n line) → (now : Goes (hold b.said) n.said does.answer.text)
+place_on : (a b n : Serving) (lines : List (List ℕ)) (line : List ℕ) → (first : Serves a b lines) → (does : Does b n line) → (now : Goes (hold b.said) n.said does.answer.text)
     → length (first.gone ++ now.gone) + length n.said.0.bytes ≡ length (texts_of first.answers) + length does.answer.text
 place_on a b n lines line first does now = omega (
   arith,
@@ -389,7 +389,7 @@ place_on a b n lines line first does now = omega (
 )
 
 -- the marks with one more
-has_marks_on : (a b n : Moment) (lines : List (List ℕ)) (line : List ℕ) → (ahead : Ahead a b lines) → (does : Does b n line) → (now : Goes (hold b.said) n.said does.answer.text)
+has_marks_on : (a b n : Serving) (lines : List (List ℕ)) (line : List ℕ) → (ahead : Ahead a b lines) → (does : Does b n line) → (now : Goes (hold b.said) n.said does.answer.text)
     → (mark : Mark) → mark.end ≡ length n.said.0.bytes → mark.events ≡ length n.manager.groups → (held : ℕ) → n.said.0.held ≡ held → n.marks ≡ marks_on held b.marks mark
     → HasMarks a n (lines ++ line ∷ []) (ahead.serves.answers ++ does.answer ∷ []) (length (ahead.serves.gone ++ now.gone))
 has_marks_on a b n lines line ahead does now mark ends events zero held marks =
@@ -447,7 +447,7 @@ has_marks_on a b n lines line ahead does now mark ends events (suc left) held ma
           })));
     }
 
-pub next_ahead : (a b n : Moment) (lines : List (List ℕ)) (line : List ℕ) → Ahead a b lines → Does b n line → n.said.0.has_failed ≡ false
+pub next_ahead : (a b n : Serving) (lines : List (List ℕ)) (line : List ℕ) → Ahead a b lines → Does b n line → n.said.0.has_failed ≡ false
     → (mark : Mark) → mark.end ≡ length n.said.0.bytes → mark.events ≡ length n.manager.groups → n.marks ≡ marks_on n.said.0.held b.marks mark → Ahead a n (lines ++ line ∷ [])
 next_ahead a b n lines line ahead does still mark ends events marks =
     let now = goes (hold b.said) n.said does.answer.text does.says ahead.serves.still still in
@@ -457,7 +457,7 @@ next_ahead a b n lines line ahead does still mark ends events marks =
     }
 
 -- the answer to one more line, or one before it, can't be written
-pub next_cut : (a b n : Moment) (left : Journaled) (lines : List (List ℕ)) (line : List ℕ) → Ahead a b lines → Does b n line → n.said.0.has_failed ≡ true
+pub next_cut : (a b n : Serving) (left : Journaled) (lines : List (List ℕ)) (line : List ℕ) → Ahead a b lines → Does b n line → n.said.0.has_failed ≡ true
     → IsTakenBack n.manager left (events_at_cut (length b.said.0.bytes - n.said.0.held) b.marks) → IsCut a (record n { manager = left }) (lines ++ line ∷ [])
 next_cut a b n left lines line ahead does failed back =
     let serves = ahead.serves in

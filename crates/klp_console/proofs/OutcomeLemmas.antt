@@ -10,7 +10,7 @@ use Rattle.klp_console_commands.specs.declared.request.Asked.{Asked}
 use Rattle.klp_console_commands.specs.declared.request.Asked.TheVariants as asked
 use Rattle.klp_console_commands.specs.Asked.{asked_with}
 use Rattle.klp_core.specs.Journaled.{Journaled}
-use Rattle.klp_console.specs.declared.outcome.Outcome.{Outcome}
+use Rattle.klp_console.specs.declared.outcome.LineOutcome.{LineOutcome}
 use Rattle.klp_console.specs.Outcomes.{is_refusal, other_outcome, IsOutcome}
 
 pub other_refused : (request : Option (Result Request LineFault)) (refused : Bool) → is_refusal (other_outcome request refused) ≡ refused
@@ -49,5 +49,5 @@ asks_none (Some (Ok asked.Seal)) event other = refl
 asks_none (Some (Ok (asked.Ask query))) event other = refl
 
 -- came to this
-pub none_outcome : (before after : Journaled) (request : Option (Result Request LineFault)) (outcome : Outcome) → event_asked request ≡ None → outcome ≡ other_outcome request (is_refusal outcome) → IsOutcome before after request outcome
+pub none_outcome : (before after : Journaled) (request : Option (Result Request LineFault)) (outcome : LineOutcome) → event_asked request ≡ None → outcome ≡ other_outcome request (is_refusal outcome) → IsOutcome before after request outcome
 none_outcome before after request outcome none is = rw none is

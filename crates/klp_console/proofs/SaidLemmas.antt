@@ -16,7 +16,7 @@ use Rattle.klp_console_io.specs.Says.{IsWell, IsToBlame, Spoken, Says, Speaks}
 use Rattle.klp_console_io.specs.Lines.{is_line_feed, lines_and_rest}
 use Rattle.klp_console.specs.Answered.{Answer}
 use Rattle.klp_console.specs.Lines.{AreAnswered, are_short, is_short, texts_of, whole}
-use Rattle.klp_console.specs.Said.{Moment, Serves, Stops}
+use Rattle.klp_console.specs.Said.{Serving, Serves, Stops}
 
 pub answered_on : (a b c : Journaled) (lines others : List (List ℕ)) (answers more : List Answer) → AreAnswered a b lines answers → AreAnswered b c others more
     → AreAnswered a c (lines ++ others) (answers ++ more)
@@ -41,7 +41,7 @@ refusals_on answers more = sum_by-append (λ (a : Answer). cond a.is_refused 1 0
 pub all_gone : (gone gathered text : List ℕ) → gathered ≡ [] → text ≡ gone ++ gathered → text ≡ gone
 all_gone gone gathered text empty cut = cut ∙ ap (λ (rest : List ℕ). gone ++ rest) empty ∙ append-nil gone
 
-abbrev pub serves_on : (a b c : Moment) (lines others : List (List ℕ)) → Serves a b lines → b.said.0.bytes ≡ [] → Serves b c others → Serves a c (lines ++ others)
+abbrev pub serves_on : (a b c : Serving) (lines others : List (List ℕ)) → Serves a b lines → b.said.0.bytes ≡ [] → Serves b c others → Serves a c (lines ++ others)
 serves_on a b c lines others first empty next = record {
   answers = first.answers ++ next.answers;
   answered = answered_on a.manager b.manager c.manager lines others first.answers next.answers first.answered next.answered;
@@ -57,7 +57,7 @@ serves_on a b c lines others first empty next = record {
 }
 
 -- no line is served
-abbrev pub serves_none : (a : Moment) → a.said.0.bytes ≡ [] → a.said.0.has_failed ≡ false → Serves a a []
+abbrev pub serves_none : (a : Serving) → a.said.0.bytes ≡ [] → a.said.0.has_failed ≡ false → Serves a a []
 serves_none a empty still = record {
   answers = [];
   answered = refl;

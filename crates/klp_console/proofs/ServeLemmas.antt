@@ -16,7 +16,7 @@ use Rattle.klp_console.specs.declared.served.ServeFault.{ServeFault}
 use Rattle.klp_console.specs.declared.served.ServeFault.TheVariants.{Read, Write, LineTooLong}
 use Rattle.klp_console.specs.Answered.{Answer}
 use Rattle.klp_console.specs.Lines.{AreAnswered, is_short, are_short, whole, lines_of, texts_of}
-use Rattle.klp_console.specs.Said.{Moment, Serves, Stops, IsCut, Hears, IsWritten}
+use Rattle.klp_console.specs.Said.{Serving, Serves, Stops, IsCut, Hears, IsWritten}
 use Rattle.klp_console.specs.Served.{Console, Asks, Reads, Writes, AreFirst, HasReadFailed, HasLongLine, HasWriteFailed, IsServed, ComesTo}
 use Rattle.klp_types.specs.declared.limits.TheConstants.{MAX_READS}
 use Rattle.klp_console.proofs.SaidLemmas.{answered_on, texts_on, all_gone, serves_none, serves_on, blame_on}
@@ -27,7 +27,7 @@ abbrev pub LinesAddUp : Type 0
 LinesAddUp = (a b : List ℕ) (done : List (List ℕ)) (rest : List ℕ) → lines_and_rest a ≡ done ++ rest ∷ [] → lines_and_rest (a ++ b) ≡ done ++ lines_and_rest (rest ++ b)
 
 -- these bytes were read, and their lines served
-pub record SoFar (source now : Supply) (before after : Moment) (line : List ℕ) : Type 0 where
+pub record SoFar (source now : Supply) (before after : Serving) (line : List ℕ) : Type 0 where
   pub bytes : List ℕ
   pub lines : List (List ℕ)
   pub read : Consumes source.left now.left bytes
@@ -42,7 +42,7 @@ pub cut_on : LinesAddUp → (bytes piece : List ℕ) (lines pieces : List (List 
     → lines_and_rest (bytes ++ piece) ≡ lines ++ pieces
 cut_on add_up bytes piece lines pieces line cut next = add_up bytes piece lines line cut ∙ ap (λ more. lines ++ more) next
 
-pub so_far_on : LinesAddUp → (source now next : Supply) (a b c : Moment) (line new piece : List ℕ) → SoFar source now a b line → b.said.0.bytes ≡ [] → Consumes now.left next.left piece
+pub so_far_on : LinesAddUp → (source now next : Supply) (a b c : Serving) (line new piece : List ℕ) → SoFar source now a b line → b.said.0.bytes ≡ [] → Consumes now.left next.left piece
     → next.failures ≡ now.failures → next.has_ended ≡ now.has_ended → is_short new ≡ true → Hears b c (lines_and_rest (line ++ piece)) new (Ok tt) → SoFar source next a c new
 so_far_on lines_add_up source now next a b c line new piece so_far clear read same goes_on short heard = record {
   bytes = so_far.bytes ++ piece;
@@ -67,16 +67,16 @@ abbrev pub start_of : Written → Gathered × Written
 start_of written = (record { bytes = []; held = 0; has_failed = false }, written)
 
 -- all that was said was written
-all_written : (a b : Moment) (lines : List (List ℕ)) → (serves : Serves a b lines) → b.said.0.bytes ≡ [] → Appends a.said.1.taken b.said.1.taken (texts_of serves.answers)
+all_written : (a b : Serving) (lines : List (List ℕ)) → (serves : Serves a b lines) → b.said.0.bytes ≡ [] → Appends a.said.1.taken b.said.1.taken (texts_of serves.answers)
 all_written a b lines serves empty =
     subst (Appends a.said.1.taken b.said.1.taken) (sym (all_gone serves.gone b.said.0.bytes (texts_of serves.answers) empty serves.cut)) serves.written
 
 -- the console before and after
-abbrev pub console_of : Supply → Moment → Console
+abbrev pub console_of : Supply → Serving → Console
 console_of supply moment = record { supply = supply; written = moment.said.1; manager = moment.manager }
 
 -- nothing is served yet
-abbrev pub start_at : Journaled → Written → Moment
+abbrev pub start_at : Journaled → Written → Serving
 start_at manager written = record { manager = manager; served = record { lines = 0; refused = 0 }; said = start_of written; marks = [] }
 
 pub so_far_start : lines_and_rest [] ≡ [] ∷ [] → (source : Supply) (manager : Journaled) (written : Written)
@@ -92,11 +92,11 @@ so_far_start none source manager written = record {
   goes_on = refl;
 }
 
-writes_of : (source now : Supply) (a b : Moment) (lines : List (List ℕ)) → (serves : Serves a b lines) → b.said.0.bytes ≡ []
+writes_of : (source now : Supply) (a b : Serving) (lines : List (List ℕ)) → (serves : Serves a b lines) → b.said.0.bytes ≡ []
     → Writes (console_of source a) (console_of now b) serves.answers
 writes_of source now a b lines serves empty = record { written = all_written a b lines serves empty; well = serves.well }
 
-reads_of : (source : Supply) (a : Moment) (b : Console) (bytes : List ℕ) (lines : List (List ℕ)) (answers : List Answer) → LeavesNone a.manager
+reads_of : (source : Supply) (a : Serving) (b : Console) (bytes : List ℕ) (lines : List (List ℕ)) (answers : List Answer) → LeavesNone a.manager
     → Consumes source.left b.supply.left bytes → Asks source b.supply → AreAnswered a.manager b.manager lines answers → are_short lines ≡ true
     → Reads (console_of source a) b bytes lines answers
 reads_of source a b bytes lines answers none read asks answered short = record {
@@ -130,7 +130,7 @@ stops_later written between after first later all well stops = record {
 }
 
 -- no more can be read
-pub read_failed : (source now next : Supply) (manager : Journaled) (written : Written) (b : Moment) (line : List ℕ) → LeavesNone manager → SoFar source now (start_at manager written) b line
+pub read_failed : (source now next : Supply) (manager : Journaled) (written : Written) (b : Serving) (line : List ℕ) → LeavesNone manager → SoFar source now (start_at manager written) b line
     → b.said.0.bytes ≡ [] → Keeps now.left next.left → next.has_ended ≡ now.has_ended → Asks source next
     → (next.failures ≡ source.failures + 1) ⊎ ((next.failures ≡ source.failures) × (next.reads ≡ source.reads + MAX_READS))
     → HasReadFailed (console_of source (start_at manager written)) (console_of next b)
@@ -151,7 +151,7 @@ read_failed source now next manager written b line none so_far empty kept goes_o
     }
 
 -- a line of the last piece is too long
-long_line : LinesAddUp → (source now next : Supply) (manager : Journaled) (written : Written) (b c : Moment) (line new piece : List ℕ)
+long_line : LinesAddUp → (source now next : Supply) (manager : Journaled) (written : Written) (b c : Serving) (line new piece : List ℕ)
     → LeavesNone manager → SoFar source now (start_at manager written) b line → b.said.0.bytes ≡ [] → Consumes now.left next.left piece → next.failures ≡ now.failures → Asks source next
     → Hears b c (lines_and_rest (line ++ piece)) new (Err LineTooLong) → c.said.0.bytes ≡ []
     → HasLongLine (console_of source (start_at manager written)) (console_of next c)
@@ -172,7 +172,7 @@ long_line lines_add_up source now next manager written b c line new piece none s
     }
 
 -- an answer was cut off, where all lines so far had theirs
-cut_off : (source now next : Supply) (manager : Journaled) (written : Written) (b c : Moment) (lines : List (List ℕ)) (line bytes : List ℕ)
+cut_off : (source now next : Supply) (manager : Journaled) (written : Written) (b c : Serving) (lines : List (List ℕ)) (line bytes : List ℕ)
     → LeavesNone manager → (so_far : SoFar source now (start_at manager written) b line) → b.said.0.bytes ≡ [] → Consumes source.left next.left bytes
     → next.failures ≡ now.failures → Asks source next → (cut : IsCut b c lines) → AreFirst (console_of next c) (so_far.lines ++ cut.done) bytes
     → HasWriteFailed (console_of source (start_at manager written)) (console_of next c)
@@ -198,7 +198,7 @@ behind done [] next more = (next, more, ap (λ (l : List (List ℕ)). l ++ next 
 behind done (l ∷ ls) next more = (l, ls ++ next ∷ more, append_assoc done (l ∷ ls) (next ∷ more))
 
 -- the answer to a line of the last piece can't be written
-write_failed : LinesAddUp → (source now next : Supply) (manager : Journaled) (written : Written) (b c : Moment) (line new piece : List ℕ)
+write_failed : LinesAddUp → (source now next : Supply) (manager : Journaled) (written : Written) (b c : Serving) (line new piece : List ℕ)
     → LeavesNone manager → SoFar source now (start_at manager written) b line → b.said.0.bytes ≡ [] → Consumes now.left next.left piece → next.failures ≡ now.failures
     → Asks source next → Hears b c (lines_and_rest (line ++ piece)) new (Err Write)
     → HasWriteFailed (console_of source (start_at manager written)) (console_of next c)
@@ -214,17 +214,17 @@ write_failed lines_add_up source now next manager written b c line new piece non
     ))
 
 -- the lines of all that was read
-lines_on : (source now : Supply) (a b : Moment) (line : List ℕ) → (so_far : SoFar source now a b line) → so_far.lines ++ whole (line ∷ []) ≡ lines_of so_far.bytes
+lines_on : (source now : Supply) (a b : Serving) (line : List ℕ) → (so_far : SoFar source now a b line) → so_far.lines ++ whole (line ∷ []) ≡ lines_of so_far.bytes
 lines_on source now a b line so_far = sym (ap whole so_far.cut ∙ whole_on so_far.lines line)
 
 -- all lines are served, the last one too
-pub serves_all : (source now : Supply) (a b c : Moment) (line : List ℕ) → (so_far : SoFar source now a b line) → b.said.0.bytes ≡ [] → Serves b c (whole (line ∷ []))
+pub serves_all : (source now : Supply) (a b c : Serving) (line : List ℕ) → (so_far : SoFar source now a b line) → b.said.0.bytes ≡ [] → Serves b c (whole (line ∷ []))
     → Serves a c (lines_of so_far.bytes)
 serves_all source now a b c line so_far clear last =
     subst (Serves a c) (lines_on source now a b line so_far) (serves_on a b c so_far.lines (whole (line ∷ [])) so_far.serves clear last)
 
 -- the source has ended, and nothing failed
-pub served_all : (source now next : Supply) (manager : Journaled) (written : Written) (b c : Moment) (line : List ℕ) → LeavesNone manager → SoFar source now (start_at manager written) b line
+pub served_all : (source now next : Supply) (manager : Journaled) (written : Written) (b c : Serving) (line : List ℕ) → LeavesNone manager → SoFar source now (start_at manager written) b line
     → b.said.0.bytes ≡ [] → Consumes now.left next.left [] → next.failures ≡ now.failures → source.reads < next.reads → Asks source next → next.has_ended ≡ true → IsAtEnd next.left
     → Serves b c (whole (line ∷ [])) → c.said.0.bytes ≡ []
     → IsServed (console_of source (start_at manager written)) (console_of next c) c.served
@@ -259,7 +259,7 @@ as_many a b (line ∷ lines) [] answered = absurd answered
 as_many a b (line ∷ lines) (answer ∷ answers) answered = ap suc (as_many answered.0 b lines answers answered.2)
 
 -- the source has ended, and the answer to the last line can't be written
-pub end_failed : (source now next : Supply) (manager : Journaled) (written : Written) (b c : Moment) (line : List ℕ)
+pub end_failed : (source now next : Supply) (manager : Journaled) (written : Written) (b c : Serving) (line : List ℕ)
     → LeavesNone manager → SoFar source now (start_at manager written) b line → b.said.0.bytes ≡ []
     → Consumes now.left next.left [] → next.failures ≡ now.failures → Asks source next → next.has_ended ≡ true → IsCut b c (line ∷ []) → whole (line ∷ []) ≡ line ∷ []
     → (fault : ServeFault) → fault ≡ Write
@@ -273,7 +273,7 @@ end_failed source now next manager written b c line none so_far clear read same 
     (subst (Consumes source.left next.left) (append-nil so_far.bytes) (Consumes-trans source.left now.left next.left so_far.bytes [] so_far.read read)) same asks cut (inr (lines, ended)))
 
 -- a line of the last piece is too long, or the answer to one can't be written
-pub hear_failed : LinesAddUp → (source now next : Supply) (manager : Journaled) (written : Written) (b c : Moment) (line new piece : List ℕ)
+pub hear_failed : LinesAddUp → (source now next : Supply) (manager : Journaled) (written : Written) (b c : Serving) (line new piece : List ℕ)
     → LeavesNone manager → SoFar source now (start_at manager written) b line → b.said.0.bytes ≡ [] → Consumes now.left next.left piece → next.failures ≡ now.failures
     → Asks source next → (fault : ServeFault) → Hears b c (lines_and_rest (line ++ piece)) new (Err fault) → IsWritten c.said.0 c.marks (Err fault)
     → ComesTo (console_of source (start_at manager written)) (console_of next c) (Err fault)

@@ -1,11 +1,17 @@
 -- The answers to console lines that weren't done: `error`, the number of a Linux error with a similar meaning (2 is
 -- ENOENT, 12 ENOMEM, 16 EBUSY, 22 EINVAL), and the name of the cause. Which number a cause has is this project's own
 -- choice.
-use Rattle.std.specs.Prelude.{ℕ, List, codes}
+use Rattle.std.specs.Prelude.{ℕ, List, [], ◌∷◌, codes}
 use Rattle.klp_model.specs.declared.event.Refusal.{Refusal}
 use Rattle.klp_model.specs.declared.event.Refusal.TheVariants.{NoPatch, Busy, AlreadyThere, Pinned, Incompatible, NoSymbol, NoModule, InUse, NoTask, TaskThere, WrongMode, BadFrame, Full, JournalFull, NotMoving, Exists, NotFound, SameValue}
 use Rattle.klp_console_commands.specs.declared.fault.LineFault.{LineFault}
 use Rattle.klp_console_commands.specs.declared.fault.LineFault.TheVariants.{BadLine, BadValue, Refused}
+
+-- all refusals
+abbrev pub refusals : List Refusal
+refusals =
+    NoPatch ∷ Busy ∷ AlreadyThere ∷ Pinned ∷ Incompatible ∷ NoSymbol ∷ NoModule ∷ InUse ∷ NoTask ∷ TaskThere ∷ WrongMode ∷ BadFrame
+    ∷ Full ∷ JournalFull ∷ NotMoving ∷ Exists ∷ NotFound ∷ SameValue ∷ []
 
 -- the whole line of each refusal
 abbrev pub refusal_text : Refusal → List ℕ

@@ -9,10 +9,10 @@ ghost use Rattle.klp_core.specs.Taking.{IsTaken};
 ghost use Rattle.klp_console.specs.Answered.{IsRewoundAs, IsTakenAs, IsDoneIf, IsAnswered, names_in};
 ghost use Rattle.klp_console.specs.Outcomes.{is_refusal, IsEventOutcome, IsOutcome};
 ghost use Rattle.klp_console.specs.Back as back;
-ghost use Rattle.klp_console.specs.Said.{moment_of, Moment, IsSaid, AnswersLine, Ahead, Comes};
+ghost use Rattle.klp_console.specs.Said.{serving_of, Serving, IsSaid, AnswersLine, Ahead, Comes};
 
 use crate::back::{can_be_taken_back, make_ready, mark_line, take_back};
-use crate::outcome::{Outcome, other_outcome};
+use crate::outcome::{LineOutcome, other_outcome};
 use crate::queries::{say_force_nothing, say_query};
 use crate::refusals::{say_bad_mark, say_fault};
 use crate::replies::{say_answer, say_done};
@@ -67,13 +67,13 @@ fn take<W: Sink>(
     event: &Event,
     answers: &mut Answers,
     writer: &mut W,
-) -> Outcome
+) -> LineOutcome
     requires { answers.old.has_failed ≡ false }
     ensures said { IsSaid (IsTakenAs manager.old manager.new event.now) (answers.old, W.written writer.old)
         (answers.new, W.written writer.new) (is_refusal result) }
     ensures outcome { IsEventOutcome manager.old manager.new event.now result }
 {
-    Outcome::Answered(*event, answer_event(manager, event, answers, writer))
+    LineOutcome::Answered(*event, answer_event(manager, event, answers, writer))
 }
 
 /// Does what a line asks for, and says the answer. Returns whether the line was refused, so that refused lines can be
@@ -118,7 +118,7 @@ fn do_request<W: Sink>(
     event: &Event,
     answers: &mut Answers,
     writer: &mut W,
-) -> Outcome
+) -> LineOutcome
     requires { answers.old.has_failed ≡ false }
     ensures said { IsSaid (IsDoneIf manager.old manager.new (asked_with asked.now event.now))
         (answers.old, W.written writer.old) (answers.new, W.written writer.new) (is_refusal result) }
@@ -136,7 +136,7 @@ fn take_line<W: Sink>(
     line: &[u8],
     answers: &mut Answers,
     writer: &mut W,
-) -> Outcome
+) -> LineOutcome
     requires { answers.old.has_failed ≡ false }
     ensures said { IsSaid (IsAnswered manager.old manager.new line.now) (answers.old, W.written writer.old)
         (answers.new, W.written writer.new) (is_refusal result) }
@@ -158,7 +158,7 @@ pub fn answer_line<W: Sink>(
     manager: &mut Manager,
     line: &[u8],
     writer: &mut W,
-) -> Result<Outcome, Failed>
+) -> Result<LineOutcome, Failed>
     ensures { AnswersLine manager.old manager.new line.now (W.written writer.old) (W.written writer.new) result }
 {
     klp_console_io::laws::what_is_said_adds_up();
@@ -201,10 +201,10 @@ fn gather<W: Sink>(
     requires few { served.old.refused ≤ served.old.lines }
     requires marks { length marks.old < MARKS_ROOM }
     requires back { (back.can_be_taken_back manager.old (asked_with asked.now event.now) ≡ true) ⊎ (marks.old ≡ []) }
-    ensures comes { (before : Moment) (lines : List (List ℕ)) (line : List ℕ)
+    ensures comes { (before : Serving) (lines : List (List ℕ)) (line : List ℕ)
         → (asked_with asked.now event.now) ≡ request_of (names_in manager.old) line → length line ≤ MAX_CONSOLE_LINE
-        → Ahead before (moment_of manager.old served.old answers.old (W.written writer.old) marks.old) lines
-        → Comes before (moment_of manager.new served.new answers.new (W.written writer.new) marks.new)
+        → Ahead before (serving_of manager.old served.old answers.old (W.written writer.old) marks.old) lines
+        → Comes before (serving_of manager.new served.new answers.new (W.written writer.new) marks.new)
         (lines ++ line ∷ []) }
     ensures few { served.new.refused ≤ served.new.lines }
     ensures lines { served.new.lines ≡ served.old.lines + 1 }
@@ -234,9 +234,9 @@ pub(crate) fn serve_line<W: Sink>(
     requires room { served.old.lines + 1 < 2 ^ 64 }
     requires few { served.old.refused ≤ served.old.lines }
     requires short { length line.now ≤ MAX_CONSOLE_LINE }
-    ensures comes { (before : Moment) (lines : List (List ℕ))
-        → Ahead before (moment_of manager.old served.old answers.old (W.written writer.old) marks.old) lines
-        → Comes before (moment_of manager.new served.new answers.new (W.written writer.new) marks.new)
+    ensures comes { (before : Serving) (lines : List (List ℕ))
+        → Ahead before (serving_of manager.old served.old answers.old (W.written writer.old) marks.old) lines
+        → Comes before (serving_of manager.new served.new answers.new (W.written writer.new) marks.new)
         (lines ++ line.now ∷ []) }
     ensures few { served.new.refused ≤ served.new.lines }
     ensures lines { served.new.lines ≤ served.old.lines + 1 }

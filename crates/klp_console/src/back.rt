@@ -4,7 +4,7 @@
 ghost use Rattle.std.specs.Prelude.{◌≡◌, ℕ, ◌-◌, ◌<◌, ◌≤◌, ◌⊎◌, true, false, List, [], ◌∷◌, ◌++◌, length};
 ghost use Rattle.klp_console.specs.Back as back;
 ghost use Rattle.klp_console.specs.Back.{IsTakenBack};
-ghost use Rattle.klp_console.specs.Said.{moment_of, Ahead, Comes, Moment};
+ghost use Rattle.klp_console.specs.Said.{serving_of, Ahead, Comes, Serving};
 ghost use Rattle.klp_console.specs.declared.served.Served.{Served};
 ghost use Rattle.klp_console_commands.specs.Asked.{asked_with};
 ghost use Rattle.klp_console_io.specs.Marks.{events_at_cut};
@@ -69,9 +69,9 @@ pub(crate) fn write_out<W: Sink>(
     writer: &mut W,
 )
     requires still { answers.old.has_failed ≡ false }
-    ensures comes { (before : Moment) (lines : List (List ℕ)) (served : Served)
-        → Ahead before (moment_of manager.old served answers.old (W.written writer.old) marks.old) lines
-        → Comes before (moment_of manager.new served answers.new (W.written writer.new) marks.new) lines }
+    ensures comes { (before : Serving) (lines : List (List ℕ)) (served : Served)
+        → Ahead before (serving_of manager.old served answers.old (W.written writer.old) marks.old) lines
+        → Comes before (serving_of manager.new served answers.new (W.written writer.new) marks.new) lines }
     ensures empty { answers.new.has_failed ≡ false → (answers.new.bytes ≡ []) × (marks.new ≡ [])
         × (manager.new ≡ manager.old) }
 {
@@ -94,9 +94,9 @@ pub(crate) fn make_ready<W: Sink>(
     writer: &mut W,
 )
     requires still { answers.old.has_failed ≡ false }
-    ensures comes { (before : Moment) (lines : List (List ℕ)) (served : Served)
-        → Ahead before (moment_of manager.old served answers.old (W.written writer.old) marks.old) lines
-        → Comes before (moment_of manager.new served answers.new (W.written writer.new) marks.new) lines }
+    ensures comes { (before : Serving) (lines : List (List ℕ)) (served : Served)
+        → Ahead before (serving_of manager.old served answers.old (W.written writer.old) marks.old) lines
+        → Comes before (serving_of manager.new served answers.new (W.written writer.new) marks.new) lines }
     ensures same { answers.new.has_failed ≡ false → manager.new ≡ manager.old }
     ensures back { answers.new.has_failed ≡ false → (is_ahead ≡ true) ⊎ (marks.new ≡ []) }
     ensures room { answers.new.has_failed ≡ false → length marks.new < MARKS_ROOM }

@@ -4,7 +4,7 @@ ghost use Rattle.klp_types.specs.declared.limits.TheConstants.{MAX_CONSOLE_LINE}
 ghost use Rattle.klp_console_io.specs.Lines.{lines_and_rest};
 ghost use Rattle.klp_console.specs.declared.served.ServeFault.TheVariants.{Write};
 ghost use Rattle.klp_console.specs.Lines.{whole};
-ghost use Rattle.klp_console.specs.Said.{moment_of, Hears, IsCut, IsWritten, Serves};
+ghost use Rattle.klp_console.specs.Said.{serving_of, Hears, IsCut, IsWritten, Serves};
 ghost use Rattle.klp_console.specs.Served.{ComesTo, console_of};
 
 use crate::answer::serve_line;
@@ -32,8 +32,8 @@ fn hear<W: Sink>(
     requires none { answers.old.bytes ≡ [] }
     requires unmarked { marks.old ≡ [] }
     ensures hears { Hears
-        (moment_of manager.old served.old answers.old (W.written writer.old) marks.old)
-        (moment_of manager.new served.new answers.new (W.written writer.new) marks.new)
+        (serving_of manager.old served.old answers.old (W.written writer.old) marks.old)
+        (serving_of manager.new served.new answers.new (W.written writer.new) marks.new)
         (lines_and_rest (line.old ++ piece.now)) line.new result }
     ensures short { IfOk result (λ _. length line.new ≤ MAX_CONSOLE_LINE) }
     ensures few { IfOk result (λ _. served.new.refused ≤ served.new.lines) }
@@ -67,14 +67,14 @@ fn end<W: Sink>(
     requires none { answers.old.bytes ≡ [] }
     requires unmarked { marks.old ≡ [] }
     ensures serves { IfOk result (λ _. Serves
-        (moment_of manager.old served.old answers.old (W.written writer.old) marks.old)
-        (moment_of manager.new served.new answers.new (W.written writer.new) marks.new)
+        (serving_of manager.old served.old answers.old (W.written writer.old) marks.old)
+        (serving_of manager.new served.new answers.new (W.written writer.new) marks.new)
         (whole (line.now ∷ []))) }
     ensures written { IfOk result (λ _. answers.new.bytes ≡ []) }
     ensures write { IfErr result (λ fault. fault ≡ Write) }
     ensures cut { IfErr result (λ _. IsCut
-        (moment_of manager.old served.old answers.old (W.written writer.old) marks.old)
-        (moment_of manager.new served.new answers.new (W.written writer.new) marks.new)
+        (serving_of manager.old served.old answers.old (W.written writer.old) marks.old)
+        (serving_of manager.new served.new answers.new (W.written writer.new) marks.new)
         (line.now ∷ []) × (whole (line.now ∷ []) ≡ line.now ∷ [])) }
 {
     let last = line.bytes();

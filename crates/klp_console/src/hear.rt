@@ -3,7 +3,7 @@
 ghost use Rattle.std.specs.Prelude.{◌≡◌, ◌+◌, ◌<◌, ◌≤◌, ◌^◌, false, [], ◌∷◌, ◌++◌, length, IfOk};
 ghost use Rattle.klp_types.specs.declared.limits.TheConstants.{MAX_CONSOLE_LINE};
 ghost use Rattle.klp_console_io.specs.Lines.{lines_and_rest};
-ghost use Rattle.klp_console.specs.Said.{moment_of, Hears};
+ghost use Rattle.klp_console.specs.Said.{serving_of, Hears};
 
 use crate::answer::serve_line;
 use crate::served::{ServeFault, Served};
@@ -27,8 +27,8 @@ pub(crate) fn hear_lines<W: Sink>(
     requires none { answers.old.bytes ≡ [] }
     requires unmarked { marks.old ≡ [] }
     ensures hears { Hears
-        (moment_of manager.old served.old answers.old (W.written writer.old) marks.old)
-        (moment_of manager.new served.new answers.new (W.written writer.new) marks.new)
+        (serving_of manager.old served.old answers.old (W.written writer.old) marks.old)
+        (serving_of manager.new served.new answers.new (W.written writer.new) marks.new)
         (lines_and_rest (line.old ++ piece.now)) line.new result }
     ensures short { IfOk result (λ _. length line.new ≤ MAX_CONSOLE_LINE) }
     ensures few { IfOk result (λ _. served.new.refused ≤ served.new.lines) }

@@ -20,13 +20,15 @@
 //! [`answer_line`] answers a single line, for callers that cut the input into lines themselves. It does the line as
 //! [`serve`] does (`specs/Answered`, and `IsSaid` of `specs/Said`).
 //!
-//! [`event_of`] returns the event that a line asks for, and [`site_of`] the site that a word names. Both functions
-//! change nothing (`specs/Asked`).
+//! [`event_of`] returns the event that a line asks for, and [`site_of`] the site that a word names. [`answer_text`]
+//! returns the answer to an event as text, and [`refusal_line`] that of each of [`all_refusals`]. These functions
+//! change nothing (`specs/Asked`). [`patch_name`] and [`object_name`] are the names in answers.
 #![tactic(auto)]
 
 mod answer;
 mod asked;
 mod back;
+mod by_itself;
 mod console;
 pub mod examples;
 mod files;
@@ -44,6 +46,9 @@ mod values;
 
 pub use answer::answer_line;
 pub use asked::{event_of, site_of};
+pub use by_itself::answer_text;
 pub use console::serve;
-pub use outcome::Outcome;
+pub use names::{object_name, patch_name};
+pub use outcome::LineOutcome;
+pub use refusals::{all_refusals, refusal_line};
 pub use served::{ServeFault, Served};

@@ -11,7 +11,7 @@ use klp_types::{ObjId, PatchId};
 
 /// Returns the name of a patch of a catalog. The name is empty if there is no such patch, which never happens for a
 /// manager's own patches. The patch is found by its number.
-pub(crate) fn patch_name(catalog: &Catalog, patch: PatchId) -> &str
+pub fn patch_name(catalog: &Catalog, patch: PatchId) -> &str
     ensures { result.now ≡ patch_name catalog.now patch }
 {
     catalog.patch_name(patch).unwrap_or("")
@@ -19,7 +19,7 @@ pub(crate) fn patch_name(catalog: &Catalog, patch: PatchId) -> &str
 
 /// Returns the name of an object, even if the object isn't loaded. If there is no such object, the name is empty, so
 /// callers needn't treat a missing object separately. The object is found by its number.
-pub(crate) fn object_name(modules: &Modules, object: ObjId) -> &str
+pub fn object_name(modules: &Modules, object: ObjId) -> &str
     ensures { result.now ≡ object_name modules.now.names object }
 {
     modules.object_name(object).unwrap_or("")

@@ -9,7 +9,7 @@ use klp_model::{Event, Refusal, Reply};
 
 /// The outcome of a line: what it did, or that it was refused.
 #[derive(Clone, Copy)]
-pub enum Outcome {
+pub enum LineOutcome {
     /// The line asked for this event. The event was accepted with this reply, or refused for this reason.
     Answered(Event, Result<Reply, Refusal>),
     /// The line asked for no event, and was refused. It changed nothing.
@@ -20,28 +20,31 @@ pub enum Outcome {
     Done,
 }
 
-impl Outcome {
+impl LineOutcome {
     /// Whether the line was refused. Such a line is counted as refused.
     pub fn is_refusal(&self) -> bool
         ensures { result ≡ is_refusal self.now }
     {
         match self {
-            Outcome::Answered(_, reply) => reply.is_err(),
-            Outcome::Refused => true,
-            Outcome::Rewound(_) | Outcome::Done => false,
+            LineOutcome::Answered(_, reply) => reply.is_err(),
+            LineOutcome::Refused => true,
+            LineOutcome::Rewound(_) | LineOutcome::Done => false,
         }
     }
 }
 
 /// Returns the outcome of a line that asks for no event.
-pub(crate) fn other_outcome(asked: &Option<Result<Asked, LineFault>>, is_refused: bool) -> Outcome
+pub(crate) fn other_outcome(
+    asked: &Option<Result<Asked, LineFault>>,
+    is_refused: bool,
+) -> LineOutcome
     ensures { (event : events.Event) → result ≡ other_outcome (asked_with asked.now event) is_refused }
 {
     if is_refused {
-        return Outcome::Refused;
+        return LineOutcome::Refused;
     }
     match *asked {
-        Some(Ok(Asked::Rewind(mark))) => Outcome::Rewound(mark),
-        _ => Outcome::Done,
+        Some(Ok(Asked::Rewind(mark))) => LineOutcome::Rewound(mark),
+        _ => LineOutcome::Done,
     }
 }

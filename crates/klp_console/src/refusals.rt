@@ -1,15 +1,43 @@
 //! The answers to lines that weren't done. Each is one line that begins with `error`, so that scripts find it.
 ghost use Rattle.std.specs.Prelude.{◌≡◌};
 ghost use Rattle.klp_console_io.specs.Says.{Says};
-ghost use Rattle.klp_console.specs.Refusals.{refusal_text, fault_text, bad_mark_text};
+ghost use Rattle.klp_console.specs.Refusals.{refusals, refusal_text, fault_text, bad_mark_text};
 
 use klp_console_commands::LineFault;
 use klp_console_io::{Answers, Sink};
 use klp_model::Refusal;
 
-/// Returns the whole line of a refusal. Its number is that of a Linux error with a similar meaning, for programs that
-/// read it (docs/DECISIONS.md, "Error numbers").
-fn refusal_line(refusal: Refusal) -> &'static [u8]
+static REFUSALS: [Refusal; 18] = [
+    Refusal::NoPatch,
+    Refusal::Busy,
+    Refusal::AlreadyThere,
+    Refusal::Pinned,
+    Refusal::Incompatible,
+    Refusal::NoSymbol,
+    Refusal::NoModule,
+    Refusal::InUse,
+    Refusal::NoTask,
+    Refusal::TaskThere,
+    Refusal::WrongMode,
+    Refusal::BadFrame,
+    Refusal::Full,
+    Refusal::JournalFull,
+    Refusal::NotMoving,
+    Refusal::Exists,
+    Refusal::NotFound,
+    Refusal::SameValue,
+];
+
+/// Returns all refusals, each once.
+pub fn all_refusals() -> &'static [Refusal]
+    ensures { result.now ≡ refusals }
+{
+    &REFUSALS
+}
+
+/// Returns the whole line of a refusal, with its line feed: `error NUMBER NAME`. Its number is that of a Linux error
+/// with a similar meaning, for programs that read it (docs/DECISIONS.md, "Error numbers").
+pub fn refusal_line(refusal: Refusal) -> &'static [u8]
     ensures { result.now ≡ refusal_text refusal }
 {
     match refusal {

@@ -3,7 +3,7 @@ ghost use Rattle.klp_core.specs.Journaled.{IsWellFormed};
 ghost use Rattle.klp_console.specs.Said.{AnswersLine};
 ghost use Rattle.klp_console.specs.Served.{ComesTo, console_of};
 
-use klp_console::{Outcome, ServeFault, Served};
+use klp_console::{LineOutcome, ServeFault, Served};
 use klp_console_io::{Failed, Sink, Source};
 use klp_core::Manager;
 
@@ -25,7 +25,7 @@ pub fn answer_line<W: Sink>(
     manager: &mut Manager,
     line: &[u8],
     writer: &mut W,
-) -> Result<Outcome, Failed>
+) -> Result<LineOutcome, Failed>
     requires { IsWellFormed manager.old }
     ensures { AnswersLine manager.old manager.new line.now (W.written writer.old) (W.written writer.new) result }
 {

@@ -7,13 +7,14 @@ ghost use Rattle.klp_manager_state.specs.Managed.{setting_of};
 ghost use Rattle.klp_core.specs.Journaled.{IsWellFormed};
 ghost use Rattle.klp_watch.specs.Compared.{taken_from};
 ghost use Rattle.klp_watch.specs.ComparedWhole.{AreAllSo, IsDifferenceOfWhole};
+ghost use Rattle.klp_watch.specs.Refused.{refused_in};
 ghost use Rattle.klp_watch.specs.Watching.{AreWatched, IsConsistent, IsFault};
 ghost use Rattle.klp_trace.specs.Traces.{IsTraceOf, IsTraceFault};
 
 use klp_core::Manager;
 use klp_model::Seen;
 use klp_trace::{Trace, TraceFault};
-use klp_watch::{Differs, NotHonest, Observed};
+use klp_watch::{Differs, NotHonest, Observed, RefusedEvents};
 use std::alloc::Global;
 
 /// Reads a trace, as [`Trace::read`] does.
@@ -39,13 +40,15 @@ pub fn watch(manager: &mut Manager, items: &[Seen]) -> Result<(), NotHonest>
 }
 
 /// Does the items of a trace and compares them with the rules, as [`klp_watch::compare_whole`] does.
-pub fn compare_whole(manager: &mut Manager, items: &[Observed]) -> Result<(), Differs>
+pub fn compare_whole(manager: &mut Manager, items: &[Observed]) -> Result<RefusedEvents, Differs>
     requires { IsWellFormed manager.old }
     ensures compared { IfOk result (λ _. AreAllSo manager.old.managed manager.new.managed items.now) }
     ensures consistent { IfOk result
         (λ _. IsConsistent (setting_of manager.old.managed) manager.old.managed.state (taken_from items.now)) }
     ensures differs { IfErr result (λ differs.
         IsDifferenceOfWhole manager.old.managed manager.new.managed items.now differs.item differs.cause) }
+    ensures refused { IfOk result (λ refused. refused
+        ≡ refused_in (setting_of manager.old.managed) manager.old.managed.state items.now) }
     ensures setting { setting_of manager.new.managed ≡ setting_of manager.old.managed }
     ensures well_formed { IsWellFormed manager.new }
 {

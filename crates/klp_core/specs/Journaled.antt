@@ -1,5 +1,5 @@
 -- A manager as contracts see it, with the accepted events since its base.
-use Rattle.std.specs.Prelude.{◌≡◌, ℕ, suc, ◌≤◌, Bool, true, false, List, [], ◌∷◌, length, map, Ok}
+use Rattle.std.specs.Prelude.{◌≡◌, ℕ, suc, ◌≤◌, Bool, true, false, List, [], ◌∷◌, length, map, Ok, if◌then◌else◌}
 use Rattle.std.specs.List.{All}
 use Rattle.klp_types.specs.declared.limits.TheConstants.{MAX_RECORDS}
 use Rattle.klp_types.specs.declared.version.Entry.{Entry}
@@ -14,7 +14,7 @@ use Rattle.klp_model.specs.Run.{answer, next}
 use Rattle.klp_model.specs.State.{State}
 use Rattle.klp_model.specs.Stated.{IsStated}
 use Rattle.klp_catalog.specs.Catalog.{Catalog}
-use Rattle.klp_journal.specs.Journal.{Accepted, Group, groups_of, Keeps}
+use Rattle.klp_journal.specs.Journal.{Accepted, Group, groups_of, has_room, Keeps}
 use Rattle.klp_stack.specs.Stack.{entries_at}
 use Rattle.klp_manager_state.specs.declared.state.ManagerState.{ManagerState}
 use Rattle.klp_manager_state.specs.Managed.{Managed, setting_of, managed_of, setting_in}
@@ -118,3 +118,7 @@ pub record IsWellFormed (manager : Journaled) : Type 0 where
   pub legal : IsLegal (setting_of manager.managed) manager.base (history_in manager.groups)
   pub state : manager.managed.state ≡ state_after_history (setting_of manager.managed) manager.base (history_in manager.groups)
   pub small : All IsSmall manager.groups
+
+-- the manager with room for one more event: if its journal has none, what happened can't be taken back any more
+abbrev pub with_room : Journaled → Journaled
+with_room manager = if has_room manager.groups then manager else record manager { base = manager.managed.state; groups = [] }

@@ -2,11 +2,11 @@ ghost use Rattle.std.specs.Prelude.{◌≡◌, ◌<◌, ◌≤◌, true, false, 
 ghost use Rattle.klp_types.specs.declared.limits.TheConstants.{MAX_GROUPS, MAX_JOURNAL_RECORDS};
 ghost use Rattle.klp_model.specs.Step.{callbacks_of};
 ghost use Rattle.klp_text.specs.TextImage.{opening};
-ghost use Rattle.klp_journal.specs.Journal.{records_free, records_in};
+ghost use Rattle.klp_journal.specs.Journal.{has_room, records_free, records_in};
 ghost use Rattle.klp_manager_state.specs.Managed.{setting_of};
 ghost use Rattle.klp_core.specs.Boot.{IsMatch, AreNamed, IsFaultOf, booted};
 ghost use Rattle.klp_core.specs.Events.{AreCounted};
-ghost use Rattle.klp_core.specs.Journaled.{IsWellFormed};
+ghost use Rattle.klp_core.specs.Journaled.{IsWellFormed, with_room};
 ghost use Rattle.klp_core.specs.Taking.{IsTaken, AreTaken};
 ghost use Rattle.klp_core.specs.Rewinding.{IsRewound};
 ghost use Rattle.klp_core.specs.Withdrawal.{LeavesNoTrace};
@@ -194,6 +194,21 @@ impl Manager {
         ensures well_formed { IsWellFormed self.new }
     {
         self.journal.clear(&mut self.state.log);
+    }
+
+    /// Seals the journal if it has no room for one more event. Afterwards no event is refused because the journal is
+    /// full, so the rules alone decide. A caller that takes no event back calls this before each event. If there is
+    /// room, nothing changes and the cost is constant.
+    pub fn make_room(&mut self)
+        ensures made { self.new ≡ with_room self.old }
+        ensures same { self.new.managed ≡ self.old.managed }
+        ensures room { has_room self.new.groups ≡ true }
+        ensures well_formed { IsWellFormed self.new }
+    {
+        let _for_its_clause = self.mark();
+        if !self.journal.has_room(&self.state.log) {
+            self.seal();
+        }
     }
 
     /// Returns how many more records the journal has room for. The cost is constant. An event is accepted only if there

@@ -1,8 +1,8 @@
 //! Says which task does what in an item that isn't honest.
 
 use crate::calls::Calls;
-use klp_faulty_words::escaped::Escaped;
 use klp_faulty_words::item::Item;
+use klp_messages::Escaped;
 use klp_watch::Cause;
 use std::fmt;
 

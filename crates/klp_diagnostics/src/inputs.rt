@@ -4,21 +4,22 @@ ghost use Rattle.std.specs.Prelude.{◌≡◌, IfErr};
 use crate::calls::Calls;
 use crate::dishonest::act_of;
 use crate::lack::lack_of;
-use crate::replay::{Replay, replay_of, rules_of};
+use crate::replay::{sides_in, versions_after};
+use crate::tasks::TaskNumbers;
+use klp_boot::Fault;
 use klp_catalog::{AssembleFault, Catalog};
 use klp_catalog_text::{Plan, TextFault};
 use klp_console::ServeFault;
 use klp_faulty_words::catalog_fault::{begins_as_catalog, begins_as_utf16};
-use klp_faulty_words::escaped::{Escaped, Quoted};
 use klp_faulty_words::item::Item;
-use klp_faulty_words::lines::line_at;
-use klp_faulty_words::names::Names;
+use klp_faulty_words::names::CatalogNames;
 use klp_faulty_words::same_site::first_pair;
-use klp_faulty_words::stray::{Kind, STRAYS, Stray};
+use klp_faulty_words::stray::{FileKind, STRAYS, Stray};
 use klp_faulty_words::unpicked::first_unloadable;
 use klp_faulty_words::wrong::Wrong;
 use klp_faulty_words::{catalog_fault, image, item};
-use klp_program::{Fault, Verdict, bytes_in};
+use klp_messages::{Escaped, Quoted, line_at};
+use klp_program::{Counts, Verdict, bytes_in};
 use klp_trace::{LineParts, TraceFault, TraceFaultKind};
 use klp_types::MAX_CONSOLE_LINE;
 use klp_watch::{Cause, Differs, NotHonest};
@@ -48,7 +49,7 @@ pub struct Inputs<'a> {
     pub program: &'a str,
     pub catalog: FileText<'a>,
     pub second: FileText<'a>,
-    pub kind: Kind,
+    pub kind: FileKind,
 }
 
 /// Returns the bytes of a program's file. If the file can't be read, says so in a line to `err`, and returns the exit
@@ -76,7 +77,7 @@ pub fn file_in<R: Files + AllocGlobal, E: Write>(
 fn wrong_item<'a>(mut plan: Plan, line: &'a [u8], catalog: &'a [u8]) -> Wrong<'a> {
     let objects = plan.take_objects();
     let patches = plan.into_patches();
-    let names = Names {
+    let names = CatalogNames {
         objects: &objects,
         patches: &patches,
     };
@@ -137,7 +138,7 @@ impl<'a> Inputs<'a> {
     /// other verdict, hints at the events that are refused, if there are any.
     pub fn print_verdict<E: Write>(&self, alloc: Global, verdict: Verdict, err: &mut E) {
         let _ = match verdict {
-            Verdict::Honest(_) => self.write_refused(alloc, err),
+            Verdict::Honest(counts) => self.write_refused(counts, err),
             Verdict::Dishonest(fault) => self.write_item(alloc, fault, err),
             Verdict::Differs(differs) => self.write_difference(alloc, differs, err),
         };
@@ -168,7 +169,7 @@ impl<'a> Inputs<'a> {
     fn write_misspelled<E: Write>(&self, mut plan: Plan, err: &mut E) -> io::Result<()> {
         let objects = plan.take_objects();
         let patches = plan.into_patches();
-        let names = Names {
+        let names = CatalogNames {
             objects: &objects,
             patches: &patches,
         };
@@ -176,7 +177,11 @@ impl<'a> Inputs<'a> {
     }
 
     /// Hints at the first line of a script that may be misspelled. `names` are the names of the catalog.
-    fn write_first_misspelled<E: Write>(&self, names: &Names<'_>, err: &mut E) -> io::Result<()> {
+    fn write_first_misspelled<E: Write>(
+        &self,
+        names: &CatalogNames<'_>,
+        err: &mut E,
+    ) -> io::Result<()> {
         let mut number = 0u64;
         for line in self.second.bytes.split(|b| *b == b'\n') {
             number = number.saturating_add(1);
@@ -202,28 +207,19 @@ impl<'a> Inputs<'a> {
         }
     }
 
-    /// Hints at the events of an honest trace that are refused. Writes nothing if no event is refused, or if there is
-    /// no memory to find the events.
-    fn write_refused<E: Write>(&self, alloc: Global, err: &mut E) -> io::Result<()> {
-        let trace = self.second.bytes;
-        match replay_of(alloc, self.catalog.bytes, trace, trace.len() as u64) {
-            Some(replay) => self.write_first_refused(&replay, err),
-            None => Ok(()),
-        }
-    }
-
-    /// Hints at the first event that is refused, and says how many events are refused.
-    fn write_first_refused<E: Write>(&self, replay: &Replay, err: &mut E) -> io::Result<()> {
-        let Some(first) = replay.first else {
+    /// Hints at the first event of an honest trace that is refused, and says how many events are refused. Writes
+    /// nothing if no event is refused.
+    fn write_refused<E: Write>(&self, counts: Counts, err: &mut E) -> io::Result<()> {
+        let Some(first) = counts.refused.first else {
             return Ok(());
         };
-        let event = Quoted(line_at(self.second.bytes, first.line));
-        let (refused, events) = (replay.refused, replay.events);
-        self.second.write_item_place(self.program, first.line, err)?;
+        let (line, refusal) = (first.item as u64, first.refusal);
+        let event = Quoted(line_at(self.second.bytes, line));
+        let (refused, events) = (counts.refused.count, counts.events);
+        self.second.write_item_place(self.program, line, err)?;
         writeln!(
             err,
-            "hint: {event}: {}; {refused} of {events} events refused, which is no fault",
-            first.refusal
+            "hint: {event}: {refusal}; {refused} of {events} events refused, which is no fault"
         )
     }
 
@@ -248,8 +244,11 @@ impl<'a> Inputs<'a> {
         let (line, trace) = (differs.item as u64, self.second.bytes);
         let text = Quoted(LineParts::of(line_at(trace, line)).text);
         self.second.write_item_place(self.program, line, err)?;
-        match rules_of(alloc, self.catalog.bytes, trace, line) {
-            Some(rules) => writeln!(err, "{}: {text}: {rules}", differs.cause),
+        match sides_in(alloc, self.catalog.bytes, trace, line) {
+            Some(sides) => {
+                let rules = sides.rules.in_words(&TaskNumbers);
+                writeln!(err, "{}: {text}: {rules}", differs.cause)
+            }
             None => writeln!(
                 err,
                 "{}: {text}: there is no memory to find out what the rules have",
@@ -290,11 +289,11 @@ impl<'a> Inputs<'a> {
         task: u64,
         err: &mut E,
     ) -> io::Result<()> {
-        let replay = replay_of(alloc, self.catalog.bytes, self.second.bytes, lines);
-        match (replay, Catalog::read(alloc, self.catalog.bytes)) {
-            (Some(replay), Ok(plan)) => {
+        let entered = versions_after(alloc, self.catalog.bytes, self.second.bytes, lines);
+        match (entered, Catalog::read(alloc, self.catalog.bytes)) {
+            (Some(entered), Ok(plan)) => {
                 let patches = plan.into_patches();
-                replay.write_versions(task, self.second.bytes, &patches, err)
+                entered.write_versions(task, self.second.bytes, &patches, err)
             }
             _ => writeln!(err, " there is no memory to find them"),
         }

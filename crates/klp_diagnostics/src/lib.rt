@@ -4,9 +4,12 @@
 //! `klpwatch` and `klppage` know only the kind of a fault and its line. [`Inputs`] reads the files again, as text, to
 //! find the place of the fault. `klp_faulty_words` finds the word. If a trace isn't honest, the sentence says which
 //! task does what (`dishonest.rt`), which function the task is inside of (`calls.rt`), or what its call lacks
-//! (`lack.rt`). The trace alone doesn't show which versions a task is inside of, and which events are refused. To find
-//! them out, a manager does the trace's events again (`replay.rt`). If a kernel differs from the rules, the sentence
-//! says what the rules have at that line, and why (`differing.rt`, `rules.rt`).
+//! (`lack.rt`). The trace alone doesn't show which versions a task is inside of, so a manager does the trace's events
+//! again (`replay.rt`). If a kernel differs from the rules, it does so too, up to that line.
+//!
+//! What a kernel and the rules have at a line are values ([`Sides`]), with the names of patches and functions and the
+//! numbers of tasks (`differing.rt`, `rules.rt`, `named.rt`). A program writes them as sentences (`sentences.rt`), in which
+//! tasks have the program's own names ([`TaskNames`]).
 //!
 //! The messages are for people, and have no contract. No bytes of a file can control a terminal through a message. Each
 //! call works with any files.
@@ -17,9 +20,20 @@ mod differing;
 mod dishonest;
 mod inputs;
 mod lack;
+mod named;
 mod replay;
 mod rules;
+mod sentences;
+mod tasks;
 
+pub use differing::Sides;
 pub use inputs::{FileText, Inputs, file_in};
-pub use klp_faulty_words::stray::Kind;
-pub use replay::rules_of;
+pub use klp_faulty_words::stray::FileKind;
+pub use named::{NamedSight, NamedVersion, SpelledVersion};
+pub use replay::sides_in;
+pub use rules::{
+    AnswerReason, LagReason, LaggingTask, LaggingTasks, NoCallReason, RulesHave, StateReason,
+    TaskInTransition,
+};
+pub use sentences::InWords;
+pub use tasks::{TaskNames, TaskNumbers};

@@ -1,22 +1,16 @@
-//! Replays a trace: a manager does the trace's events again. The replay shows which events are refused, which versions
-//! a task is inside of, and what the rules have at a line.
-ghost use Rattle.std.specs.Prelude.{◌≤◌, length};
-ghost use Rattle.klp_catalog_text.specs.Within.{AreTargetsWithin};
+//! Replays a trace: a manager does the trace's events again. The replay shows which versions a task is inside of, and
+//! what the rules have at a line.
 ghost use Rattle.klp_core.specs.Journaled.{IsWellFormed};
 
-use crate::differing::rules_at;
-use klp_callback::Boxed;
-use klp_catalog::Catalog;
-use klp_catalog_text::{Lines, Plan, PlanFunction, PlanPatch};
+use crate::differing::{Sides, sides_at};
+use klp_boot::{ManagerUse, over_text};
+use klp_catalog_text::{Lines, PlanFunction, PlanPatch};
 use klp_console::{event_of, site_of};
 use klp_core::Manager;
-use klp_faulty_words::escaped::Escaped;
 use klp_faulty_words::item::Item;
-use klp_faulty_words::lines::{line_at, word_at};
-use klp_model::Refusal;
-use klp_program::{Fault, boot, close, scripted};
+use klp_messages::{Escaped, line_at, word_at};
 use klp_trace::LineParts;
-use klp_types::{MAX_GROUPS, MAX_RECORDS, TaskId, Version};
+use klp_types::{TaskId, Version};
 use klp_words::{LineWords, Separators, cut};
 use std::alloc::{AllocError, Global};
 use std::io;
@@ -36,32 +30,10 @@ struct Entered {
     version: Version,
 }
 
-/// An event that is refused: its line, and the refusal.
-#[derive(Clone, Copy)]
-pub(crate) struct Refused {
-    pub(crate) line: u64,
-    pub(crate) refusal: Refusal,
-}
-
-/// The results of the lines of a trace that were done so far.
+/// The versions that tasks called, and from which they haven't returned, oldest first.
 #[derive(Drop)]
-pub(crate) struct Replay {
-    pub(crate) events: usize,
-    pub(crate) refused: usize,
-    pub(crate) first: Option<Refused>,
-    /// What the rules have at the line in question. `None` if the question is another one, or if the answer isn't
-    /// known.
-    rules: Option<String>,
-    entered: Vec<Entered>,
-}
-
-/// A question about a trace, which a manager answers.
-#[derive(Clone, Copy)]
-enum Question {
-    /// What are the results of the first lines, as many as this number?
-    Lines(u64),
-    /// What do the rules have at the line with this number, counted from 1?
-    Rules(u64),
+pub(crate) struct EnteredVersions {
+    open: Vec<Entered>,
 }
 
 /// Returns the function with this number, counted from 0 over all targets of a patch. Returns `None` if the patch has
@@ -109,16 +81,6 @@ fn write_new<E: Write>(patch: &PlanPatch, number: u16, err: &mut E) -> io::Resul
     }
 }
 
-/// If the journal might be too full for one more event, seals it.
-pub(crate) fn make_room(manager: &mut Manager)
-    requires { IsWellFormed manager.old }
-    ensures { IsWellFormed manager.new }
-{
-    if manager.mark() >= MAX_GROUPS as u32 || manager.records_free() < MAX_RECORDS as u32 {
-        manager.seal();
-    }
-}
-
 /// Returns the version that a task gets if it calls a symbol now, and the symbol's position. Returns `None` if the task
 /// can't call the symbol.
 fn called(manager: &Manager, task: u64, symbol: &[u8]) -> Option<(Version, u32)> {
@@ -131,49 +93,32 @@ fn called(manager: &Manager, task: u64, symbol: &[u8]) -> Option<(Version, u32)>
     }
 }
 
-/// Whether a line of a trace says what the kernel answered to its event.
-fn is_answered(parts: LineParts<'_>) -> bool {
-    match parts.answer {
-        Some(answer) => answer != b"?".as_slice(),
-        None => false,
+/// Does the event that a line asks for. A line that asks for no event is skipped.
+fn take(manager: &mut Manager, text: &[u8])
+    requires { IsWellFormed manager.old }
+    ensures { IsWellFormed manager.new }
+{
+    if let Some(event) = event_of(LineParts::of(text).item, manager) {
+        manager.make_room();
+        let _ = manager.apply(event);
     }
 }
 
-impl Replay {
-    /// Returns the results of a trace before its first line.
-    fn new(alloc: Global) -> Self {
-        Self {
-            events: 0,
-            refused: 0,
-            first: None,
-            rules: None,
-            entered: Vec::new(alloc),
-        }
-    }
-
-    /// Does the event that a line asks for, and counts it. A refused event is also counted as refused. A line that asks
-    /// for no event is skipped.
-    fn take(&mut self, manager: &mut Manager, line: u64, text: &[u8])
-        requires { IsWellFormed manager.old }
-        ensures { IsWellFormed manager.new }
-    {
-        let parts = LineParts::of(text);
-        let Some(event) = event_of(parts.item, manager) else {
-            return;
+/// Does the events of the first `lines` lines of a trace.
+fn take_all(manager: &mut Manager, trace: &[u8], lines: u64)
+    requires { IsWellFormed manager.old }
+{
+    let mut rest = Lines::new(trace);
+    for _ in 0..lines {
+        let _for_its_clause = manager.mark();
+        let Some(text) = rest.next() else {
+            break;
         };
-        make_room(manager);
-        self.events = self.events.saturating_add(1);
-        // If the line has an answer, the kernel refused the event too, so the refusal isn't counted.
-        if let Err(refusal) = manager.apply(event)
-            && !is_answered(parts)
-        {
-            self.refused = self.refused.saturating_add(1);
-            if self.first.is_none() {
-                self.first = Some(Refused { line, refusal });
-            }
-        }
+        take(manager, text);
     }
+}
 
+impl EnteredVersions {
     /// Notes the version that a task enters by calling a symbol in this line. If the task can't call the symbol, notes
     /// nothing. `Err` if memory runs out.
     fn enter(
@@ -184,7 +129,7 @@ impl Replay {
         symbol: &[u8],
     ) -> Result<(), AllocError> {
         if let Some((version, position)) = called(manager, task, symbol) {
-            self.entered.push(Entered {
+            self.open.push(Entered {
                 task,
                 line,
                 position,
@@ -196,8 +141,8 @@ impl Replay {
 
     /// Notes that a task leaves the version that it entered last.
     fn leave(&mut self, task: u64) {
-        if let Some(place) = self.entered.iter().rposition(|own| own.task == task) {
-            self.entered.remove(place);
+        if let Some(place) = self.open.iter().rposition(|own| own.task == task) {
+            self.open.remove(place);
         }
     }
 
@@ -209,7 +154,7 @@ impl Replay {
         match Item::read(text) {
             Some(Item::Call(task, symbol)) => self.enter(manager, line, task, symbol)?,
             Some(Item::Return(task)) => self.leave(task),
-            _ => self.take(manager, line, text),
+            _ => take(manager, text),
         }
         Ok(())
     }
@@ -229,28 +174,6 @@ impl Replay {
         Ok(())
     }
 
-    /// Does as many lines of a trace as a question needs, and finds the answer to the question. `Err` if memory runs
-    /// out.
-    fn answer(
-        &mut self,
-        alloc: Global,
-        manager: &mut Manager,
-        trace: &[u8],
-        question: Question,
-    ) -> Result<(), AllocError>
-        requires { IsWellFormed manager.old }
-    {
-        match question {
-            Question::Lines(lines) => self.see_all(manager, trace, lines),
-            Question::Rules(line) => {
-                self.see_all(manager, trace, line.saturating_sub(1))?;
-                let _for_its_clause = manager.mark();
-                self.rules = rules_at(alloc, manager, line_at(trace, line));
-                Ok(())
-            }
-        }
-    }
-
     /// Ends a line of `err` with the versions that the task is inside of, outermost first. If there are more than
     /// [`REPORTED`] versions, writes the first [`REPORTED`] and `..`.
     pub(crate) fn write_versions<E: Write>(
@@ -261,7 +184,7 @@ impl Replay {
         err: &mut E,
     ) -> io::Result<()> {
         let mut count: usize = 0;
-        for entered in &self.entered {
+        for entered in &self.open {
             if entered.task == task && count < REPORTED {
                 entered.write(trace, patches, err)?;
             }
@@ -275,59 +198,65 @@ impl Replay {
     }
 }
 
-// Puts the question to a manager, and drops the manager afterwards. Returns `None` if memory runs out.
-fn replay_by(
-    mut manager: Manager,
-    alloc: Global,
-    trace: &[u8],
-    question: Question,
-) -> Option<Replay> {
-    let mut replay = Replay::new(alloc);
-    let _for_its_clause = manager.mark();
-    let ended = replay.answer(alloc, &mut manager, trace, question);
-    close(manager);
-    match ended {
-        Ok(()) => Some(replay),
-        Err(_) => None,
+/// The first lines of a trace, as many as `lines`. They are done to find out which versions tasks are then inside of.
+#[derive(Drop)]
+struct FirstLines<'a> {
+    trace: &'a [u8],
+    lines: u64,
+}
+
+impl ManagerUse for FirstLines<'_> {
+    /// `None` if memory runs out.
+    type Done = Option<EnteredVersions>;
+
+    ghost comes_to = { λ _ _ _ _. Unit {0} };
+
+    fn run(&mut self, alloc: Global, manager: &mut Manager) -> Option<EnteredVersions> {
+        let mut entered = EnteredVersions {
+            open: Vec::new(alloc),
+        };
+        let _for_its_clause = manager.mark();
+        match entered.see_all(manager, self.trace, self.lines) {
+            Ok(()) => Some(entered),
+            Err(_) => None,
+        }
     }
 }
 
-// Boots a manager over a plan, and puts the question to the manager. The boxes of the callbacks are made here, as for
-// watching a trace.
-fn replay_plan(
-    alloc: Global,
-    plan: Plan,
-    trace: &[u8],
-    question: Question,
-) -> Result<Option<Replay>, Fault>
-    requires { AreTargetsWithin (length plan.objects) plan.patches }
-{
-    let mut callbacks = Vec::new(alloc);
-    while let Some(callback) = scripted(alloc, &plan, callbacks.len())? {
-        callbacks.push(Boxed::new(callback))?;
+/// A line of a trace, by its number from 1. The lines before it are done to find out what the rules have at it.
+#[derive(Drop)]
+struct LineInTrace<'a> {
+    trace: &'a [u8],
+    line: u64,
+}
+
+impl ManagerUse for LineInTrace<'_> {
+    /// `None` if the rules can't differ from the line, or if memory runs out.
+    type Done = Option<Sides>;
+
+    ghost comes_to = { λ _ _ _ _. Unit {0} };
+
+    fn run(&mut self, alloc: Global, manager: &mut Manager) -> Option<Sides> {
+        let _for_its_clause = manager.mark();
+        take_all(manager, self.trace, self.line.saturating_sub(1));
+        let _for_its_clause = manager.mark();
+        sides_at(alloc, manager, line_at(self.trace, self.line))
     }
-    let manager = boot(alloc, plan, callbacks)?;
-    Ok(replay_by(manager, alloc, trace, question))
 }
 
-/// Boots a manager with a catalog's text, and puts the question to the manager. Returns `None` if there is no memory
-/// for the manager or the answer.
-fn replayed(alloc: Global, catalog: &[u8], trace: &[u8], question: Question) -> Option<Replay> {
-    let Ok(plan) = Catalog::read(alloc, catalog) else {
-        return None;
-    };
-    replay_plan(alloc, plan, trace, question).ok()?
+/// Returns the versions that tasks are inside of after the first `lines` lines of a trace over a catalog. Returns
+/// `None` if there is no memory to find them out.
+pub(crate) fn versions_after(
+    alloc: Global,
+    catalog: &[u8],
+    trace: &[u8],
+    lines: u64,
+) -> Option<EnteredVersions> {
+    over_text(alloc, catalog, &mut FirstLines { trace, lines }).ok()?
 }
 
-/// Returns the results of the first `lines` lines of a trace over a catalog. Returns `None` if there is no memory to
-/// find them out.
-pub(crate) fn replay_of(alloc: Global, catalog: &[u8], trace: &[u8], lines: u64) -> Option<Replay> {
-    replayed(alloc, catalog, trace, Question::Lines(lines))
-}
-
-/// Returns what the rules have at the line with this number, counted from 1. At this line, the kernel differs from the
-/// rules. Returns `None` if there is no memory to find out.
-pub fn rules_of(alloc: Global, catalog: &[u8], trace: &[u8], line: u64) -> Option<String> {
-    let replay = replayed(alloc, catalog, trace, Question::Rules(line))?;
-    replay.rules
+/// Returns what the kernel and the rules have at the line with this number, counted from 1. At this line, the kernel
+/// differs from the rules. Returns `None` if there is no memory to find out.
+pub fn sides_in(alloc: Global, catalog: &[u8], trace: &[u8], line: u64) -> Option<Sides> {
+    over_text(alloc, catalog, &mut LineInTrace { trace, line }).ok()?
 }

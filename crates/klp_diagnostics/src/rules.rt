@@ -1,113 +1,131 @@
 //! Finds in the state of a manager what the rules have in place of something else that a kernel shows, and why.
 
+use crate::named::{NamedVersion, patch_name};
 use klp_core::{Lag, Manager};
-use klp_types::{Mode, PatchId, Site, TaskId, Version};
+use klp_types::{MAX_TASKS, Mode, PatchId, Site, TaskId, Version};
 use klp_watch::{PatchFiles, Sight};
-use std::fmt;
+use std::alloc::{AllocError, Global};
 
-/// How many tasks are written at most, of those that aren't at the target of a transition.
-const REPORTED: usize = 3;
+/// How many tasks are named at most, of those that aren't at the target of a transition.
+const NAMED: usize = 3;
 
-/// Writes a version as a line of a trace names it. For a new function, adds the function's name.
-#[derive(Clone, Copy)]
-struct Spelled<'a> {
-    manager: &'a Manager,
-    version: Version,
+/// Why a task isn't at the target of a transition.
+#[derive(Drop)]
+pub enum LagReason {
+    /// The task sleeps in a version that the patch in transition changes, or withdraws if it is the patch's own.
+    Holds {
+        version: NamedVersion,
+        patch: String,
+        is_own: bool,
+    },
+    /// The task is in user space.
+    InUserSpace,
+    /// The task runs in the kernel.
+    Runs,
+    /// The task sleeps in no function that holds this patch up.
+    SleepsElsewhere(String),
 }
 
-/// Writes why a task isn't at the target of the transition.
-#[derive(Clone, Copy)]
-struct Lagging<'a> {
-    manager: &'a Manager,
-    task: usize,
-    lag: Lag,
+/// A task that isn't at the target of a transition.
+#[derive(Drop)]
+pub struct LaggingTask {
+    pub task: TaskId,
+    pub reason: LagReason,
 }
 
-/// Writes a colon, the tasks that aren't at the target of the transition, and the reason for each. Tasks that block the
-/// transition are written first. If there are many tasks, writes only some, and the number of the tasks left out.
-/// Writes nothing if all tasks are at the target.
-#[derive(Clone, Copy)]
-pub(crate) struct Holders<'a>(pub(crate) &'a Manager);
-
-/// Writes what the rules have in place of a sight, and why.
-#[derive(Clone, Copy)]
-pub(crate) struct InPlaceOf<'a> {
-    pub(crate) manager: &'a Manager,
-    pub(crate) sight: &'a Sight,
+/// The tasks that aren't at the target of a transition. Those that block it come first.
+#[derive(Drop)]
+pub struct LaggingTasks {
+    /// The first tasks. There are at most three.
+    pub first: Vec<LaggingTask>,
+    /// How many tasks follow these.
+    pub more: usize,
 }
 
-/// Returns the name of a patch. A manager knows the names of all its patches.
-fn patch_name(manager: &Manager, patch: PatchId) -> &str {
-    manager.catalog().patch_name(patch).unwrap_or("a patch")
+/// Why the rules give an answer to an event.
+#[derive(Drop)]
+pub enum AnswerReason {
+    /// These tasks aren't at the target of the transition.
+    Lag(LaggingTasks),
+    /// Every task is switched.
+    AllSwitched,
+    /// This patch is in transition.
+    InTransition(String),
+    /// The answer tells its reason itself.
+    Itself,
+}
+
+/// Why a task has its patch state.
+#[derive(Drop)]
+pub enum StateReason {
+    /// The task isn't at the target of the transition.
+    Lags(LaggingTask),
+    /// The task is at the target of this patch's transition.
+    IsAtTarget(String),
+    /// No patch is in transition.
+    NoTransition,
+}
+
+/// Why a task can't call a function.
+#[derive(Clone, Copy)]
+pub enum NoCallReason {
+    NoTask,
+    NotLoaded,
+}
+
+/// A task's patch state while this patch is in transition. The version that the task gets depends on it.
+#[derive(Drop)]
+pub struct TaskInTransition {
+    pub task: TaskId,
+    pub state: i8,
+    pub patch: String,
+}
+
+/// What the rules have in place of an answer or a sight, and why.
+#[derive(Drop)]
+pub enum RulesHave {
+    /// This answer to an event, as the console writes it.
+    Answer {
+        text: Vec<u8>,
+        reason: AnswerReason,
+    },
+    /// No such task.
+    NoTask(TaskId),
+    /// This patch state of a task.
+    State {
+        state: i8,
+        reason: StateReason,
+    },
+    /// No files of this patch, which isn't installed.
+    NoFiles(String),
+    /// These values of a patch's files. If the patch is in transition, and the kernel shows no transition, these tasks
+    /// lag.
+    Files {
+        files: PatchFiles,
+        lagging: LaggingTasks,
+    },
+    /// No version, for this reason.
+    NoVersion(NoCallReason),
+    /// This version for a task that calls its function. Without a transition, each task gets this version.
+    Version {
+        version: NamedVersion,
+        caller: Option<TaskInTransition>,
+    },
+    /// No such text.
+    NoText,
+    /// No text, since this object isn't loaded.
+    NotLoaded(String),
+    /// A plain text, which no installed patch changes.
+    Plain,
+    /// A hooked text, by these patches, newest first.
+    Hooked(Vec<String>),
 }
 
 /// Returns the name of the patch in transition. Returns `None` if no patch is.
-pub(crate) fn moving_name(manager: &Manager) -> Option<&str> {
-    let moving = manager.moving()?;
-    Some(patch_name(manager, moving.patch))
-}
-
-/// Writes the symbol of a site. Writes nothing if the site has no symbol.
-fn write_symbol<W: fmt::Write>(
-    f: &mut fmt::Formatter<W>,
-    manager: &Manager,
-    site: Site,
-) -> fmt::Result {
-    let modules = manager.modules();
-    let Some((object, symbol, position)) = modules.symbol(site) else {
-        return Ok(());
-    };
-    let object = modules.object_name(object).unwrap_or("");
-    write!(f, ".klp.sym.{object}.{symbol},{position}")
-}
-
-/// Writes a new function of a patch by its number. If the patch has such a function, adds the function's name.
-fn write_new<W: fmt::Write>(
-    f: &mut fmt::Formatter<W>,
-    manager: &Manager,
-    patch: PatchId,
-    function: u16,
-) -> fmt::Result {
-    let name = patch_name(manager, patch);
-    match manager.catalog().function(patch, function) {
-        Some((_, new_name, _)) => write!(f, "{name}:{function} ({new_name})"),
-        None => write!(f, "{name}:{function}"),
-    }
-}
-
-impl<'a> fmt::Display for Spelled<'a> {
-    fn fmt<W: fmt::Write>(&self, f: &mut fmt::Formatter<W>) -> fmt::Result {
-        match self.version {
-            Version::Original(site) => write_symbol(f, self.manager, site),
-            Version::New(patch, function) => write_new(f, self.manager, patch, function),
-        }
-    }
-}
-
-impl<'a> fmt::Display for Lagging<'a> {
-    fn fmt<W: fmt::Write>(&self, f: &mut fmt::Formatter<W>) -> fmt::Result {
-        let Lagging { manager, task, lag } = *self;
-        let patch = moving_name(manager).unwrap_or("a patch");
-        match lag {
-            Lag::Holds(version) => {
-                let is_own = matches!(version, Version::New(own, _) if is_moving(manager, own));
-                let does = if is_own { "withdraws" } else { "changes" };
-                let version = Spelled { manager, version };
-                write!(f, "task {task} sleeps in {version}, which {patch} {does}")
-            }
-            Lag::Waits(Mode::User) => write!(
-                f,
-                "task {task} is in user space, and is switched when it next leaves the kernel"
-            ),
-            Lag::Waits(Mode::Kernel) => write!(
-                f,
-                "task {task} runs in the kernel, and is switched when it leaves"
-            ),
-            Lag::Waits(Mode::Asleep) => write!(
-                f,
-                "task {task} sleeps in no function that holds {patch} up, and is switched by the next poll"
-            ),
-        }
+pub(crate) fn moving_name(alloc: Global, manager: &Manager) -> Result<Option<String>, AllocError> {
+    match manager.moving() {
+        Some(moving) => Ok(Some(patch_name(alloc, manager, moving.patch)?)),
+        None => Ok(None),
     }
 }
 
@@ -119,159 +137,211 @@ fn is_moving(manager: &Manager, patch: PatchId) -> bool {
     }
 }
 
-/// Writes lagging tasks. If `is_blocked`, writes those that are blocked, otherwise those that aren't blocked. `before`
-/// is how many tasks were counted before. Returns the count that includes the tasks of this call.
-fn write_lagging<W: fmt::Write>(
-    f: &mut fmt::Formatter<W>,
+/// Returns why a task isn't at the target of the transition of `patch`.
+fn lag_reason(
+    alloc: Global,
     manager: &Manager,
-    is_blocked: bool,
-    before: usize,
-) -> Result<usize, fmt::Error> {
-    let mut count = before;
-    for (task, lag) in manager.holders().iter().enumerate() {
-        let Some(lag) = *lag else {
-            continue;
+    lag: Lag,
+    patch: String,
+) -> Result<LagReason, AllocError> {
+    Ok(match lag {
+        Lag::Holds(version) => LagReason::Holds {
+            is_own: matches!(version, Version::New(own, _) if is_moving(manager, own)),
+            version: NamedVersion::of(alloc, manager, version)?,
+            patch,
+        },
+        Lag::Waits(Mode::User) => LagReason::InUserSpace,
+        Lag::Waits(Mode::Kernel) => LagReason::Runs,
+        Lag::Waits(Mode::Asleep) => LagReason::SleepsElsewhere(patch),
+    })
+}
+
+impl LaggingTask {
+    /// Returns a task with the reason why it isn't at the target of the transition.
+    fn of(
+        alloc: Global,
+        manager: &Manager,
+        task: TaskId,
+        lag: Lag,
+    ) -> Result<LaggingTask, AllocError> {
+        let patch = match moving_name(alloc, manager)? {
+            Some(patch) => patch,
+            None => String::from_str(alloc, "a patch")?,
         };
-        if matches!(lag, Lag::Holds(_)) == is_blocked {
-            let mark = if count == 0 { ":" } else { ";" };
-            if count < REPORTED {
-                write!(f, "{mark} {}", Lagging { manager, task, lag })?;
+        let reason = lag_reason(alloc, manager, lag, patch)?;
+        Ok(LaggingTask { task, reason })
+    }
+}
+
+impl LaggingTasks {
+    /// No tasks.
+    fn none(alloc: Global) -> LaggingTasks {
+        LaggingTasks {
+            first: Vec::new(alloc),
+            more: 0,
+        }
+    }
+
+    /// Adds a task behind the others.
+    fn add(
+        &mut self,
+        alloc: Global,
+        manager: &Manager,
+        task: TaskId,
+        lag: Lag,
+    ) -> Result<(), AllocError> {
+        if self.first.len() < NAMED {
+            self.first
+                .push(LaggingTask::of(alloc, manager, task, lag)?)?;
+        } else {
+            self.more = self.more.saturating_add(1);
+        }
+        Ok(())
+    }
+
+    /// Adds the lagging tasks that block the transition, or those that don't.
+    fn add_all(
+        &mut self,
+        alloc: Global,
+        manager: &Manager,
+        are_blocked: bool,
+    ) -> Result<(), AllocError> {
+        let lags = manager.holders();
+        for number in 0..MAX_TASKS as u8 {
+            if let Some(lag) = lags[usize::from(number)]
+                && matches!(lag, Lag::Holds(_)) == are_blocked
+            {
+                self.add(alloc, manager, TaskId(number), lag)?;
             }
-            count = count.saturating_add(1);
         }
+        Ok(())
     }
-    Ok(count)
-}
 
-impl<'a> fmt::Display for Holders<'a> {
-    fn fmt<W: fmt::Write>(&self, f: &mut fmt::Formatter<W>) -> fmt::Result {
-        let blocked = write_lagging(f, self.0, true, 0)?;
-        let count = write_lagging(f, self.0, false, blocked)?;
-        match count.saturating_sub(REPORTED) {
-            0 => Ok(()),
-            more => write!(f, "; and {more} more"),
-        }
+    /// Returns the tasks that aren't at the target of the transition.
+    pub(crate) fn of(alloc: Global, manager: &Manager) -> Result<LaggingTasks, AllocError> {
+        let mut tasks = LaggingTasks::none(alloc);
+        tasks.add_all(alloc, manager, true)?;
+        tasks.add_all(alloc, manager, false)?;
+        Ok(tasks)
     }
 }
 
-/// Writes the patch state of a task, and why the task has this state.
-fn write_state<W: fmt::Write>(
-    f: &mut fmt::Formatter<W>,
-    manager: &Manager,
-    task: TaskId,
-) -> fmt::Result {
-    let TaskId(number) = task;
+/// Returns the patch state of a task, and why the task has this state.
+fn state_of(alloc: Global, manager: &Manager, task: TaskId) -> Result<RulesHave, AllocError> {
     let Some(state) = manager.patch_state(task) else {
-        return write!(f, "the rules have no task {number}");
+        return Ok(RulesHave::NoTask(task));
     };
-    write!(f, "the rules have {state}: ")?;
-    match (
-        manager.holders().get(usize::from(number)),
-        moving_name(manager),
-    ) {
-        (Some(Some(lag)), _) => {
-            let (task, lag) = (usize::from(number), *lag);
-            write!(f, "{}", Lagging { manager, task, lag })
-        }
-        (_, Some(patch)) => write!(f, "that is the target of {patch}'s transition"),
-        (_, None) => write!(f, "no patch is in transition"),
-    }
+    let lag = manager
+        .holders()
+        .get(usize::from(task.0))
+        .copied()
+        .unwrap_or(None);
+    let reason = match (lag, moving_name(alloc, manager)?) {
+        (Some(lag), _) => StateReason::Lags(LaggingTask::of(alloc, manager, task, lag)?),
+        (None, Some(patch)) => StateReason::IsAtTarget(patch),
+        (None, None) => StateReason::NoTransition,
+    };
+    Ok(RulesHave::State { state, reason })
 }
 
-/// Writes what the rules have in the files of a patch. If by the rules the patch is in transition, and the kernel
-/// didn't show a transition, also writes which tasks aren't at the target.
-fn write_files<W: fmt::Write>(
-    f: &mut fmt::Formatter<W>,
+/// Returns what the rules have in the files of a patch. If by the rules the patch is in transition, and the kernel
+/// didn't show a transition, also returns which tasks aren't at the target.
+fn files_of(
+    alloc: Global,
     manager: &Manager,
     patch: PatchId,
     seen: Option<PatchFiles>,
-) -> fmt::Result {
+) -> Result<RulesHave, AllocError> {
     let (Some(enabled), Some(transition)) = (manager.enabled(patch), manager.transition(patch))
     else {
-        let name = patch_name(manager, patch);
-        return write!(
-            f,
-            "the rules have no /sys/kernel/livepatch/{name}, since that patch isn't installed"
-        );
+        return Ok(RulesHave::NoFiles(patch_name(alloc, manager, patch)?));
     };
-    let (enabled, transition) = (u8::from(enabled), u8::from(transition));
-    write!(
-        f,
-        "the rules have enabled {enabled}, transition {transition}"
-    )?;
-    match seen {
-        Some(seen) if u8::from(seen.transition) == transition => Ok(()),
-        _ if transition == 1 => write!(f, "{}", Holders(manager)),
-        _ => Ok(()),
+    let is_shown = match seen {
+        Some(seen) => seen.transition == transition,
+        None => false,
+    };
+    let lagging = if transition && !is_shown {
+        LaggingTasks::of(alloc, manager)?
+    } else {
+        LaggingTasks::none(alloc)
+    };
+    let files = PatchFiles {
+        enabled,
+        transition,
+    };
+    Ok(RulesHave::Files { files, lagging })
+}
+
+/// Returns a task's patch state and the patch in transition. Returns `None` if no patch is.
+fn in_transition(
+    alloc: Global,
+    manager: &Manager,
+    task: TaskId,
+) -> Result<Option<TaskInTransition>, AllocError> {
+    match (manager.patch_state(task), moving_name(alloc, manager)?) {
+        (Some(state), Some(patch)) => Ok(Some(TaskInTransition { task, state, patch })),
+        _ => Ok(None),
     }
 }
 
-/// Writes which version a task gets if it calls a site now. The version depends on the task's patch state, so writes
-/// the patch state too.
-fn write_version<W: fmt::Write>(
-    f: &mut fmt::Formatter<W>,
+/// Returns which version a task gets if it calls a site now.
+fn version_of(
+    alloc: Global,
     manager: &Manager,
     task: TaskId,
     site: Site,
-) -> fmt::Result {
-    let TaskId(number) = task;
+) -> Result<RulesHave, AllocError> {
     let Some(target) = manager.pick(task, site) else {
-        let lack = match manager.mode(task) {
-            Some(_) => "the function's object isn't loaded",
-            None => "there is no such task",
-        };
-        return write!(f, "the rules pick nothing: {lack}");
+        return Ok(RulesHave::NoVersion(match manager.mode(task) {
+            Some(_) => NoCallReason::NotLoaded,
+            None => NoCallReason::NoTask,
+        }));
     };
-    let version = target.version;
-    write!(f, "the rules pick {}", Spelled { manager, version })?;
-    match (manager.patch_state(task), moving_name(manager)) {
-        (Some(state), Some(patch)) => {
-            write!(
-                f,
-                ": task {number} has state {state}, and {patch} is in transition"
-            )
-        }
-        _ => write!(f, ": no patch is in transition"),
-    }
+    Ok(RulesHave::Version {
+        version: NamedVersion::of(alloc, manager, target.version)?,
+        caller: in_transition(alloc, manager, task)?,
+    })
 }
 
-/// Writes whether a site is hooked, and which patches hook it, newest first.
-fn write_text<W: fmt::Write>(
-    f: &mut fmt::Formatter<W>,
-    manager: &Manager,
-    site: Site,
-) -> fmt::Result {
+/// Returns the patches that hook a site, newest first.
+fn hooks_of(alloc: Global, manager: &Manager, site: Site) -> Result<Vec<String>, AllocError> {
+    let mut patches = Vec::new(alloc);
+    let entries = manager.stack(site);
+    for entry in entries.as_slice() {
+        patches.push(patch_name(alloc, manager, entry.patch)?)?;
+    }
+    Ok(patches)
+}
+
+/// Returns whether a site is hooked, and which patches hook it.
+fn text_of(alloc: Global, manager: &Manager, site: Site) -> Result<RulesHave, AllocError> {
     let modules = manager.modules();
-    let object = match modules.symbol(site) {
-        Some((object, _, _)) => object,
-        None => return write!(f, "the rules have no such text"),
+    let Some((object, _, _)) = modules.symbol(site) else {
+        return Ok(RulesHave::NoText);
     };
     if !modules.is_loaded(object) {
         let name = modules.object_name(object).unwrap_or("its object");
-        return write!(f, "the rules have no text of it: {name} isn't loaded");
+        return Ok(RulesHave::NotLoaded(String::from_str(alloc, name)?));
     }
-    let entries = manager.stack(site);
-    if entries.is_empty() {
-        return write!(
-            f,
-            "the rules have it plain: no patch that is installed changes it"
-        );
+    let patches = hooks_of(alloc, manager, site)?;
+    if patches.is_empty() {
+        return Ok(RulesHave::Plain);
     }
-    write!(f, "the rules have it hooked, by")?;
-    for (place, entry) in entries.as_slice().iter().enumerate() {
-        let mark = if place == 0 { "" } else { "," };
-        write!(f, "{mark} {}", patch_name(manager, entry.patch))?;
-    }
-    Ok(())
+    Ok(RulesHave::Hooked(patches))
 }
 
-impl<'a> fmt::Display for InPlaceOf<'a> {
-    fn fmt<W: fmt::Write>(&self, f: &mut fmt::Formatter<W>) -> fmt::Result {
-        match *self.sight {
-            Sight::State(task, _) => write_state(f, self.manager, task),
-            Sight::Files(patch, seen) => write_files(f, self.manager, patch, seen),
-            Sight::Version(task, site, _) => write_version(f, self.manager, task, site),
-            Sight::Text(site, _) => write_text(f, self.manager, site),
+impl RulesHave {
+    /// Returns what the rules have in place of a sight, and why. `Err` if memory runs out.
+    pub(crate) fn in_place_of(
+        alloc: Global,
+        manager: &Manager,
+        sight: &Sight,
+    ) -> Result<RulesHave, AllocError> {
+        match *sight {
+            Sight::State(task, _) => state_of(alloc, manager, task),
+            Sight::Files(patch, seen) => files_of(alloc, manager, patch, seen),
+            Sight::Version(task, site, _) => version_of(alloc, manager, task, site),
+            Sight::Text(site, _) => text_of(alloc, manager, site),
         }
     }
 }

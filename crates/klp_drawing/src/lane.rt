@@ -81,7 +81,7 @@ fn add_some(sheet: &mut Sheet, strip: &Strip, stops: &[Stop], words: &[&'static 
 /// to a stay that has a label, adds no words.
 pub(crate) fn add_words(sheet: &mut Sheet, strips: &[Strip], stops: &[Stop], is_task: bool) {
     for strip in strips {
-        if strip.look.is_shown {
+        if strip.look.has_sentence {
             continue;
         }
         let words = words_of(strip.look, is_task);

@@ -27,7 +27,7 @@ pub(crate) struct Look {
     pub mode: Mode,
     /// Whether the bar is part of a stay of the task that a sentence reports. Such a stay has a label, so the bar gets
     /// no words.
-    pub is_shown: bool,
+    pub has_sentence: bool,
 }
 
 /// Returns the look of a task. `None` if there is no such task.
@@ -41,7 +41,7 @@ pub(crate) fn look_of_task(manager: &Manager, task: TaskId, stay: &Option<Stay>)
     Some(Look {
         shade,
         mode,
-        is_shown: stay.is_some(),
+        has_sentence: stay.is_some(),
     })
 }
 
@@ -74,7 +74,7 @@ pub(crate) fn look_of_patch(
     Some(Look {
         shade,
         mode: Mode::Kernel,
-        is_shown: false,
+        has_sentence: false,
     })
 }
 

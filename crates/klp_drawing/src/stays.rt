@@ -20,6 +20,12 @@ const OUTLINED: u64 = 8;
 /// How many points of a stay are left free by the label.
 const SHOWN: u64 = 12;
 
+/// The width of a letter of a label, in quarters of a point.
+const LETTER_QUARTERS: u64 = 30;
+
+/// The width of a label's border on both sides together, in quarters of a point.
+const BORDER_QUARTERS: u64 = 43;
+
 /// The stay of one task, with the places in the drawing between which it lies.
 #[derive(Clone, Copy)]
 pub(crate) struct Held {
@@ -27,7 +33,7 @@ pub(crate) struct Held {
     /// The index of the stay's sentence among all sentences of the run.
     sentence: usize,
     /// Whether the stay's sentence is on the page.
-    is_shown: bool,
+    has_sentence: bool,
     /// Whether the task holds the transition up. If false, the task sleeps in code that isn't called now.
     is_holding: bool,
     /// Whether the stay still goes on at the end of the run.
@@ -69,7 +75,7 @@ impl Gathered {
         &mut self,
         sentence: usize,
         sleepers: &Sleepers,
-        is_shown: bool,
+        has_sentence: bool,
         from: u64,
         to: u64,
     ) -> Result<(), AllocError> {
@@ -77,7 +83,7 @@ impl Gathered {
             self.add(Held {
                 task: *task,
                 sentence,
-                is_shown,
+                has_sentence,
                 is_holding: matches!(sleepers.stay, Stay::Holds(_, _)),
                 is_lasting: sleepers.to.is_none(),
                 from,
@@ -224,7 +230,7 @@ fn add_tip(sheet: &mut Sheet, names: &Names, manager: &Manager, held: &Held, lab
 /// instead.
 fn add_link(sheet: &mut Sheet, held: &Held, line: u64) {
     let line = Number(line);
-    if held.is_shown {
+    if held.has_sentence {
         let task = Number(u64::from(held.task.0));
         sheet.fill("<a href=\"#stay-{}-{}\">", &[line, task]);
     } else {
@@ -232,9 +238,11 @@ fn add_link(sheet: &mut Sheet, held: &Held, line: u64) {
     }
 }
 
-/// Returns the width of a label with this many letters, including its border.
+/// Returns the width of a label with this many letters, including its border, in points. The style sheet sets a
+/// monospace font of 12 points, whose letters are at most 7.5 points wide.
 fn label_width(letters: usize) -> u64 {
-    (letters as u64).saturating_mul(30).saturating_add(43) / 4
+    let quarters = (letters as u64).saturating_mul(LETTER_QUARTERS);
+    quarters.saturating_add(BORDER_QUARTERS) / 4
 }
 
 /// Returns the left end of a label with this width. Returns `None` if there is no room between the stops. If the stay

@@ -3,10 +3,9 @@
 use crate::case::Case;
 use crate::measured::{Measured, SCENES, Way};
 use crate::whole::{Work, shortest};
-use klp_catalog::Catalog;
+use klp_boot::{ManagerUse, over_text};
 use klp_core::Manager;
-use klp_program::{boot, close};
-use klp_watch::{NotHonest, watch};
+use klp_watch::{Differs, RefusedEvents, compare_whole};
 use std::alloc::Global;
 use std::rt::{Clock, Files};
 use std::time::Instant;
@@ -21,32 +20,61 @@ const SMALL: &str = "measured k";
 
 const TIMES: usize = 512;
 
-// Boots a manager over a text. Returns `None` if the text has a fault or a callback.
-fn booted(alloc: Global, text: &[u8]) -> Option<Manager> {
-    let Ok(plan) = Catalog::read(alloc, text) else {
-        return None;
-    };
-    if plan.script(0).is_some() {
-        return None;
-    }
-    match boot(alloc, plan, Vec::new(alloc)) {
-        Ok(manager) => Some(manager),
-        Err(_) => None,
-    }
-}
-
-// Counts the items of a trace. If the trace is honest, all items count as accepted, otherwise all count as refused.
-fn counted(ended: Result<(), NotHonest>, items: usize) -> (u64, u64) {
+// Counts the items of a trace. If the trace is honest, all items but the refused events count as accepted, otherwise all
+// count as refused.
+fn counted(ended: Result<RefusedEvents, Differs>, items: usize) -> (u64, u64) {
     match ended {
-        Ok(()) => (items as u64, 0),
+        Ok(refused) => (
+            items.saturating_sub(refused.count) as u64,
+            refused.count as u64,
+        ),
         Err(_) => (0, items as u64),
     }
 }
 
-// Does one round of a scene, with a new manager. The lists are done in order, and each list is done in several slices.
-// In each slice the manager does all events of the list. For some lists the manager then undoes the events, and only
-// the undoing is measured. The journal has room for one slice. Each return would be proved with all that is known of
-// the manager, so the function has a single return while it has the manager.
+/// A round of a scene. In a round, the lists are done in order, and each list is done in several slices.
+#[derive(Drop)]
+struct SceneRound<'a, 'b, R> {
+    rt: &'a R,
+    way: Way,
+    lists: &'b mut [Measured],
+}
+
+impl<R: Clock> ManagerUse for SceneRound<'_, '_, R> {
+    type Done = io::Result<()>;
+
+    ghost comes_to = { λ _ _ _ _. Unit {0} };
+
+    // In each slice the manager does all events of the list. For some lists the manager then undoes the events, and
+    // only the undoing is measured. The journal has room for one slice.
+    fn run(&mut self, _alloc: Global, manager: &mut Manager) -> io::Result<()> {
+        let (rt, way) = (self.rt, self.way);
+        let lists = &mut *self.lists;
+        let mut ended = Ok(());
+        for list in lists {
+            for _ in 0..list.slices {
+                manager.seal();
+                let mut start = Instant::now(rt);
+                let counts = match way {
+                    Way::Watched => {
+                        counted(compare_whole(manager, &list.items), list.items.len())
+                    }
+                    _ => manager.run(&list.events),
+                };
+                if let Way::TakenBack = way {
+                    start = Instant::now(rt);
+                    let _ = manager.rewind(0);
+                }
+                let end = Instant::now(rt);
+                list.count(counts);
+                ended = ended.and(list.shortest.add(start, end));
+            }
+        }
+        ended
+    }
+}
+
+// Does one round of a scene, with a new manager.
 fn round<R: Clock>(
     rt: &R,
     alloc: Global,
@@ -54,29 +82,10 @@ fn round<R: Clock>(
     way: Way,
     lists: &mut [Measured],
 ) -> io::Result<()> {
-    let Some(mut manager) = booted(alloc, text) else {
-        return Err(io::Error::other("no manager is booted"));
-    };
-    let mut ended = Ok(());
-    for list in lists {
-        for _ in 0..list.slices {
-            manager.seal();
-            let mut start = Instant::now(rt);
-            let counts = match way {
-                Way::Watched => counted(watch(&mut manager, &list.items), list.items.len()),
-                _ => manager.run(&list.events),
-            };
-            if let Way::TakenBack = way {
-                start = Instant::now(rt);
-                let _ = manager.rewind(0);
-            }
-            let end = Instant::now(rt);
-            list.count(counts);
-            ended = ended.and(list.shortest.add(start, end));
-        }
+    match over_text(alloc, text, &mut SceneRound { rt, way, lists }) {
+        Ok(ended) => ended,
+        Err(_) => Err(io::Error::other("no manager is booted")),
     }
-    close(manager);
-    ended
 }
 
 // Measures and prints the costs of the lists of a scene.

@@ -1,10 +1,11 @@
 //! The events that are measured: lists of turns, each with a few steps.
 
-use klp_model::{Event, Seen};
+use klp_model::{Event, Refusal, Reply, Seen};
 use klp_types::{
-    Frames, MAX_FRAMES, MAX_PATCHES, MAX_TASKS, PatchId, ShadowKey, ShadowValue, Site, TaskId,
-    Version,
+    Frames, MAX_FRAMES, MAX_PATCHES, MAX_TASKS, PatchId, PatchState, ShadowKey, ShadowValue, Site,
+    TaskId, Version,
 };
+use klp_watch::{Observed, PatchFiles, Sight};
 use std::alloc::{AllocError, Global};
 
 /// The first patch. `UNCHANGED` is a function that it doesn't change.
@@ -258,15 +259,20 @@ pub(crate) fn events_of(alloc: Global, list: &[Turns]) -> Result<Vec<Event>, All
     Ok(events)
 }
 
+/// The types of an item's parts, besides those of an event. The borrow checker covers a function that makes items only if
+/// the function names the types of all parts.
+type OtherParts = (Reply, Refusal, Sight, PatchFiles, PatchState);
+
 /// Returns the events as items of a trace. After each event in which a task enters the kernel, the task calls a
 /// function and returns from it.
-pub(crate) fn trace_of(alloc: Global, events: &[Event]) -> Result<Vec<Seen>, AllocError> {
+pub(crate) fn trace_of(alloc: Global, events: &[Event]) -> Result<Vec<Observed>, AllocError> {
+    let _parts: Option<OtherParts> = None;
     let mut items = Vec::new(alloc);
     for event in events {
-        items.push(Seen::Event(*event))?;
+        items.push(Observed::Seen(Seen::Event(*event)))?;
         if let Event::EnterKernel(task) = event {
-            items.push(Seen::Call(*task, Site(0)))?;
-            items.push(Seen::Return(*task))?;
+            items.push(Observed::Seen(Seen::Call(*task, Site(0))))?;
+            items.push(Observed::Seen(Seen::Return(*task)))?;
         }
     }
     Ok(items)

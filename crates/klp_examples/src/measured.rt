@@ -5,7 +5,8 @@ use crate::events::{
     MANY_ADDED, MIXED, OF_ONE_TASK, POLLS, REFUSED, STARTED, Turns, events_of, trace_of,
 };
 use crate::time::Shortest;
-use klp_model::{Event, Seen};
+use klp_model::Event;
+use klp_watch::Observed;
 use std::alloc::{AllocError, Global};
 
 /// How often a round does a list that leaves the state as it was.
@@ -190,7 +191,7 @@ pub(crate) struct Measured {
     pub(crate) name: &'static str,
     pub(crate) events: Vec<Event>,
     /// The list's events as items of a trace, for a watched list.
-    pub(crate) items: Vec<Seen>,
+    pub(crate) items: Vec<Observed>,
     /// How often a round does the list.
     pub(crate) slices: u64,
     pub(crate) accepted: u64,

@@ -1,10 +1,10 @@
 //! Finds the word at fault in a faulty line of a catalog, and says what is wanted in its place.
 
 use crate::form::{Form, Part};
-use crate::lines::{line_at, word_at};
 use crate::stray::BYTE_ORDER_MARK;
 use crate::wrong::Wrong;
 use klp_catalog_text::{CatalogLine, Lines, TextFault, TextFaultKind, words_of};
+use klp_messages::{line_at, word_at};
 use klp_types::{MAX_BODY, MAX_LINE};
 use klp_words::{
     LineWords, hexadecimal, is_name, is_symbol_name, number32, number64, signed, spelling_of,
@@ -56,7 +56,7 @@ fn is_edit(alloc: Global, word: &[u8]) -> bool {
         return true;
     }
     let mut words = words_of(&script);
-    let read = CatalogLine::read(alloc, None, &script, b"pre", &mut words);
+    let read = CatalogLine::read(alloc, None, 1, &script, b"pre", &mut words);
     !matches!(read, Err(TextFaultKind::BadEdit))
 }
 

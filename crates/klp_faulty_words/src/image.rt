@@ -1,45 +1,18 @@
 //! Finds the symbol at fault, or the two symbols, among objects of which no image can be made.
 
-use crate::wrong::{Named, Wrong};
-use klp_text::ImageFault;
-use klp_types::{ENTRY_SITE_LEN, ObjectText, SymbolText};
+use crate::wrong::{NamedSymbol, Wrong};
+use klp_text::{ImageFault, can_reach, end_of, entry_bytes, entry_offset, share_address};
+use klp_types::{ObjectText, SymbolText};
 
-/// The instruction ENDBR64. If a function begins with this instruction, the function's entry site is behind it.
-const ENDBR64: [u8; 4] = [0xf3, 0x0f, 0x1e, 0xfa];
-
-/// Returns the index in a symbol's body at which its entry site ends.
-fn entry_end(symbol: &SymbolText) -> usize {
-    if symbol.body.starts_with(&ENDBR64) {
-        ENDBR64.len() + ENTRY_SITE_LEN
-    } else {
-        ENTRY_SITE_LEN
-    }
-}
-
-/// Whether a symbol's body ends before the symbol's entry site does.
-fn is_short(symbol: &SymbolText) -> bool {
-    symbol.body.len() < entry_end(symbol)
-}
-
-/// Whether a call at the symbol's entry site can reach the handler. The distance must fit into 32 bits with a sign.
+/// Whether a call at the symbol's entry site reaches the handler.
 fn is_in_reach(handler: u64, symbol: &SymbolText) -> bool {
-    let behind = i128::from(symbol.address) + entry_end(symbol) as i128;
-    i32::try_from(i128::from(handler) - behind).is_ok()
-}
-
-/// Returns the address behind the last byte of a symbol.
-fn end_of(symbol: &SymbolText) -> u128 {
-    u128::from(symbol.address) + symbol.body.len() as u128
-}
-
-/// Whether two symbols have an address in common.
-fn share_address(one: &SymbolText, other: &SymbolText) -> bool {
-    u128::from(one.address) < end_of(other) && u128::from(other.address) < end_of(one)
+    let offset = entry_offset(symbol.body.as_slice());
+    can_reach(handler, u128::from(symbol.address) + offset as u128)
 }
 
 /// Returns the names of a symbol and of its object.
-fn named<'a>(object: &'a ObjectText, symbol: &'a SymbolText) -> Named<'a> {
-    Named {
+fn named<'a>(object: &'a ObjectText, symbol: &'a SymbolText) -> NamedSymbol<'a> {
+    NamedSymbol {
         symbol: symbol.name.as_str(),
         object: object.name.as_str(),
     }
@@ -48,7 +21,7 @@ fn named<'a>(object: &'a ObjectText, symbol: &'a SymbolText) -> Named<'a> {
 /// Returns what a symbol must be, if the symbol by itself has this fault. Returns `None` if it doesn't have the fault.
 fn wanted_of(fault: ImageFault, handler: u64, symbol: &SymbolText) -> Option<&'static str> {
     match fault {
-        ImageFault::ShortSymbol if is_short(symbol) => {
+        ImageFault::ShortSymbol if entry_bytes(symbol.body.as_slice()).is_none() => {
             Some("are 5 bytes for a call, behind an ENDBR64 if it begins with one")
         }
         ImageFault::Displacement if !is_in_reach(handler, symbol) => {
@@ -63,7 +36,11 @@ fn wanted_of(fault: ImageFault, handler: u64, symbol: &SymbolText) -> Option<&'s
 
 /// Returns the first of an object's first `before` symbols that shares an address with `symbol`. Returns `None` if no
 /// symbol does.
-fn sharing<'a>(object: &'a ObjectText, before: usize, symbol: &SymbolText) -> Option<Named<'a>> {
+fn sharing<'a>(
+    object: &'a ObjectText,
+    before: usize,
+    symbol: &SymbolText,
+) -> Option<NamedSymbol<'a>> {
     for other in object.symbols.iter().take(before) {
         if share_address(other, symbol) {
             return Some(named(object, other));
@@ -78,7 +55,7 @@ fn in_the_way<'a>(
     objects: &'a [ObjectText],
     place: usize,
     symbol: &SymbolText,
-) -> Option<Named<'a>> {
+) -> Option<NamedSymbol<'a>> {
     let (last, earlier) = objects.split_last()?;
     for object in earlier {
         if let Some(other) = sharing(object, object.symbols.len(), symbol) {

@@ -1,10 +1,10 @@
 //! Reads lines of a trace that are about one task, or that are no items. Also reads lines of a script that may be
 //! misspelled.
 
-use crate::lines::word_at;
-use crate::names::{Kind, Names, wrong_word};
+use crate::names::{CatalogNames, WordKind, wrong_word};
 use crate::stray::{is_query, is_reported_elsewhere};
 use crate::wrong::Wrong;
+use klp_messages::word_at;
 use klp_trace::LineParts;
 use klp_types::MAX_FRAMES;
 use klp_words::{LineWords, Separators, microseconds, number64};
@@ -41,17 +41,17 @@ const FILES: &str = "saw PATCH ENABLED TRANSITION";
 const OF_NO_EVENT: [&[u8]; 6] = [b"call", b"return", b"saw", b"ran", b"hooked", b"plain"];
 
 /// For each word in capital letters, its kind.
-static KINDS: [(&str, Kind); 10] = [
-    ("PATCH", Kind::Patch),
-    ("OBJECT", Kind::Object),
-    ("SYMBOL", Kind::Symbol),
-    ("FRAME", Kind::Frame),
-    ("FILE", Kind::File),
-    ("TASK", Kind::Task),
-    ("SWITCH", Kind::Switch),
-    ("ENABLED", Kind::Switch),
-    ("TRANSITION", Kind::Switch),
-    ("STATE", Kind::State),
+static KINDS: [(&str, WordKind); 10] = [
+    ("PATCH", WordKind::Patch),
+    ("OBJECT", WordKind::Object),
+    ("SYMBOL", WordKind::Symbol),
+    ("FRAME", WordKind::Frame),
+    ("FILE", WordKind::File),
+    ("TASK", WordKind::Task),
+    ("SWITCH", WordKind::Switch),
+    ("ENABLED", WordKind::Switch),
+    ("TRANSITION", WordKind::Switch),
+    ("STATE", WordKind::State),
 ];
 
 /// What is wanted in place of a line that has none of these forms. It is also wanted in place of a console line that
@@ -138,7 +138,7 @@ fn begins_as(form: &[u8], line: &[u8]) -> bool {
 
 /// Returns the kind that this part of a form wants, if the word isn't of this kind. Returns `None` if the word is of
 /// this kind, or if the part wants no kind.
-fn in_place_of(part: &[u8], word: &[u8], names: &Names<'_>) -> Option<Kind> {
+fn in_place_of(part: &[u8], word: &[u8], names: &CatalogNames<'_>) -> Option<WordKind> {
     let (_, kind) = KINDS.iter().find(|row| row.0.as_bytes() == part)?;
     (!names.has(*kind, word)).then_some(*kind)
 }
@@ -148,7 +148,7 @@ fn in_place_of(part: &[u8], word: &[u8], names: &Names<'_>) -> Option<Kind> {
 fn wrong_in<'a>(
     form: &'static str,
     line: &'a [u8],
-    names: &Names<'_>,
+    names: &CatalogNames<'_>,
     catalog: &'a [u8],
 ) -> Option<Wrong<'a>> {
     let (mut parts, mut words) = (words_of(form.as_bytes()), words_of(line));
@@ -230,7 +230,7 @@ fn is_of_no_event(item: &[u8]) -> bool {
 
 /// Returns what is wrong with a line of a trace that isn't an item. `names` and `catalog` are the names and the text of
 /// the same catalog.
-pub fn wrong_of<'a>(line: &'a [u8], names: &Names<'_>, catalog: &'a [u8]) -> Wrong<'a> {
+pub fn wrong_of<'a>(line: &'a [u8], names: &CatalogNames<'_>, catalog: &'a [u8]) -> Wrong<'a> {
     let parts = LineParts::of(line);
     if let Some(time) = parts.time
         && microseconds(time).is_none()
@@ -255,7 +255,7 @@ pub fn wrong_of<'a>(line: &'a [u8], names: &Names<'_>, catalog: &'a [u8]) -> Wro
 /// ask, and lines about shadow variables, aren't checked, and the result for them is `None` too.
 pub fn misspelled_in<'a>(
     line: &'a [u8],
-    names: &Names<'_>,
+    names: &CatalogNames<'_>,
     catalog: &'a [u8],
 ) -> Option<Wrong<'a>> {
     if is_reported_elsewhere(line) || is_query(line) {

@@ -10,15 +10,13 @@
 //! (`unpicked.rt`), and adds a name that is spelled similarly (`near.rt`).
 //!
 //! The sentences and hints are for people, and have no contract. No bytes of a file can control a terminal through them
-//! (`escaped.rt`). Each call works with any files.
+//! (`klp_messages`). Each call works with any files.
 #![tactic(auto)]
 
 pub mod catalog_fault;
-pub mod escaped;
 mod form;
 pub mod image;
 pub mod item;
-pub mod lines;
 pub mod names;
 mod near;
 pub mod same_site;

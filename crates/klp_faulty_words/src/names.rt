@@ -1,9 +1,9 @@
 //! The names of a catalog, and the words of a trace or a script that must be such names.
 
-use crate::same_site::position_in;
 use crate::unpicked::unpicked_by;
 use crate::wrong::Wrong;
 use klp_catalog_text::PlanPatch;
+use klp_modules::place_in;
 use klp_types::{MAX_INDEX, MAX_TASKS, ObjectText};
 use klp_words::{cut, number64, spelling_of};
 
@@ -12,7 +12,7 @@ const BELOW_PATCHES: &[u8] = b"/sys/kernel/livepatch/";
 
 /// The kind that a word of a trace must be of.
 #[derive(Clone, Copy)]
-pub(crate) enum Kind {
+pub(crate) enum WordKind {
     Patch,
     Object,
     Symbol,
@@ -23,34 +23,34 @@ pub(crate) enum Kind {
     State,
 }
 
-impl Kind {
+impl WordKind {
     /// Returns the phrase that says what a word of this kind must be. The phrase begins with its verb.
     pub(crate) fn wanted(self) -> &'static str {
         match self {
-            Kind::Patch => "is a patch of the catalog",
-            Kind::Object => "is an object of the catalog",
-            Kind::Symbol => "is one symbol of the catalog, as .klp.sym.OBJECT.SYMBOL,POSITION",
-            Kind::Frame => "is .klp.sym.OBJECT.SYMBOL,POSITION or PATCH:INDEX, of the catalog",
-            Kind::File => "is /sys/kernel/livepatch/PATCH/enabled or force, of a known patch",
-            Kind::Task => "is a task, from 0 to 63",
-            Kind::Switch => "is 0 or 1",
-            Kind::State => "is -1, 0 or 1",
+            WordKind::Patch => "is a patch of the catalog",
+            WordKind::Object => "is an object of the catalog",
+            WordKind::Symbol => "is one symbol of the catalog, as .klp.sym.OBJECT.SYMBOL,POSITION",
+            WordKind::Frame => "is .klp.sym.OBJECT.SYMBOL,POSITION or PATCH:INDEX, of the catalog",
+            WordKind::File => "is /sys/kernel/livepatch/PATCH/enabled or force, of a known patch",
+            WordKind::Task => "is a task, from 0 to 63",
+            WordKind::Switch => "is 0 or 1",
+            WordKind::State => "is -1, 0 or 1",
         }
     }
 }
 
 /// The objects and patches of a catalog, to be found by name.
 #[derive(Clone, Copy)]
-pub struct Names<'a> {
+pub struct CatalogNames<'a> {
     pub objects: &'a [ObjectText],
     pub patches: &'a [PlanPatch],
 }
 
 /// Returns what is wrong with a word that should be of this kind and isn't. If the word spells a symbol, the catalog's
 /// text is searched for the reason why no symbol is picked, and for a similar name.
-pub(crate) fn wrong_word<'a>(kind: Kind, word: &'a [u8], catalog: &'a [u8]) -> Wrong<'a> {
+pub(crate) fn wrong_word<'a>(kind: WordKind, word: &'a [u8], catalog: &'a [u8]) -> Wrong<'a> {
     let unpicked = match kind {
-        Kind::Symbol | Kind::Frame => unpicked_by(catalog, word),
+        WordKind::Symbol | WordKind::Frame => unpicked_by(catalog, word),
         _ => None,
     };
     match unpicked {
@@ -64,7 +64,7 @@ fn is_number_to(most: u64, word: &[u8]) -> bool {
     number64(word).is_some_and(|number| number <= most)
 }
 
-impl<'a> Names<'a> {
+impl<'a> CatalogNames<'a> {
     /// Whether the catalog has a patch of this name.
     fn has_patch(&self, name: &[u8]) -> bool {
         self.patches.iter().any(|own| own.name.as_bytes() == name)
@@ -81,7 +81,7 @@ impl<'a> Names<'a> {
             let Some(object) = self.object(spelling.object.as_bytes()) else {
                 return false;
             };
-            position_in(object, spelling.symbol, spelling.sympos).is_some()
+            place_in(object, spelling.symbol, spelling.sympos).is_ok()
         })
     }
 
@@ -98,16 +98,16 @@ impl<'a> Names<'a> {
     }
 
     /// Whether a word is of this kind.
-    pub(crate) fn has(&self, kind: Kind, word: &[u8]) -> bool {
+    pub(crate) fn has(&self, kind: WordKind, word: &[u8]) -> bool {
         match kind {
-            Kind::Patch => self.has_patch(word),
-            Kind::Object => self.object(word).is_some(),
-            Kind::Symbol => self.has_symbol(word),
-            Kind::Frame => self.has_frame(word),
-            Kind::File => self.has_file(word),
-            Kind::Task => is_number_to(MAX_TASKS as u64 - 1, word),
-            Kind::Switch => is_number_to(1, word) && word.len() == 1,
-            Kind::State => matches!(word, b"-1" | b"0" | b"1"),
+            WordKind::Patch => self.has_patch(word),
+            WordKind::Object => self.object(word).is_some(),
+            WordKind::Symbol => self.has_symbol(word),
+            WordKind::Frame => self.has_frame(word),
+            WordKind::File => self.has_file(word),
+            WordKind::Task => is_number_to(MAX_TASKS as u64 - 1, word),
+            WordKind::Switch => is_number_to(1, word) && word.len() == 1,
+            WordKind::State => matches!(word, b"-1" | b"0" | b"1"),
         }
     }
 }

@@ -1,31 +1,14 @@
 //! Finds two functions of a patch that are for the same site.
 
-use crate::wrong::{Named, Pair, Wrong};
+use crate::wrong::{NamedSymbol, SitePair, Wrong};
 use klp_catalog_text::{PlanFunction, PlanPatch, PlanTarget};
+use klp_modules::place_in;
 use klp_types::ObjectText;
-
-/// Returns the position, counted from 1, of the symbol that this name and `sympos` pick. A `sympos` of 0 picks the only
-/// symbol of the name. Returns `None` if there is no such symbol, or if `sympos` is 0 and several symbols have the
-/// name.
-pub(crate) fn position_in(object: &ObjectText, symbol: &str, sympos: u32) -> Option<usize> {
-    let count = object
-        .symbols
-        .iter()
-        .filter(|own| own.name.as_str() == symbol)
-        .count();
-    match sympos as usize {
-        0 if count == 1 => Some(1),
-        position if 0 < position && position <= count => Some(position),
-        _ => None,
-    }
-}
 
 /// Whether two functions of a patch replace the same symbol of an object.
 fn are_for_one_site(object: &ObjectText, one: &PlanFunction, other: &PlanFunction) -> bool {
-    let position = position_in(object, one.symbol.as_str(), one.sympos);
-    one.symbol == other.symbol
-        && position.is_some()
-        && position == position_in(object, other.symbol.as_str(), other.sympos)
+    let place = place_in(object, one.symbol.as_str(), one.sympos).ok();
+    place.is_some() && place == place_in(object, other.symbol.as_str(), other.sympos).ok()
 }
 
 /// Returns the first of `functions` that is for the same site as `function`. Returns `None` if there is no such
@@ -42,14 +25,18 @@ fn earlier<'a>(
 
 /// Returns the first two functions of a target that are for the same site. Returns `None` if the target has no two such
 /// functions.
-fn pair_in<'a>(patch: &'a str, object: &'a ObjectText, target: &'a PlanTarget) -> Option<Pair<'a>> {
+fn pair_in<'a>(
+    patch: &'a str,
+    object: &'a ObjectText,
+    target: &'a PlanTarget,
+) -> Option<SitePair<'a>> {
     for (place, function) in target.functions.iter().enumerate() {
         if let Some(other) = earlier(object, &target.functions[..place], function) {
-            return Some(Pair {
+            return Some(SitePair {
                 patch,
                 first: other.new_name.as_str(),
                 second: function.new_name.as_str(),
-                site: Named {
+                site: NamedSymbol {
                     symbol: function.symbol.as_str(),
                     object: object.name.as_str(),
                 },
@@ -61,7 +48,7 @@ fn pair_in<'a>(patch: &'a str, object: &'a ObjectText, target: &'a PlanTarget) -
 
 /// Returns the first two functions of a patch that are for the same site. Returns `None` if the patch has no two such
 /// functions.
-fn pair_of<'a>(objects: &'a [ObjectText], patch: &'a PlanPatch) -> Option<Pair<'a>> {
+fn pair_of<'a>(objects: &'a [ObjectText], patch: &'a PlanPatch) -> Option<SitePair<'a>> {
     for target in &patch.targets {
         let object = objects.get(usize::from(target.object.0))?;
         let pair = pair_in(patch.name.as_str(), object, target);

@@ -8,7 +8,7 @@ pub(crate) const BYTE_ORDER_MARK: [u8; 3] = [0xef, 0xbb, 0xbf];
 
 /// The kind of the file that is given beside the catalog.
 #[derive(Clone, Copy)]
-pub enum Kind {
+pub enum FileKind {
     Script,
     Trace,
 }
@@ -106,21 +106,22 @@ impl Stray {
 
     /// Returns the hint at this stray in a file of this kind. Returns `None` if files of this kind may have these words
     /// or bytes.
-    pub fn hint(self, kind: Kind) -> Option<&'static str> {
+    pub fn hint(self, kind: FileKind) -> Option<&'static str> {
         Some(match (self, kind) {
-            (Stray::Catalog, Kind::Script) => "a catalog, where a script is wanted",
-            (Stray::Catalog, Kind::Trace) => "a catalog, where a trace is wanted",
-            (Stray::Script, Kind::Trace) => {
+            (Stray::Catalog, FileKind::Script) => "a catalog, where a script is wanted",
+            (Stray::Catalog, FileKind::Trace) => "a catalog, where a trace is wanted",
+            (Stray::Script, FileKind::Trace) => {
                 "a line of a script, where a trace is wanted: klppage takes scripts"
             }
-            (Stray::Trace, Kind::Script) => {
+            (Stray::Trace, FileKind::Script) => {
                 "a line of a trace, where a script is wanted: klpwatch takes traces"
             }
-            (Stray::Script, Kind::Script) | (Stray::Trace, Kind::Trace) => return None,
+            (Stray::Script, FileKind::Script) | (Stray::Trace, FileKind::Trace) => return None,
             (Stray::Utf16, _) => "UTF-16, by its first two bytes: wanted is ASCII or UTF-8",
             (Stray::ByteOrderMark, _) => "a byte-order mark, which is part of the first word",
-            (Stray::CarriageReturn, Kind::Script) => "a carriage return, which is part of a word",
-            (Stray::CarriageReturn, Kind::Trace) => {
+            (Stray::CarriageReturn, FileKind::Script) =>
+                "a carriage return, which is part of a word",
+            (Stray::CarriageReturn, FileKind::Trace) => {
                 "a carriage return, which is dropped at the end of a line, and else is part of a word"
             }
             (Stray::Tab, _) => "a tab, which is part of a word: spaces separate words",

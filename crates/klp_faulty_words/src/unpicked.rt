@@ -2,8 +2,8 @@
 //! position is 0, or if fewer symbols have it than the position says.
 
 use crate::catalog_fault::first_words;
-use crate::escaped::{Escaped, Quoted};
 use crate::near::nearer;
+use klp_messages::{Escaped, Quoted};
 use klp_words::{Spelling, spelling_of};
 use std::fmt;
 
@@ -12,7 +12,7 @@ const KERNEL: &[u8] = b"vmlinux";
 
 /// Why a spelling picks no symbol.
 #[derive(Clone, Copy)]
-pub enum Why<'a> {
+pub enum WhyUnpicked<'a> {
     /// The catalog has no object of this name. If the catalog has an object with a similar name, the value is that
     /// name.
     NoObject(Option<&'a [u8]>),
@@ -29,7 +29,7 @@ pub enum Why<'a> {
 pub struct Unpicked<'a> {
     object: &'a str,
     symbol: &'a str,
-    pub why: Why<'a>,
+    pub why: WhyUnpicked<'a>,
 }
 
 /// A function of a catalog whose symbol can't be picked, and the line of the function.
@@ -43,7 +43,7 @@ pub struct Unloadable<'a> {
 
 /// The result of a search of a catalog's lines for the object and the symbol that a spelling names.
 #[derive(Clone, Copy)]
-struct Found<'a> {
+struct FoundSymbol<'a> {
     has_object: bool,
     /// How many symbols of the object have the name.
     count: usize,
@@ -63,26 +63,26 @@ impl<'a> fmt::Display for Unpicked<'a> {
     fn fmt<W: fmt::Write>(&self, f: &mut fmt::Formatter<W>) -> fmt::Result {
         let (object, symbol) = (self.object, self.symbol);
         match self.why {
-            Why::NoObject(near) => {
+            WhyUnpicked::NoObject(near) => {
                 write!(
                     f,
                     "wanted is an object of the catalog, which has no {object}"
                 )?;
                 write_but(f, near)
             }
-            Why::NoSymbol(near) => {
+            WhyUnpicked::NoSymbol(near) => {
                 write!(f, "wanted is a symbol of {object}, which has no {symbol}")?;
                 write_but(f, near)
             }
-            Why::Several(count) => write!(
+            WhyUnpicked::Several(count) => write!(
                 f,
                 "wanted is a position from 1 to {count}: {object} has {count} symbols {symbol}"
             ),
-            Why::Fewer(1) => write!(
+            WhyUnpicked::Fewer(1) => write!(
                 f,
                 "wanted is position 0 or 1: {object} has one symbol {symbol}"
             ),
-            Why::Fewer(count) => write!(
+            WhyUnpicked::Fewer(count) => write!(
                 f,
                 "wanted is a position up to {count}: {object} has {count} symbols {symbol}"
             ),
@@ -108,9 +108,9 @@ impl<'a> fmt::Display for Unloadable<'a> {
 
 /// Returns what a catalog has for this spelling. All objects and symbols precede the first patch, so only the lines
 /// before the first patch are searched.
-fn found_in<'a>(catalog: &'a [u8], wanted: &Spelling<'_>) -> Found<'a> {
+fn found_in<'a>(catalog: &'a [u8], wanted: &Spelling<'_>) -> FoundSymbol<'a> {
     let (object, symbol) = (wanted.object.as_bytes(), wanted.symbol.as_bytes());
-    let mut found = Found {
+    let mut found = FoundSymbol {
         has_object: false,
         count: 0,
         near_object: None,
@@ -139,11 +139,11 @@ pub(crate) fn unpicked_by<'a>(catalog: &'a [u8], word: &'a [u8]) -> Option<Unpic
     let wanted = spelling_of(word)?;
     let found = found_in(catalog, &wanted);
     let why = match (found.count, wanted.sympos as usize) {
-        _ if !found.has_object => Why::NoObject(found.near_object),
-        (0, _) => Why::NoSymbol(found.near_symbol),
+        _ if !found.has_object => WhyUnpicked::NoObject(found.near_object),
+        (0, _) => WhyUnpicked::NoSymbol(found.near_symbol),
         (1, 0) => return None,
-        (count, 0) => Why::Several(count),
-        (count, position) if position > count => Why::Fewer(count),
+        (count, 0) => WhyUnpicked::Several(count),
+        (count, position) if position > count => WhyUnpicked::Fewer(count),
         _ => return None,
     };
     Some(Unpicked {
@@ -164,9 +164,9 @@ fn is_loaded(text: &[u8], patch: &[u8]) -> bool {
 /// If the object is missing, it gets none.
 fn is_reported(unpicked: &Unpicked<'_>, patch: &[u8], second: &[u8]) -> bool {
     match unpicked.why {
-        Why::NoSymbol(_) | Why::Fewer(_) => true,
-        Why::Several(_) => is_loaded(second, patch),
-        Why::NoObject(_) => false,
+        WhyUnpicked::NoSymbol(_) | WhyUnpicked::Fewer(_) => true,
+        WhyUnpicked::Several(_) => is_loaded(second, patch),
+        WhyUnpicked::NoObject(_) => false,
     }
 }
 

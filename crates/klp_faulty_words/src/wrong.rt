@@ -1,23 +1,23 @@
 //! The faults of a file, as the text that follows the name of the fault.
 
-use crate::escaped::{Escaped, Quoted};
 use crate::unpicked::Unpicked;
+use klp_messages::{Escaped, Quoted};
 use std::fmt;
 
 /// The names of a symbol and of its object.
 #[derive(Clone, Copy)]
-pub struct Named<'a> {
+pub struct NamedSymbol<'a> {
     pub symbol: &'a str,
     pub object: &'a str,
 }
 
 /// Two functions of a patch that are for one site.
 #[derive(Clone, Copy)]
-pub struct Pair<'a> {
+pub struct SitePair<'a> {
     pub patch: &'a str,
     pub first: &'a str,
     pub second: &'a str,
-    pub site: Named<'a>,
+    pub site: NamedSymbol<'a>,
 }
 
 /// What is wrong. A text that says what is wanted begins with its verb.
@@ -34,24 +34,24 @@ pub enum Wrong<'a> {
     /// This word or line is one too many. The number is how many are allowed, and the text is the name of what is
     /// counted.
     Most(&'a [u8], usize, &'static str),
-    Symbol(Named<'a>, &'static str),
-    SharedAddress(Named<'a>, Named<'a>),
+    Symbol(NamedSymbol<'a>, &'static str),
+    SharedAddress(NamedSymbol<'a>, NamedSymbol<'a>),
     /// The first object isn't the kernel, since it has this name.
     First(&'a str),
-    SameSite(Pair<'a>),
+    SameSite(SitePair<'a>),
     /// The two files are swapped. The file with this name is the one that is wanted in this place.
     Swapped(&'a str),
 }
 
-impl<'a> fmt::Display for Named<'a> {
+impl<'a> fmt::Display for NamedSymbol<'a> {
     fn fmt<W: fmt::Write>(&self, f: &mut fmt::Formatter<W>) -> fmt::Result {
         write!(f, "{} of {}", self.symbol, self.object)
     }
 }
 
-impl<'a> fmt::Display for Pair<'a> {
+impl<'a> fmt::Display for SitePair<'a> {
     fn fmt<W: fmt::Write>(&self, f: &mut fmt::Formatter<W>) -> fmt::Result {
-        let Pair {
+        let SitePair {
             patch,
             first,
             second,

@@ -1,7 +1,6 @@
 //! Finds parts of a patch that can't work, or do nothing, whatever the state is.
 
-use crate::catalog_line::word_of;
-use crate::remark::{Kind, Remark};
+use crate::remark::{Remark, RemarkKind};
 use crate::words::LintedPatch;
 use klp_catalog_text::{PlanCallback, PlanFunction, PlanPatch};
 use klp_modules::{Modules, SymbolFault};
@@ -10,7 +9,7 @@ use std::io::Write;
 use std::{fmt, io};
 
 /// Whether the patch has a system state with this id.
-pub(crate) fn names(patch: &PlanPatch, id: u64) -> bool {
+pub(crate) fn names_state(patch: &PlanPatch, id: u64) -> bool {
     patch.states.iter().any(|state| state.id == id)
 }
 
@@ -32,12 +31,15 @@ impl fmt::Display for IdleChange {
 /// `None` if the edit may do something.
 fn idle_state(patch: &PlanPatch, patches: &[PlanPatch], edit: &Edit) -> Option<IdleChange> {
     match *edit {
-        Edit::SetData(id, _) | Edit::TakePrev(id) if !names(patch, id) => Some(IdleChange {
+        Edit::SetData(id, _) | Edit::TakePrev(id) if !names_state(patch, id) => Some(IdleChange {
             id,
             why: "which the patch doesn't name",
         }),
         Edit::TakePrev(id) => {
-            let count = patches.iter().filter(|patch| names(patch, id)).count();
+            let count = patches
+                .iter()
+                .filter(|patch| names_state(patch, id))
+                .count();
             if count > 1 {
                 None
             } else {
@@ -61,11 +63,10 @@ fn say_idle_edits<W: Write>(
     let mut count = 0u64;
     for edit in callback.script.edits.as_slice() {
         if let Some(idle) = idle_state(own.patch, own.linted.patches, edit) {
-            let line = own.line_behind(Some(place), Some(word_of(callback.which)), 0);
             let remark = Remark {
                 object: Some(own.object(place)),
                 state: Some(idle.id),
-                ..Remark::at(Kind::Idle, line)
+                ..Remark::at(RemarkKind::Idle, callback.line)
             };
             count = count.saturating_add(own.say(remark, &idle, out)?);
         }
@@ -120,15 +121,12 @@ pub(crate) fn say_unpicked<W: Write>(
     let patch = own.patch;
     for (place, target) in patch.targets.iter().enumerate() {
         let object = own.object(place);
-        for (before, function) in target.functions.iter().enumerate() {
+        for function in target.functions.iter() {
             let symbol = function.symbol.as_str();
             if let Err(fault) = modules.resolve(target.object, symbol, function.sympos) {
                 let remark = Remark {
                     object: Some(object),
-                    ..Remark::at(
-                        Kind::NoSymbol,
-                        own.line_behind(Some(place), Some(b"func"), before),
-                    )
+                    ..Remark::at(RemarkKind::NoSymbol, function.line)
                 };
                 let unpicked = Unpicked {
                     object,

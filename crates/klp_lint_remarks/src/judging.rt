@@ -1,20 +1,17 @@
 //! Boots a manager over a catalog, serves a script, and then judges each patch. Then boots another manager, in which
 //! patches are loaded over each other.
 ghost use Rattle.std.specs.Prelude.{◌≡◌, ◌<◌, ◌≤◌, length, IfSome};
-ghost use Rattle.klp_catalog_text.specs.Within.{AreTargetsWithin};
 
 use crate::idle::{say_idle, say_unpicked};
 use crate::limits::{say_alike, say_near, say_room};
 use crate::loaded_over::say_together;
 use crate::words::{CatalogText, Linted, LintedPatch, patch_id};
-use klp_callback::Boxed;
+use klp_boot::{Fault, ManagerUse, over_text};
 use klp_catalog::Catalog;
-use klp_catalog_text::Plan;
 use klp_console::{ServeFault, answer_line};
 use klp_console_io::OverWrite;
 use klp_core::Manager;
 use klp_lint::{Premise, holds_everywhere, leaves_no_trace};
-use klp_program::{Fault, boot, close, scripted};
 use klp_types::MAX_CONSOLE_LINE;
 use std::alloc::Global;
 use std::io;
@@ -66,7 +63,7 @@ fn do_lines(alloc: Global, manager: &mut Manager, script: &[u8]) -> Result<(), F
 }
 
 /// Reports how a patch was judged. Returns the number of findings.
-fn say<W: Write>(
+fn say_judged<W: Write>(
     own: &LintedPatch<'_>,
     manager: &Manager,
     judged: Result<(), Premise>,
@@ -84,7 +81,7 @@ fn judge_one<W: Write>(own: &LintedPatch<'_>, manager: &Manager, out: &mut W) ->
     let (patches, patch) = (own.linted.patches, patch_id(own.number));
     let judged = leaves_no_trace(manager, patches, patch);
     let is_everywhere = holds_everywhere(manager, patches, patch).is_ok();
-    let trace = say(own, manager, judged, is_everywhere, out)?;
+    let trace = say_judged(own, manager, judged, is_everywhere, out)?;
     let idle = say_idle(own, out)?;
     let unpicked = say_unpicked(own, manager.modules(), out)?;
     let limits = say_limits(own, out)?;
@@ -135,57 +132,32 @@ fn judge<W: Write>(
     };
     match remark {
         Ok(findings) => Ok(findings),
+        Err(error) if error.kind() == io::ErrorKind::OutOfMemory => Err(Fault::NoMemory),
         Err(_) => Err(Fault::Serve(ServeFault::Write)),
     }
 }
 
-/// Serves the script, seals the journal, and judges the patches. Sealing makes room in the journal for the events that
-/// are tried.
-fn lint<W: Write>(
-    alloc: Global,
-    manager: &mut Manager,
+/// A part of the work, for which a manager is booted.
+#[derive(Drop)]
+struct Linting<'a, W> {
     part: Part,
-    linted: Linted<'_>,
-    script: &[u8],
-    out: &mut W,
-) -> Result<u64, Fault> {
-    do_lines(alloc, manager, script)?;
-    do_lines(alloc, manager, b"seal")?;
-    judge(part, linted, manager, out)
+    linted: Linted<'a>,
+    script: &'a [u8],
+    out: &'a mut W,
 }
 
-// Does what `lint` does, and then drops the manager.
-fn lint_by<W: Write>(
-    alloc: Global,
-    mut manager: Manager,
-    part: Part,
-    linted: Linted<'_>,
-    script: &[u8],
-    out: &mut W,
-) -> Result<u64, Fault> {
-    let ended = lint(alloc, &mut manager, part, linted, script, out);
-    close(manager);
-    ended
-}
+impl<W: Write> ManagerUse for Linting<'_, W> {
+    type Done = Result<u64, Fault>;
 
-// Boots a manager over a plan, and judges the patches with the manager. The callbacks are made here, as for watching a
-// trace.
-fn lint_over_plan<W: Write>(
-    alloc: Global,
-    plan: Plan,
-    part: Part,
-    linted: Linted<'_>,
-    script: &[u8],
-    out: &mut W,
-) -> Result<u64, Fault>
-    requires { AreTargetsWithin (length plan.objects) plan.patches }
-{
-    let mut callbacks = Vec::new(alloc);
-    while let Some(callback) = scripted(alloc, &plan, callbacks.len())? {
-        callbacks.push(Boxed::new(callback))?;
+    ghost comes_to = { λ _ _ _ _. Unit {0} };
+
+    // Serves the script, seals the journal, and judges the patches. Sealing makes room in the journal for the events that
+    // are tried.
+    fn run(&mut self, alloc: Global, manager: &mut Manager) -> Result<u64, Fault> {
+        do_lines(alloc, manager, self.script)?;
+        manager.seal();
+        judge(self.part, self.linted, manager, self.out)
     }
-    let manager = boot(alloc, plan, callbacks)?;
-    lint_by(alloc, manager, part, linted, script, out)
 }
 
 /// Boots a manager over the catalog, serves the script with it, and judges the patches. No other part uses this
@@ -197,8 +169,13 @@ fn lint_part<W: Write>(
     script: &[u8],
     out: &mut W,
 ) -> Result<u64, Fault> {
-    let plan = Catalog::read(alloc, linted.text.bytes)?;
-    lint_over_plan(alloc, plan, part, linted, script, out)
+    let mut linting = Linting {
+        part,
+        linted,
+        script,
+        out,
+    };
+    over_text(alloc, linted.text.bytes, &mut linting)?
 }
 
 /// Judges each patch by itself, and then loads them over each other.
@@ -229,6 +206,7 @@ pub fn lint_over_text<W: Write>(
     let objects = plan.take_objects();
     let patches = plan.into_patches();
     let linted = Linted {
+        alloc,
         text,
         handler,
         objects: &objects,

@@ -10,7 +10,6 @@
 //! whether a patch leaves a trace. The reports have no contract.
 #![tactic(auto)]
 
-mod catalog_line;
 mod idle;
 mod judging;
 mod limits;

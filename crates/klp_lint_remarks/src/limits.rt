@@ -1,49 +1,32 @@
 //! Reports what in a patch is near a limit, and whether a patch is just like another one.
 
-use crate::remark::{Kind, Remark, name_of_patch};
+use crate::remark::{Remark, RemarkKind, name_of_patch};
 use crate::scripts::{count_added, count_all_added};
 use crate::words::{LintedPatch, patch_id};
 use klp_catalog_text::{PlanCallback, PlanFunction, PlanPatch, PlanTarget};
-use klp_types::{ENTRY_SITE_LEN, MAX_VARIABLES, ObjectText, PatchId, SymbolText, Which};
+use klp_modules::place_in;
+use klp_text::{displacement, entry_offset};
+use klp_types::{MAX_VARIABLES, ObjectText, PatchId, SymbolText, Which};
 use std::io::Write;
 use std::{fmt, io};
 
 /// The distance that a call reaches: 2 GiB.
-const REACH: u64 = 0x8000_0000;
+const REACH: u128 = 0x8000_0000;
 
 /// A call is reported if it is less than this distance from the end of its reach: 1 MiB.
-const NEAR: u64 = 0x10_0000;
-
-/// The instruction ENDBR64. It stands in front of an entry site if a kernel tracks indirect branches.
-const ENDBR64: [u8; 4] = [0xf3, 0x0f, 0x1e, 0xfa];
+const NEAR: u128 = 0x10_0000;
 
 /// The symbol that a function replaces. `None` if the function's name and position pick no symbol.
 fn picked<'a>(object: &'a ObjectText, function: &PlanFunction) -> Option<&'a SymbolText> {
-    let before = (function.sympos as usize).saturating_sub(1);
-    let mut same = 0usize;
-    for symbol in object.symbols.iter() {
-        if symbol.name.as_str() == function.symbol.as_str() {
-            if same == before {
-                return Some(symbol);
-            }
-            same = same.saturating_add(1);
-        }
-    }
-    None
+    let place = place_in(object, function.symbol.as_str(), function.sympos).ok()?;
+    object.symbols.get(place)
 }
 
 /// How many bytes are left between the call at a symbol's entry site and the end of the call's reach.
-fn left_at(handler: u64, symbol: &SymbolText) -> u64 {
-    let offset = if symbol.body.as_slice().starts_with(&ENDBR64) {
-        ENDBR64.len()
-    } else {
-        0
-    };
-    let behind = symbol
-        .address
-        .saturating_add(offset as u64)
-        .saturating_add(ENTRY_SITE_LEN as u64);
-    REACH.saturating_sub(handler.abs_diff(behind))
+fn left_at(handler: u64, symbol: &SymbolText) -> u128 {
+    let offset = entry_offset(symbol.body.as_slice());
+    let distance = displacement(handler, u128::from(symbol.address) + offset as u128);
+    REACH.saturating_sub(distance.unsigned_abs())
 }
 
 /// A function at whose symbol the call of the handler is near the end of its reach.
@@ -51,7 +34,7 @@ fn left_at(handler: u64, symbol: &SymbolText) -> u64 {
 struct NearLimit<'a, 'b> {
     object: &'a str,
     symbol: &'b str,
-    left: u64,
+    left: u128,
 }
 
 impl fmt::Display for NearLimit<'_, '_> {
@@ -66,7 +49,6 @@ impl fmt::Display for NearLimit<'_, '_> {
 
 fn say_near_in<W: Write>(
     own: &LintedPatch<'_>,
-    place: usize,
     target: &PlanTarget,
     out: &mut W,
 ) -> io::Result<u64> {
@@ -74,13 +56,12 @@ fn say_near_in<W: Write>(
     let Some(object) = own.linted.objects.get(usize::from(target.object.0)) else {
         return Ok(0);
     };
-    for (before, function) in target.functions.iter().enumerate() {
+    for function in target.functions.iter() {
         let left = match picked(object, function) {
             Some(symbol) => left_at(own.linted.handler, symbol),
             None => NEAR,
         };
         if left < NEAR {
-            let line = own.line_behind(Some(place), Some(b"func"), before);
             let near = NearLimit {
                 object: object.name.as_str(),
                 symbol: function.symbol.as_str(),
@@ -88,7 +69,7 @@ fn say_near_in<W: Write>(
             };
             let remark = Remark {
                 object: Some(near.object),
-                ..Remark::at(Kind::NearLimit, line)
+                ..Remark::at(RemarkKind::NearLimit, function.line)
             };
             count = count.saturating_add(own.say(remark, &near, out)?);
         }
@@ -100,8 +81,8 @@ fn say_near_in<W: Write>(
 pub(crate) fn say_near<W: Write>(own: &LintedPatch<'_>, out: &mut W) -> io::Result<u64> {
     let mut count = 0u64;
     let patch = own.patch;
-    for (place, target) in patch.targets.iter().enumerate() {
-        count = count.saturating_add(say_near_in(own, place, target, out)?);
+    for target in patch.targets.iter() {
+        count = count.saturating_add(say_near_in(own, target, out)?);
     }
     Ok(count)
 }
@@ -148,7 +129,7 @@ pub(crate) fn say_room<W: Write>(own: &LintedPatch<'_>, out: &mut W) -> io::Resu
     if wanted == 0 || all <= MAX_VARIABLES {
         return Ok(0);
     }
-    own.say_whole(Kind::Room, &NoRoom { own: wanted, all }, out)
+    own.say_whole(RemarkKind::Room, &NoRoom { own: wanted, all }, out)
 }
 
 fn is_same_function(one: &PlanFunction, other: &PlanFunction) -> bool {
@@ -213,7 +194,7 @@ pub(crate) fn say_alike<W: Write>(own: &LintedPatch<'_>, out: &mut W) -> io::Res
             let others: [PatchId; 1] = [patch_id(number)];
             let remark = Remark {
                 others: &others,
-                ..Remark::at(Kind::Alike, own.line(None, None))
+                ..Remark::at(RemarkKind::Alike, own.line())
             };
             return own.say(
                 remark,

@@ -3,9 +3,8 @@
 ghost use Rattle.std.specs.Prelude.{◌≡◌};
 ghost use Rattle.klp_core.specs.Journaled.{IsWellFormed};
 
-use crate::catalog_line::word_of;
 use crate::orders::{Orders, count_orders};
-use crate::remark::{Kind, Names, Remark};
+use crate::remark::{PatchNames, Remark, RemarkKind};
 use crate::replacing::say_replacing;
 use crate::state_conflict::{Conflict, conflict_with};
 use crate::words::{Linted, LintedPatch, patch_id};
@@ -46,7 +45,7 @@ impl Loading {
 
 /// What happens when a patch is loaded.
 #[derive(Clone, Copy, PartialEq, Eq)]
-pub(crate) enum Outcome {
+pub(crate) enum LoadOutcome {
     Started,
     Failed { object: ObjId, status: i32 },
     Incompatible,
@@ -85,22 +84,26 @@ pub(crate) fn events_for(below: &[PatchId]) -> Loading {
 }
 
 /// The outcome for this answer to an `Enable`.
-fn outcome_of(answer: &Result<Reply, Refusal>) -> Outcome {
+fn outcome_of(answer: &Result<Reply, Refusal>) -> LoadOutcome {
     match answer {
-        Ok(Reply::PreFailed(_, object, status)) => Outcome::Failed {
+        Ok(Reply::PreFailed(_, object, status)) => LoadOutcome::Failed {
             object: *object,
             status: *status,
         },
-        Ok(_) => Outcome::Started,
-        Err(Refusal::Incompatible) => Outcome::Incompatible,
-        Err(Refusal::NoSymbol) => Outcome::NoSymbol,
-        Err(Refusal::Full) => Outcome::Full,
-        Err(_) => Outcome::Refused,
+        Ok(_) => LoadOutcome::Started,
+        Err(Refusal::Incompatible) => LoadOutcome::Incompatible,
+        Err(Refusal::NoSymbol) => LoadOutcome::NoSymbol,
+        Err(Refusal::Full) => LoadOutcome::Full,
+        Err(_) => LoadOutcome::Refused,
     }
 }
 
 /// The outcome of loading `patch` over the patches in `below`.
-pub(crate) fn outcome_over(manager: &mut Manager, below: &[PatchId], patch: PatchId) -> Outcome {
+pub(crate) fn outcome_over(
+    manager: &mut Manager,
+    below: &[PatchId],
+    patch: PatchId,
+) -> LoadOutcome {
     let _for_its_clause = manager.mark();
     let answer = reply_to(manager, events_for(below).events(), &Event::Enable(patch));
     outcome_of(&answer)
@@ -143,7 +146,7 @@ fn not_installed(manager: &Manager, count: usize) -> Order {
 
 /// Why a patch isn't loaded, or why its transition doesn't end.
 #[derive(Clone, Copy)]
-enum Why<'a> {
+enum WhyNotLoaded<'a> {
     Fails { object: &'a str, status: i32 },
     Conflicts(Conflict<'a>),
     NoSymbol,
@@ -153,19 +156,19 @@ enum Why<'a> {
     NoEnd,
 }
 
-impl fmt::Display for Why<'_> {
+impl fmt::Display for WhyNotLoaded<'_> {
     fn fmt<W: fmt::Write>(&self, f: &mut fmt::Formatter<W>) -> fmt::Result {
         match *self {
-            Why::Fails { object, status } => {
+            WhyNotLoaded::Fails { object, status } => {
                 write!(f, "pre-patch for {object} fails with {status}")
             }
-            Why::Conflicts(conflict) => write!(f, "{conflict}"),
-            Why::NoSymbol => write!(f, "a function's symbol isn't there"),
-            Why::Full => write!(f, "there is no room for the variables of its callbacks"),
-            Why::Refused => write!(f, "it is refused"),
-            Why::Pending(1) => write!(f, "its transition waits for a task"),
-            Why::Pending(count) => write!(f, "its transition waits for {count} tasks"),
-            Why::NoEnd => write!(f, "its transition doesn't end"),
+            WhyNotLoaded::Conflicts(conflict) => write!(f, "{conflict}"),
+            WhyNotLoaded::NoSymbol => write!(f, "a function's symbol isn't there"),
+            WhyNotLoaded::Full => write!(f, "there is no room for the variables of its callbacks"),
+            WhyNotLoaded::Refused => write!(f, "it is refused"),
+            WhyNotLoaded::Pending(1) => write!(f, "its transition waits for a task"),
+            WhyNotLoaded::Pending(count) => write!(f, "its transition waits for {count} tasks"),
+            WhyNotLoaded::NoEnd => write!(f, "its transition doesn't end"),
         }
     }
 }
@@ -173,16 +176,19 @@ impl fmt::Display for Why<'_> {
 /// A patch that can't be loaded over others, or that is loaded and stays in transition.
 #[derive(Clone, Copy)]
 struct NotLoaded<'a> {
-    below: Names<'a>,
-    why: Why<'a>,
+    below: PatchNames<'a>,
+    why: WhyNotLoaded<'a>,
 }
 
 impl fmt::Display for NotLoaded<'_> {
     fn fmt<W: fmt::Write>(&self, f: &mut fmt::Formatter<W>) -> fmt::Result {
         let (below, why) = (self.below, self.why);
         match (self.why, below.named.is_empty()) {
-            (Why::Pending(_) | Why::NoEnd, true) => write!(f, "stays: {why}"),
-            (Why::Pending(_) | Why::NoEnd, false) => write!(f, "stays over {below}: {why}"),
+            (WhyNotLoaded::Pending(_) | WhyNotLoaded::NoEnd, true) => write!(f, "stays: {why}"),
+            (WhyNotLoaded::Pending(_) | WhyNotLoaded::NoEnd, false) => write!(
+                f,
+                "stays over {below}: {why}"
+            ),
             (_, true) => write!(f, "can't be loaded: {why}"),
             (_, false) => write!(f, "can't be loaded over {below}: {why}"),
         }
@@ -197,9 +203,9 @@ struct Tally {
 }
 
 impl Tally {
-    fn add(&mut self, outcome: Outcome) {
+    fn add(&mut self, outcome: LoadOutcome) {
         self.tried = self.tried.saturating_add(1);
-        if outcome == Outcome::Started {
+        if outcome == LoadOutcome::Started {
             self.started = self.started.saturating_add(1);
         }
     }
@@ -248,38 +254,37 @@ fn why_of<'a>(
     manager: &Manager,
     below: &[PatchId],
     patch: PatchId,
-    outcome: Outcome,
-) -> Why<'a> {
+    outcome: LoadOutcome,
+) -> WhyNotLoaded<'a> {
     match outcome {
-        Outcome::Failed { object, status } => Why::Fails {
+        LoadOutcome::Failed { object, status } => WhyNotLoaded::Fails {
             object: linted.object_name(object),
             status,
         },
-        Outcome::Incompatible => {
+        LoadOutcome::Incompatible => {
             match conflict_with(linted.patches, manager.installed().as_slice(), below, patch) {
-                Some(conflict) => Why::Conflicts(conflict),
-                None => Why::Refused,
+                Some(conflict) => WhyNotLoaded::Conflicts(conflict),
+                None => WhyNotLoaded::Refused,
             }
         }
-        Outcome::NoSymbol => Why::NoSymbol,
-        Outcome::Full => Why::Full,
-        Outcome::Started | Outcome::Refused => Why::Refused,
+        LoadOutcome::NoSymbol => WhyNotLoaded::NoSymbol,
+        LoadOutcome::Full => WhyNotLoaded::Full,
+        LoadOutcome::Started | LoadOutcome::Refused => WhyNotLoaded::Refused,
     }
 }
 
 /// The catalog's line that shows why a patch can't be loaded.
-fn line_of_why(own: &LintedPatch<'_>, outcome: Outcome, why: Why<'_>) -> u64 {
+fn line_of_why(own: &LintedPatch<'_>, outcome: LoadOutcome, why: WhyNotLoaded<'_>) -> u64 {
     match (outcome, why) {
-        (Outcome::Failed { object, .. }, _) => {
+        (LoadOutcome::Failed { object, .. }, _) => {
             let patch = own.patch;
             let place = patch.targets.iter().position(|it| it.object == object);
-            own.line(place, Some(word_of(Which::Pre)))
+            place
+                .and_then(|place| own.callback_line(place, Which::Pre))
+                .unwrap_or(patch.line)
         }
-        (_, Why::Conflicts(conflict)) => match conflict.place {
-            Some(place) => own.line_behind(None, Some(b"state"), place),
-            None => own.line(None, None),
-        },
-        _ => own.line(None, None),
+        (_, WhyNotLoaded::Conflicts(conflict)) => conflict.line.unwrap_or(own.line()),
+        _ => own.line(),
     }
 }
 
@@ -289,10 +294,10 @@ fn say_outcome<W: Write>(
     own: &LintedPatch<'_>,
     manager: &Manager,
     below: &[PatchId],
-    outcome: Outcome,
+    outcome: LoadOutcome,
     out: &mut W,
 ) -> io::Result<u64> {
-    if outcome == Outcome::Started || outcome == Outcome::NoSymbol {
+    if outcome == LoadOutcome::Started || outcome == LoadOutcome::NoSymbol {
         return Ok(0);
     }
     let linted = own.linted;
@@ -304,18 +309,18 @@ fn say_outcome<W: Write>(
 fn say_not_loaded<W: Write>(
     own: &LintedPatch<'_>,
     below: &[PatchId],
-    why: Why<'_>,
+    why: WhyNotLoaded<'_>,
     line: u64,
     out: &mut W,
 ) -> io::Result<u64> {
     let kind = match why {
-        Why::Pending(_) | Why::NoEnd => Kind::Lagging,
-        _ if below.is_empty() => Kind::NotStarted,
-        _ => Kind::NotOver,
+        WhyNotLoaded::Pending(_) | WhyNotLoaded::NoEnd => RemarkKind::Lagging,
+        _ if below.is_empty() => RemarkKind::NotStarted,
+        _ => RemarkKind::NotOver,
     };
     let (object, state) = match why {
-        Why::Fails { object, .. } => (Some(object), None),
-        Why::Conflicts(conflict) => (None, Some(conflict.id)),
+        WhyNotLoaded::Fails { object, .. } => (Some(object), None),
+        WhyNotLoaded::Conflicts(conflict) => (None, Some(conflict.id)),
         _ => (None, None),
     };
     let remark = Remark {
@@ -324,7 +329,7 @@ fn say_not_loaded<W: Write>(
         others: below,
         ..Remark::at(kind, line)
     };
-    let names = Names {
+    let names = PatchNames {
         patches: own.linted.patches,
         named: below,
     };
@@ -342,14 +347,14 @@ fn try_alone<W: Write>(
     let patch = patch_id(own.number);
     let outcome = outcome_over(manager, &[], patch);
     tally.add(outcome);
-    if outcome != Outcome::Started {
+    if outcome != LoadOutcome::Started {
         return say_outcome(own, manager, &[], outcome, out);
     }
-    let line = own.line(None, None);
+    let line = own.line();
     match end_over(manager, &[], patch) {
         End::Completed => Ok(0),
-        End::Pending(count) => say_not_loaded(own, &[], Why::Pending(count), line, out),
-        End::Full | End::Other => say_not_loaded(own, &[], Why::NoEnd, line, out),
+        End::Pending(count) => say_not_loaded(own, &[], WhyNotLoaded::Pending(count), line, out),
+        End::Full | End::Other => say_not_loaded(own, &[], WhyNotLoaded::NoEnd, line, out),
     }
 }
 

@@ -3,7 +3,7 @@ ghost use Rattle.std.specs.Prelude.{◌≡◌};
 ghost use Rattle.klp_core.specs.Journaled.{IsWellFormed};
 
 use crate::loaded_over::{Order, stands_over};
-use crate::remark::Names;
+use crate::remark::PatchNames;
 use klp_catalog_text::PlanPatch;
 use klp_core::Manager;
 use klp_model::{Event, Reply};
@@ -40,7 +40,7 @@ impl fmt::Display for Orders<'_> {
             "all {standing} that stand alone are loaded in {found} {orders}{more}"
         )?;
         if found != 0 {
-            let first = Names {
+            let first = PatchNames {
                 patches: self.patches,
                 named: self.first.as_slice(),
             };

@@ -2,6 +2,8 @@
 
 use klp_catalog_text::PlanPatch;
 use klp_types::{PatchId, ShadowKey};
+use serde::Serialize;
+use std::alloc::Global;
 use std::io::Write;
 use std::{fmt, io};
 
@@ -12,9 +14,11 @@ pub enum Form {
     Json,
 }
 
-/// The kind of a report. The last kind is about all patches together, and each other kind about one patch.
-#[derive(Clone, Copy, PartialEq, Eq)]
-pub(crate) enum Kind {
+/// The kind of a report. The last kind is about all patches together, and each other kind about one patch. Programs
+/// read a kind as a word, for example `not-judged`.
+#[derive(Clone, Copy, PartialEq, Eq, Serialize)]
+#[serde(rename_all = "kebab-case")]
+pub(crate) enum RemarkKind {
     Clean,
     NotJudged,
     NotUndone,
@@ -33,49 +37,28 @@ pub(crate) enum Kind {
     Together,
 }
 
-impl Kind {
-    /// The word for this kind, for programs.
-    fn word(self) -> &'static str {
-        match self {
-            Kind::Clean => "clean",
-            Kind::NotJudged => "not-judged",
-            Kind::NotUndone => "not-undone",
-            Kind::NotApart => "not-apart",
-            Kind::Idle => "idle",
-            Kind::NoSymbol => "no-symbol",
-            Kind::NearLimit => "near-limit",
-            Kind::Room => "room",
-            Kind::Alike => "alike",
-            Kind::NotStarted => "not-started",
-            Kind::NotOver => "not-over",
-            Kind::Lagging => "lagging",
-            Kind::TakesOut => "takes-out",
-            Kind::ForgetsState => "forgets-state",
-            Kind::LeavesVariable => "leaves-variable",
-            Kind::Together => "together",
-        }
-    }
-
+impl RemarkKind {
     /// Whether a report of this kind is a finding. If so, something may be wrong with the patch. Reports of other kinds
     /// only describe the patches.
     pub(crate) fn is_finding(self) -> bool {
         !matches!(
             self,
-            Kind::Clean
-                | Kind::NotJudged
-                | Kind::NotOver
-                | Kind::Lagging
-                | Kind::TakesOut
-                | Kind::Together
+            RemarkKind::Clean
+                | RemarkKind::NotJudged
+                | RemarkKind::NotOver
+                | RemarkKind::Lagging
+                | RemarkKind::TakesOut
+                | RemarkKind::Together
         )
     }
 }
 
-/// A report: its kind, the line of the catalog, and the names and numbers that it is about.
+/// A report: its kind, and the names and numbers that it is about. A report about one patch also has a line of the
+/// catalog.
 #[derive(Clone, Copy)]
 pub(crate) struct Remark<'a> {
-    pub(crate) kind: Kind,
-    pub(crate) line: u64,
+    pub(crate) kind: RemarkKind,
+    pub(crate) line: Option<u64>,
     pub(crate) object: Option<&'a str>,
     pub(crate) key: Option<ShadowKey>,
     pub(crate) state: Option<u64>,
@@ -83,34 +66,24 @@ pub(crate) struct Remark<'a> {
 }
 
 impl Remark<'_> {
-    pub(crate) fn at(kind: Kind, line: u64) -> Remark<'static> {
+    /// A report at a line of the catalog.
+    pub(crate) fn at(kind: RemarkKind, line: u64) -> Remark<'static> {
+        Remark {
+            line: Some(line),
+            ..Remark::about_all(kind)
+        }
+    }
+
+    /// A report about all patches together, so without a line.
+    pub(crate) fn about_all(kind: RemarkKind) -> Remark<'static> {
         Remark {
             kind,
-            line,
+            line: None,
             object: None,
             key: None,
             state: None,
             others: &[],
         }
-    }
-}
-
-/// Writes a text as it stands between the quotes of a JSON string.
-#[derive(Clone, Copy)]
-pub(crate) struct Escaped<'a>(pub(crate) &'a str);
-
-impl fmt::Display for Escaped<'_> {
-    fn fmt<W: fmt::Write>(&self, f: &mut fmt::Formatter<W>) -> fmt::Result {
-        for c in self.0.chars() {
-            if c == '"' || c == '\\' {
-                write!(f, "\\{c}")?;
-            } else if (c as u32) < 0x20 {
-                write!(f, "\\u{:04x}", c as u32)?;
-            } else {
-                write!(f, "{c}")?;
-            }
-        }
-        Ok(())
     }
 }
 
@@ -124,12 +97,12 @@ pub(crate) fn name_of_patch(patches: &[PlanPatch], patch: PatchId) -> &str {
 
 /// Writes the names of patches as they are listed in a sentence: `p`, `p and q`, `p, q and r`.
 #[derive(Clone, Copy)]
-pub(crate) struct Names<'a> {
+pub(crate) struct PatchNames<'a> {
     pub(crate) patches: &'a [PlanPatch],
     pub(crate) named: &'a [PatchId],
 }
 
-impl fmt::Display for Names<'_> {
+impl fmt::Display for PatchNames<'_> {
     fn fmt<W: fmt::Write>(&self, f: &mut fmt::Formatter<W>) -> fmt::Result {
         for (number, patch) in self.named.iter().enumerate() {
             let between = if number == 0 {
@@ -145,39 +118,35 @@ impl fmt::Display for Names<'_> {
     }
 }
 
-/// Writes the names and numbers that a report is about, as JSON. A catalog's names have no byte that must be escaped in
-/// JSON.
-pub(crate) fn write_about<W: Write>(
-    remark: Remark<'_>,
-    patches: &[PlanPatch],
-    out: &mut W,
-) -> io::Result<()> {
-    if let Some(object) = remark.object {
-        write!(out, ",\"object\":\"{object}\"")?;
-    }
-    if let Some(key) = remark.key {
-        write!(out, ",\"key\":[{},{}]", key.obj, key.id)?;
-    }
-    if let Some(state) = remark.state {
-        write!(out, ",\"state\":{state}")?;
-    }
-    if remark.others.is_empty() {
-        return Ok(());
-    }
-    write!(out, ",\"others\":[")?;
-    for (number, other) in remark.others.iter().enumerate() {
-        let between = if number == 0 { "" } else { "," };
-        write!(out, "{between}\"{}\"", name_of_patch(patches, *other))?;
-    }
-    write!(out, "]")
+/// A report as programs read it. Names and numbers that the report isn't about are left out.
+#[derive(Drop, Serialize)]
+pub(crate) struct RemarkObject<'a> {
+    pub(crate) kind: RemarkKind,
+    pub(crate) finding: bool,
+    pub(crate) catalog: &'a str,
+    #[serde(skip_serializing_if = "Option::is_none")]
+    pub(crate) line: Option<u64>,
+    #[serde(skip_serializing_if = "Option::is_none")]
+    pub(crate) patch: Option<&'a str>,
+    #[serde(skip_serializing_if = "Option::is_none")]
+    pub(crate) object: Option<&'a str>,
+    /// The parent object and the id of a shadow variable.
+    #[serde(skip_serializing_if = "Option::is_none")]
+    pub(crate) key: Option<(u64, u64)>,
+    #[serde(skip_serializing_if = "Option::is_none")]
+    pub(crate) state: Option<u64>,
+    /// The names of other patches.
+    #[serde(skip_serializing_if = "Vec::is_empty")]
+    pub(crate) others: Vec<&'a str>,
+    pub(crate) sentence: String,
 }
 
-/// Writes the beginning of a JSON object: the kind of the report, and the catalog.
-pub(crate) fn write_kind<W: Write>(kind: Kind, catalog: &str, out: &mut W) -> io::Result<()> {
-    let (word, is_finding) = (kind.word(), kind.is_finding());
-    let catalog = Escaped(catalog);
-    write!(
-        out,
-        "{{\"kind\":\"{word}\",\"finding\":{is_finding},\"catalog\":\"{catalog}\""
-    )
+impl RemarkObject<'_> {
+    /// Writes the report as a line of JSON.
+    pub(crate) fn write<W: Write>(&self, alloc: Global, out: &mut W) -> io::Result<()> {
+        match serde_json::to_string(alloc, self) {
+            Ok(text) => writeln!(out, "{text}"),
+            Err(_) => Err(io::Error::from(io::ErrorKind::OutOfMemory)),
+        }
+    }
 }

@@ -2,10 +2,10 @@
 ghost use Rattle.std.specs.Prelude.{◌≡◌};
 ghost use Rattle.klp_core.specs.Journaled.{IsWellFormed};
 
-use crate::idle::names;
+use crate::idle::names_state;
 use crate::loaded_over::{End, Loading, Order, end_of, events_for, stands_over};
-use crate::remark::{Kind, Names, Remark, name_of_patch};
-use crate::scripts::{Change, change_of, keys_added};
+use crate::remark::{PatchNames, Remark, RemarkKind, name_of_patch};
+use crate::scripts::{AddedKeys, Change, change_of, keys_added};
 use crate::words::{LintedPatch, patch_id};
 use klp_catalog_text::PlanPatch;
 use klp_core::Manager;
@@ -19,7 +19,7 @@ use std::{fmt, io};
 #[derive(Clone, Copy)]
 struct TakesOut<'a> {
     patch: &'a PlanPatch,
-    gone: Names<'a>,
+    gone: PatchNames<'a>,
 }
 
 impl fmt::Display for TakesOut<'_> {
@@ -86,7 +86,7 @@ fn value_of(manager: &mut Manager, events: &[Event], key: ShadowKey) -> Option<S
 
 /// The patches that this one takes out. They are the installed ones if it can be loaded now, and each of `free` over
 /// which it can be loaded.
-fn taken_out(own: &LintedPatch<'_>, manager: &mut Manager, free: &Order) -> Order {
+fn patches_taken_out(own: &LintedPatch<'_>, manager: &mut Manager, free: &Order) -> Order {
     let patch = patch_id(own.number);
     let mut gone = manager.installed();
     if !stands_over(manager, &[], patch) {
@@ -114,16 +114,18 @@ fn say_forgotten<W: Write>(own: &LintedPatch<'_>, other: PatchId, out: &mut W) -
     for state in gone.states.iter() {
         let id = state.id;
         if change_of(gone, id) != Change::Nothing
-            && names(patch, id)
+            && names_state(patch, id)
             && change_of(patch, id) == Change::Nothing
         {
-            let place = patch.states.iter().position(|it| it.id == id);
-            let line = own.line_behind(None, Some(b"state"), place.unwrap_or(0));
+            let line = match patch.states.iter().find(|it| it.id == id) {
+                Some(named) => named.line,
+                None => patch.line,
+            };
             let others = [other];
             let remark = Remark {
                 state: Some(id),
                 others: &others,
-                ..Remark::at(Kind::ForgetsState, line)
+                ..Remark::at(RemarkKind::ForgetsState, line)
             };
             let other = gone.name.as_str();
             count = count.saturating_add(own.say(remark, &ForgetsState { id, other }, out)?);
@@ -132,45 +134,56 @@ fn say_forgotten<W: Write>(own: &LintedPatch<'_>, other: PatchId, out: &mut W) -
     Ok(count)
 }
 
-/// Events that load `below`, load `patch` over it, and then disable `patch`. The last poll isn't part of the list.
-fn replacing(below: PatchId, patch: PatchId) -> Loading {
+/// Events that load `below`, load `patch` over it, and then disable `patch`. The poll that removes `patch` isn't among
+/// them.
+fn events_replacing(below: PatchId, patch: PatchId) -> Loading {
     let mut events = events_for(&[below, patch]);
     events.push(Event::SetEnabled(patch, false));
     events
 }
 
-/// Reports the shadow variables of a patch that still exist after `own` has replaced the patch, and was itself removed.
-/// Returns the number of findings.
+/// The shadow variables that `gone` adds, and that still exist after `own` has replaced `gone` and was itself removed.
+/// None if `own` can't be removed.
+fn keys_left(own: &LintedPatch<'_>, manager: &mut Manager, gone: &LintedPatch<'_>) -> AddedKeys {
+    let mut left = AddedKeys::new();
+    let mut events = events_replacing(patch_id(gone.number), patch_id(own.number));
+    if end_of(manager, events.events()) != End::Completed {
+        return left;
+    }
+    // `end_of` took its poll back, and the callbacks that could free a variable run in this poll.
+    events.push(Event::Poll);
+    for key in keys_added(gone.patch).as_slice() {
+        let before = manager.shadow_get(*key);
+        let _for_its_clause = manager.mark();
+        let after = value_of(manager, events.events(), *key);
+        if before.is_none() && after.is_some() {
+            let _ = left.try_push(*key);
+        }
+    }
+    left
+}
+
+/// Reports the shadow variables that a patch leaves behind when `own` replaces it. Returns the number of findings.
 fn say_left<W: Write>(
     own: &LintedPatch<'_>,
     manager: &mut Manager,
-    below: PatchId,
+    replaced: PatchId,
     out: &mut W,
 ) -> io::Result<u64> {
-    let Some(gone) = own.linted.patch(below) else {
+    let Some(gone) = own.linted.patch(replaced) else {
         return Ok(0);
     };
-    let mut events = replacing(below, patch_id(own.number));
-    if end_of(manager, events.events()) != End::Completed {
-        return Ok(0);
-    }
-    events.push(Event::Poll);
-    let others = [below];
+    let others = [replaced];
     let mut count = 0u64;
-    for key in keys_added(gone.patch).as_slice() {
-        let was = manager.shadow_get(*key);
-        let _for_its_clause = manager.mark();
-        let is = value_of(manager, events.events(), *key);
-        if was.is_none() && is.is_some() {
-            let remark = Remark {
-                key: Some(*key),
-                others: &others,
-                ..Remark::at(Kind::LeavesVariable, own.line(None, None))
-            };
-            let other = name_of_patch(own.linted.patches, below);
-            let leaves = LeavesVariable { key: *key, other };
-            count = count.saturating_add(own.say(remark, &leaves, out)?);
-        }
+    for key in keys_left(own, manager, &gone).as_slice() {
+        let remark = Remark {
+            key: Some(*key),
+            others: &others,
+            ..Remark::at(RemarkKind::LeavesVariable, own.line())
+        };
+        let other = name_of_patch(own.linted.patches, replaced);
+        let leaves = LeavesVariable { key: *key, other };
+        count = count.saturating_add(own.say(remark, &leaves, out)?);
     }
     Ok(count)
 }
@@ -187,17 +200,17 @@ pub(crate) fn say_replacing<W: Write>(
     if !patch.replace {
         return Ok(0);
     }
-    let gone = taken_out(own, manager, free);
+    let gone = patches_taken_out(own, manager, free);
     if gone.is_empty() {
         return Ok(0);
     }
     let remark = Remark {
         others: gone.as_slice(),
-        ..Remark::at(Kind::TakesOut, own.line(None, None))
+        ..Remark::at(RemarkKind::TakesOut, own.line())
     };
     let takes_out = TakesOut {
         patch: own.patch,
-        gone: Names {
+        gone: PatchNames {
             patches: own.linted.patches,
             named: gone.as_slice(),
         },

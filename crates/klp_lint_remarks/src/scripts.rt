@@ -17,7 +17,7 @@ pub(crate) fn edits_made(callback: &PlanCallback) -> &[Edit] {
 }
 
 /// Whether callbacks of this kind run when an object is patched.
-pub(crate) fn is_coming(which: Which) -> bool {
+pub(crate) fn runs_when_patched(which: Which) -> bool {
     which == Which::Pre || which == Which::Post
 }
 
@@ -40,12 +40,15 @@ pub(crate) fn count_all_added(patch: &PlanPatch) -> usize {
     count
 }
 
+/// Shadow variables that the callbacks of a patch add.
+pub(crate) type AddedKeys = ArrayVec<ShadowKey, MAX_ADDED>;
+
 /// The shadow variables that the callbacks of a patch may add while it is applied. Each variable is listed once.
-pub(crate) fn keys_added(patch: &PlanPatch) -> ArrayVec<ShadowKey, MAX_ADDED> {
+pub(crate) fn keys_added(patch: &PlanPatch) -> AddedKeys {
     let mut keys = ArrayVec::new();
     for target in patch.targets.iter() {
         for callback in target.callbacks.iter() {
-            if is_coming(callback.which) {
+            if runs_when_patched(callback.which) {
                 for edit in edits_made(callback) {
                     add_key(&mut keys, edit);
                 }
@@ -55,7 +58,7 @@ pub(crate) fn keys_added(patch: &PlanPatch) -> ArrayVec<ShadowKey, MAX_ADDED> {
     keys
 }
 
-fn add_key(keys: &mut ArrayVec<ShadowKey, MAX_ADDED>, edit: &Edit) {
+fn add_key(keys: &mut AddedKeys, edit: &Edit) {
     if let Edit::Alloc(key, _) = *edit {
         if !keys.as_slice().contains(&key) {
             let _ = keys.try_push(key);
@@ -85,7 +88,7 @@ pub(crate) fn change_of(patch: &PlanPatch, id: u64) -> Change {
     let mut change = Change::Nothing;
     for target in patch.targets.iter() {
         for callback in target.callbacks.iter() {
-            if is_coming(callback.which) {
+            if runs_when_patched(callback.which) {
                 for edit in edits_made(callback) {
                     let own = change_by(id, edit);
                     if own == Change::TakesOver || change == Change::Nothing {

@@ -16,8 +16,8 @@ pub(crate) struct Conflict<'a> {
     installed: &'a str,
     /// The version of the system state in the other patch, if that patch has the state.
     own: Option<u32>,
-    /// The index of this system state among those of the other patch.
-    pub(crate) place: Option<usize>,
+    /// The line with which the other patch names this system state, if it does.
+    pub(crate) line: Option<u64>,
 }
 
 impl fmt::Display for Conflict<'_> {
@@ -38,7 +38,7 @@ impl fmt::Display for Conflict<'_> {
 
 /// Returns the patches that are installed after the patches in `below` are loaded. A cumulative patch removes all older
 /// ones.
-fn standing(
+fn installed_after(
     patches: &[PlanPatch],
     installed: &[PatchId],
     below: &[PatchId],
@@ -64,13 +64,9 @@ fn conflict_of<'a>(
     state: &SystemState,
     installed: &'a str,
 ) -> Option<Conflict<'a>> {
-    let place = own.states.iter().position(|it| it.id == state.id);
-    let version = match place {
-        Some(found) => own.states.get(found).map(|it| it.version),
-        None => None,
-    };
-    let fits = match version {
-        Some(version) => state.version <= version,
+    let named = own.states.iter().find(|it| it.id == state.id);
+    let fits = match named {
+        Some(named) => state.version <= named.version,
         None => !own.replace,
     };
     if fits {
@@ -80,8 +76,8 @@ fn conflict_of<'a>(
         id: state.id,
         there: state.version,
         installed,
-        own: version,
-        place,
+        own: named.map(|it| it.version),
+        line: named.map(|it| it.line),
     })
 }
 
@@ -94,7 +90,7 @@ pub(crate) fn conflict_with<'a>(
     patch: PatchId,
 ) -> Option<Conflict<'a>> {
     let own = patches.get(usize::from(patch.0))?;
-    for there in standing(patches, installed, below).as_slice() {
+    for there in installed_after(patches, installed, below).as_slice() {
         let other = patches.get(usize::from(there.0))?;
         for state in other.states.iter() {
             if let Some(conflict) = conflict_of(own, state, name_of_patch(patches, *there)) {

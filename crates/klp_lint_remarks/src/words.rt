@@ -1,11 +1,12 @@
 //! Reports what was found about loading and withdrawing each patch, in words.
 
-use crate::catalog_line::{CatalogPlace, line_of, word_of};
-use crate::remark::{Form, Kind, Remark, write_about, write_kind};
+use crate::remark::{Form, Remark, RemarkKind, RemarkObject, name_of_patch};
 use klp_catalog_text::{PlanPatch, PlanTarget};
 use klp_core::Manager;
 use klp_lint::{Pair, Premise, found_by, left_behind};
+use klp_messages::Escaped;
 use klp_types::{ObjId, ObjectText, PatchId, ShadowKey, ShadowValue, Which};
+use std::alloc::{AllocError, Global};
 use std::io::Write;
 use std::{fmt, io};
 
@@ -17,9 +18,17 @@ pub struct CatalogText<'a> {
     pub form: Form,
 }
 
-/// A catalog's text, and what was read from it.
+impl<'a> CatalogText<'a> {
+    /// The name of the file, as a terminal may show it.
+    fn shown_name(&self) -> Escaped<'a> {
+        Escaped(self.name.as_bytes())
+    }
+}
+
+/// A catalog's text, and what was read from it. Reports for programs take memory from `alloc`.
 #[derive(Clone, Copy)]
 pub(crate) struct Linted<'a> {
+    pub(crate) alloc: Global,
     pub(crate) text: CatalogText<'a>,
     pub(crate) handler: u64,
     pub(crate) objects: &'a [ObjectText],
@@ -67,12 +76,12 @@ pub(crate) fn name_of(which: Which) -> &'static str {
 }
 
 /// A pair of callbacks after which a shadow variable has another value than before. `first` is the line of the first
-/// callback. It is 0 if the catalog has no such line, or if the report itself names the line.
+/// callback, unless the catalog has no such line or the report itself names it.
 #[derive(Clone, Copy)]
 struct NotUndone<'a> {
     object: &'a str,
     pair: Pair,
-    first: u64,
+    first: Option<u64>,
     key: ShadowKey,
     found: Shown,
     left: Shown,
@@ -86,8 +95,8 @@ impl fmt::Display for NotUndone<'_> {
             f,
             "may leave a trace: {back} for {object} doesn't undo {done}"
         )?;
-        if self.first != 0 {
-            write!(f, " of line {}", self.first)?;
+        if let Some(line) = self.first {
+            write!(f, " of line {line}")?;
         }
         let (key, found, left) = (self.key, self.found, self.left);
         write!(
@@ -127,25 +136,27 @@ pub(crate) struct LintedPatch<'a> {
 }
 
 impl<'a> LintedPatch<'a> {
-    pub(crate) fn line(&self, target: Option<usize>, word: Option<&[u8]>) -> u64 {
-        self.line_behind(target, word, 0)
+    /// The line with which the patch begins.
+    pub(crate) fn line(&self) -> u64 {
+        let patch = self.patch;
+        patch.line
     }
 
-    /// Returns the line of a target, or of the whole patch, that begins with this word. `before` is how many lines that
-    /// begin with the word precede it.
-    pub(crate) fn line_behind(
-        &self,
-        target: Option<usize>,
-        word: Option<&[u8]>,
-        before: usize,
-    ) -> u64 {
-        let place = CatalogPlace {
-            patch: self.number,
-            target,
-            word,
-            before,
-        };
-        line_of(self.linted.text.bytes, place)
+    /// The line of a target. If the patch has no such target, the line of the patch.
+    pub(crate) fn target_line(&self, place: usize) -> u64 {
+        let patch = self.patch;
+        match patch.targets.get(place) {
+            Some(target) => target.line,
+            None => patch.line,
+        }
+    }
+
+    /// The line of a target's callback of this kind. `None` if there is no such callback.
+    pub(crate) fn callback_line(&self, place: usize, which: Which) -> Option<u64> {
+        let patch = self.patch;
+        let target = patch.targets.get(place)?;
+        let callback = target.callbacks.iter().find(|it| it.which == which)?;
+        Some(callback.line)
     }
 
     /// The name of the object of a target.
@@ -165,28 +176,19 @@ impl<'a> LintedPatch<'a> {
         out: &mut W,
     ) -> io::Result<u64> {
         let patch = self.patch;
-        let (text, patch) = (self.linted.text, patch.name.as_str());
-        let (name, line) = (text.name, remark.line);
-        match text.form {
-            Form::Words => writeln!(out, "{name}: line {line}: {patch}: {sentence}")?,
-            Form::Json => {
-                write_kind(remark.kind, name, out)?;
-                write!(out, ",\"line\":{line},\"patch\":\"{patch}\"")?;
-                write_about(remark, self.linted.patches, out)?;
-                writeln!(out, ",\"sentence\":\"{sentence}\"}}")?;
-            }
-        }
+        self.linted
+            .write(remark, Some(patch.name.as_str()), sentence, out)?;
         Ok(u64::from(remark.kind.is_finding()))
     }
 
     /// Reports something about the whole patch, at the line with which it begins.
     pub(crate) fn say_whole<W: Write, S: fmt::Display>(
         &self,
-        kind: Kind,
+        kind: RemarkKind,
         sentence: &S,
         out: &mut W,
     ) -> io::Result<u64> {
-        self.say(Remark::at(kind, self.line(None, None)), sentence, out)
+        self.say(Remark::at(kind, self.line()), sentence, out)
     }
 
     pub(crate) fn say_clean<W: Write>(&self, is_everywhere: bool, out: &mut W) -> io::Result<u64> {
@@ -195,7 +197,7 @@ impl<'a> LintedPatch<'a> {
         } else {
             "leaves no trace, in this world"
         };
-        self.say_whole(Kind::Clean, &sentence, out)
+        self.say_whole(RemarkKind::Clean, &sentence, out)
     }
 
     /// Reports a premise that doesn't hold.
@@ -213,12 +215,12 @@ impl<'a> LintedPatch<'a> {
                 self.say_not_undone(place, pair, key, was, out)
             }
             Premise::NotApart { first, second, key } => {
-                let line = self.line(Some(first), None);
+                let line = self.target_line(first);
                 let (one, other) = (self.object(first), self.object(second));
                 let remark = Remark {
                     object: Some(other),
                     key: Some(key),
-                    ..Remark::at(Kind::NotApart, self.line(Some(second), None))
+                    ..Remark::at(RemarkKind::NotApart, self.target_line(second))
                 };
                 self.say(
                     remark,
@@ -235,7 +237,7 @@ impl<'a> LintedPatch<'a> {
     }
 
     fn say_not_judged<W: Write>(&self, why: &str, out: &mut W) -> io::Result<u64> {
-        self.say_whole(Kind::NotJudged, &NotJudged(why), out)
+        self.say_whole(RemarkKind::NotJudged, &NotJudged(why), out)
     }
 
     fn say_not_undone<W: Write>(
@@ -247,8 +249,8 @@ impl<'a> LintedPatch<'a> {
         out: &mut W,
     ) -> io::Result<u64> {
         let (done, back) = callbacks_of(pair);
-        let first = self.line(Some(place), Some(word_of(done)));
-        let second = self.line(Some(place), Some(word_of(back)));
+        let first = self.callback_line(place, done);
+        let second = self.callback_line(place, back);
         let patch = self.patch;
         let Some(target) = patch.targets.get(place) else {
             return Ok(0);
@@ -257,7 +259,7 @@ impl<'a> LintedPatch<'a> {
         let sentence = NotUndone {
             object: self.object(place),
             pair,
-            first: if second == 0 { 0 } else { first },
+            first: if second.is_some() { first } else { None },
             key,
             found: Shown(found_by(callbacks, pair, key, was)),
             left: Shown(left_behind(callbacks, pair, key, was)),
@@ -265,7 +267,10 @@ impl<'a> LintedPatch<'a> {
         let remark = Remark {
             object: Some(sentence.object),
             key: Some(key),
-            ..Remark::at(Kind::NotUndone, if second == 0 { first } else { second })
+            ..Remark::at(
+                RemarkKind::NotUndone,
+                second.or(first).unwrap_or(target.line),
+            )
         };
         self.say(remark, &sentence, out)
     }
@@ -308,21 +313,59 @@ impl<'a> Linted<'a> {
         others: &[PatchId],
         out: &mut W,
     ) -> io::Result<u64> {
-        let name = self.text.name;
-        match self.text.form {
-            Form::Words => writeln!(out, "{name}: {sentence}")?,
-            Form::Json => {
-                write_kind(Kind::Together, name, out)?;
-                let remark = Remark {
-                    others,
-                    ..Remark::at(Kind::Together, 0)
-                };
-                write_about(remark, self.patches, out)?;
-                writeln!(out, ",\"sentence\":\"{sentence}\"}}")?;
-            }
-        }
+        let remark = Remark {
+            others,
+            ..Remark::about_all(RemarkKind::Together)
+        };
+        self.write(remark, None, sentence, out)?;
         Ok(0)
     }
+
+    /// Writes a report in the catalog's form, as one line. `patch` is the name of the patch that the report is about.
+    fn write<W: Write, S: fmt::Display>(
+        &self,
+        remark: Remark<'_>,
+        patch: Option<&str>,
+        sentence: &S,
+        out: &mut W,
+    ) -> io::Result<()> {
+        let name = self.text.shown_name();
+        match (self.text.form, remark.line, patch) {
+            (Form::Json, ..) => {
+                let sentence = sentence.to_string(self.alloc)?;
+                object_of(*self, remark, patch, sentence)?.write(self.alloc, out)
+            }
+            (Form::Words, Some(line), Some(patch)) => {
+                writeln!(out, "{name}: line {line}: {patch}: {sentence}")
+            }
+            (Form::Words, ..) => writeln!(out, "{name}: {sentence}"),
+        }
+    }
+}
+
+/// A report as programs read it.
+fn object_of<'a>(
+    linted: Linted<'a>,
+    remark: Remark<'a>,
+    patch: Option<&'a str>,
+    sentence: String,
+) -> Result<RemarkObject<'a>, AllocError> {
+    let mut others = Vec::new(linted.alloc);
+    for other in remark.others {
+        others.push(name_of_patch(linted.patches, *other))?;
+    }
+    Ok(RemarkObject {
+        kind: remark.kind,
+        finding: remark.kind.is_finding(),
+        catalog: linted.text.name,
+        line: remark.line,
+        patch,
+        object: remark.object,
+        key: remark.key.map(|key| (key.obj, key.id)),
+        state: remark.state,
+        others,
+        sentence,
+    })
 }
 
 /// The number of a patch, in the type that events use.

@@ -4,8 +4,8 @@ use Rattle.std.specs.Str.Lines.{lines}
 use Rattle.klp_live_bodies.specs.declared.step.Step.{Step}
 use Rattle.klp_catalog_text.specs.Plan.{Plan}
 use Rattle.klp_core.specs.Journaled.{Journaled}
-use Rattle.klp_program.specs.declared.fault.Fault.TheVariants.{CannotRead, NoMemory as NoneForBoot, Text, Image, Assemble, Boot, Serve, Trace}
-use Rattle.klp_program.specs.Booted.{IsBootedOver}
+use Rattle.klp_boot.specs.declared.fault.Fault.TheVariants.{CannotRead, NoMemory as NoneForBoot, Text, Image, Assemble, Boot, Serve, Trace}
+use Rattle.klp_boot.specs.Booted.{IsBootedOver}
 use Rattle.klp_live_run.specs.declared.race.Done.{Done}
 use Rattle.klp_live_run.specs.declared.fault.LiveFault.{LiveFault}
 use Rattle.klp_live_run.specs.declared.fault.LiveFault.TheVariants.{Program, Steps, NoMemory, NoPlace}

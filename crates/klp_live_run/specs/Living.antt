@@ -4,9 +4,9 @@ use Rattle.std.specs.Str.Lines.{lines}
 use Rattle.klp_catalog_text.specs.Plan.{Plan}
 use Rattle.klp_catalog_text.specs.Text.{plan_of, IsFaultOf}
 use Rattle.klp_core.specs.Journaled.{Journaled}
-use Rattle.klp_program.specs.declared.fault.Fault.{Fault}
-use Rattle.klp_program.specs.declared.fault.Fault.TheVariants.{Text, Serve}
-use Rattle.klp_program.specs.Booted.{IsBootedOver, IsBootFault}
+use Rattle.klp_boot.specs.declared.fault.Fault.{Fault}
+use Rattle.klp_boot.specs.declared.fault.Fault.TheVariants.{Text, Serve}
+use Rattle.klp_boot.specs.Booted.{IsBootedOver, IsBootFault}
 use Rattle.klp_live.specs.declared.opening.StartCause.{StartCause}
 use Rattle.klp_live.specs.declared.opening.StartCause.TheVariants.{NoMemory as NoneForStart, NoPlace as NoneAtTable}
 use Rattle.klp_live_bodies.specs.declared.step.Step.{Step}

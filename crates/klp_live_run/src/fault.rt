@@ -5,8 +5,8 @@ ghost use Rattle.klp_live_run.specs.declared.fault.ReadFault.TheVariants.{NoMemo
 ghost use Rattle.klp_live_run.specs.declared.fault.LiveFault.TheVariants.{Program, NoMemory as OutOfMemory};
 ghost use Rattle.klp_live_run.specs.Living.{IsRunFault, start_fault, read_fault};
 
+use klp_boot::Fault;
 use klp_live::StartCause;
-use klp_program::Fault;
 use std::alloc::{AllocError, AllocFailed};
 use thiserror::Error;
 

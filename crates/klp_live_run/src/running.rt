@@ -14,6 +14,7 @@ ghost use Rattle.klp_live_run.specs.Living.{IsRunFault, LivesBy, LivesPlan, Live
 use crate::fault::{LiveFault, ReadFault};
 use crate::race::{Done, FIRST, SECOND, run_and_rewind};
 use crate::step_lines::{Steps, steps_of};
+use klp_boot::{Fault, boot};
 use klp_callback::{Boxed, Scripted};
 use klp_catalog::Catalog;
 use klp_catalog_text::Plan;
@@ -22,7 +23,6 @@ use klp_console_io::{Feed, OverWrite};
 use klp_core::{Machine, Manager};
 use klp_model::Event;
 use klp_modules::Modules;
-use klp_program::{Fault, boot};
 use klp_types::{MAX_OBJECTS, ObjId, READ_ROOM};
 use std::alloc::{AllocError, Global};
 use std::io;
@@ -205,8 +205,9 @@ fn live_over_manager<M: Runs + Drop + Send, W: Write, R: Threads + Wait + Sync>(
     }
 }
 
-// Boots a manager over a plan, and runs the steps of both tasks over the manager. The callbacks are made here, as for
-// serving a console. Here all callbacks are of one kind.
+// Boots a manager over a plan, and runs the steps of both tasks over the manager. Threads own their manager, so it can't
+// be lent by `klp_boot::over_plan` (docs/DECISIONS.md, "A manager that runs tasks"). The callbacks are made here, and all
+// are of one kind.
 fn live_over_plan<W: Write, R: Threads + Wait + Sync>(
     rt: &R,
     alloc: Global,

@@ -39,12 +39,12 @@ func .klp.sym.vmlinux.f,0 f_p ffffffffc0001000
 /// Why the tests end before all of them are done.
 #[derive(Clone, Copy, Debug)]
 pub(crate) enum Fault {
-    Boot(klp_program::Fault),
+    Boot(klp_boot::Fault),
     Io(io::Error),
 }
 
-impl From<klp_program::Fault> for Fault {
-    fn from(fault: klp_program::Fault) -> Fault {
+impl From<klp_boot::Fault> for Fault {
+    fn from(fault: klp_boot::Fault) -> Fault {
         Fault::Boot(fault)
     }
 }

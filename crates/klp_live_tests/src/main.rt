@@ -8,7 +8,7 @@
 //!
 //! The other tests are about bodies and jobs. Two threads run over one lock, and must be inside of their bodies at the
 //! same time. A call must read what is published, and not only what its task was told. Events must be accepted, and
-//! gates passed, where they should. The program also runs the files of steps in its folder, as `klpsim live` does.
+//! gates passed, where they should.
 //!
 //! If the argument is a number, the program measures that many rounds. It prints the costs of an event and of an entry
 //! in the best round, and how many of them two bodies do in a second (docs/PERFORMANCE.md).
@@ -20,7 +20,6 @@ mod booted;
 mod entries;
 mod gates;
 mod handles;
-mod lives;
 mod measure;
 mod meeting;
 mod names;
@@ -43,7 +42,6 @@ use crate::passes::Story;
 use crate::runs::Work;
 use std::alloc::Global;
 use std::env;
-use std::rt::Files;
 
 /// The tests of the book, and the tests of passes at starts with various numbers of seats.
 const BOOK: [Work; 7] = [
@@ -80,17 +78,16 @@ fn run_word<R: Runtime>(rt: &R, alloc: Global, word: &str) -> Result<(), Fault> 
 }
 
 /// Runs all tests.
-fn run_all<R: Runtime + Files + AllocGlobal>(rt: &R) -> Result<(), Fault> {
-    run_book(rt, rt.alloc())?;
+fn run_all<R: Runtime>(rt: &R, alloc: Global) -> Result<(), Fault> {
+    run_book(rt, alloc)?;
     show_turns(rt)?;
-    managed(rt, rt.alloc(), SMALL, Work::Bodies)?;
-    managed(rt, rt.alloc(), SMALL, Work::Entries)?;
-    Ok(lives::run(rt)?)
+    managed(rt, alloc, SMALL, Work::Bodies)?;
+    managed(rt, alloc, SMALL, Work::Entries)
 }
 
 fn main(rt: HostRuntime) -> Result<(), Fault> {
     match env::args(&rt)?.nth(1) {
         Some(word) => run_word(&rt, rt.alloc(), word.as_str()),
-        None => run_all(&rt),
+        None => run_all(&rt, rt.alloc()),
     }
 }

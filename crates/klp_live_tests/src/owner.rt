@@ -3,17 +3,17 @@
 use crate::booted::Fault;
 use crate::handles::Runtime;
 use crate::runs::{Work, do_work};
+use klp_boot::boot;
 use klp_catalog::{AssembleFault, Catalog};
 use klp_core::Manager;
-use klp_program::boot;
 use std::alloc::Global;
 use std::io;
 
 /// Boots a manager over a catalog. The tests make no callbacks, so the catalog must have none.
-fn booted(alloc: Global, text: &[u8]) -> Result<Manager, klp_program::Fault> {
+fn booted(alloc: Global, text: &[u8]) -> Result<Manager, klp_boot::Fault> {
     let plan = Catalog::read(alloc, text)?;
     if let Some(_script) = plan.script(0) {
-        return Err(klp_program::Fault::Assemble(AssembleFault::WrongCallbacks));
+        return Err(klp_boot::Fault::Assemble(AssembleFault::WrongCallbacks));
     }
     boot(alloc, plan, Vec::new(alloc))
 }

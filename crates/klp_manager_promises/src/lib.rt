@@ -11,4 +11,4 @@ mod undo;
 
 pub use callbacks::run_pre_patch;
 pub use events::{apply, run};
-pub use undo::{records_free, rewind, seal, state_of};
+pub use undo::{make_room, records_free, rewind, seal, state_of};

@@ -7,7 +7,7 @@ ghost use Rattle.klp_types.specs.World.{state_value};
 ghost use Rattle.klp_model.specs.State.{is_installed};
 ghost use Rattle.klp_journal.specs.Journal.{records_free, records_in};
 ghost use Rattle.klp_manager_state.specs.Managed.{setting_of};
-ghost use Rattle.klp_core.specs.Journaled.{IsWellFormed};
+ghost use Rattle.klp_core.specs.Journaled.{IsWellFormed, with_room};
 ghost use Rattle.klp_core.specs.Rewinding.{IsRewound};
 
 use klp_core::{BadMark, Manager};
@@ -33,6 +33,15 @@ pub fn seal(manager: &mut Manager)
     ensures well_formed { IsWellFormed manager.new }
 {
     manager.seal();
+}
+
+/// Seals the journal if it has no room for one more event, as [`Manager::make_room`] does.
+pub fn make_room(manager: &mut Manager)
+    requires { IsWellFormed manager.old }
+    ensures made { manager.new ≡ with_room manager.old }
+    ensures well_formed { IsWellFormed manager.new }
+{
+    manager.make_room();
 }
 
 /// Returns how many more records the journal has room for, as [`Manager::records_free`] does.

@@ -7,8 +7,8 @@
 //! The model is the image's names in order, and the loaded flags (`specs/Names`). `resolve` returns the site that a
 //! name and a position pick, or why no site is picked. `set_loaded` changes one flag and returns the undo record of the
 //! change (`specs/Undo`). Each name is stored once, and look-ups use tables (`src/tables.rt`). So a look-up walks only
-//! over the symbols that have the given name (docs/DECISIONS.md, "Names kept once"). `laws` connects the sites of the
-//! names with those of the image.
+//! over the symbols that have the given name (docs/DECISIONS.md, "Names kept once"). `place_in` picks a
+//! symbol of an object that has no tables. `laws` connects the sites of the names with those of the image.
 #![tactic(auto)]
 
 mod fault;
@@ -16,7 +16,9 @@ pub mod laws;
 mod modules;
 mod named_sites;
 mod numbered;
+mod place;
 mod tables;
 
 pub use fault::SymbolFault;
 pub use modules::Modules;
+pub use place::place_in;

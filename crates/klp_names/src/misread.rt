@@ -1,11 +1,9 @@
 //! The message for people about a faulty line of a text of names.
 
 use crate::fault::{NamesFault, NamesFaultKind};
+use klp_messages::{Escaped, Quoted};
 use klp_words::cut;
 use std::fmt;
-
-/// How many bytes of a faulty word a message shows at most.
-const SHOWN: usize = 64;
 
 /// A fault of a file of names, for people. It is printed as `FILE: line 3: BadTask: '64': wanted is a task's number, 0
 /// to 63`. It has no contract.
@@ -17,8 +15,8 @@ pub struct Misread<'a> {
     pub fault: NamesFault,
 }
 
-/// Returns the line with this number, counted from 1.
-fn line_at(text: &[u8], number: u64) -> &[u8] {
+/// Returns the line with this number, counted from 1. A carriage return at its end stays, since it may be the fault.
+fn whole_line_at(text: &[u8], number: u64) -> &[u8] {
     let mut rest = text;
     for _line in 1..number {
         rest = cut(rest, b'\n').1;
@@ -52,28 +50,15 @@ fn part_of(line: &[u8], kind: NamesFaultKind) -> (&[u8], &'static str) {
     }
 }
 
-/// Returns the first [`SHOWN`] bytes of a word.
-fn shown(word: &[u8]) -> &[u8] {
-    word.get(..SHOWN).unwrap_or(word)
-}
-
-/// Writes text. Characters that control a terminal or aren't printable are escaped, and so are bytes that aren't UTF-8.
-fn write_escaped<W: fmt::Write>(f: &mut fmt::Formatter<W>, word: &[u8]) -> fmt::Result {
-    for chunk in word.utf8_chunks() {
-        for c in chunk.valid().chars() {
-            write!(f, "{}", c.escape_debug())?;
-        }
-        write!(f, "{}", chunk.invalid().escape_ascii())?;
-    }
-    Ok(())
-}
-
 impl<'a> fmt::Display for Misread<'a> {
     fn fmt<W: fmt::Write>(&self, f: &mut fmt::Formatter<W>) -> fmt::Result {
-        let (word, wanted) = part_of(line_at(self.text, self.fault.line), self.fault.kind);
-        write_escaped(f, self.file.as_bytes())?;
-        write!(f, ": line {}: {}: '", self.fault.line, self.fault.kind)?;
-        write_escaped(f, shown(word))?;
-        write!(f, "': {wanted}")
+        let (word, wanted) = part_of(whole_line_at(self.text, self.fault.line), self.fault.kind);
+        let (file, line) = (Escaped(self.file.as_bytes()), self.fault.line);
+        write!(
+            f,
+            "{file}: line {line}: {}: {}: {wanted}",
+            self.fault.kind,
+            Quoted(word)
+        )
     }
 }

@@ -15,8 +15,8 @@ use Rattle.klp_timeline.specs.declared.moment.View.{View}
 use Rattle.klp_timeline.specs.Sentences.{sentences_of}
 use Rattle.klp_timeline.specs.Telling.{seen_after, IsQuiet}
 use Rattle.klp_timeline.proofs.TellingLemmas.{no_sleeper_left_out, none_made_up}
-use Rattle.klp_views.specs.Views.{IsView}
-use Rattle.klp_views.proofs.StayLemmas.{stay_seen, quiet_at_first}
+use Rattle.klp_page.specs.Views.{IsView}
+use Rattle.klp_page.proofs.StayLemmas.{stay_seen, quiet_at_first}
 use Rattle.klp_page.specs.declared.head.Title.{Title}
 use Rattle.klp_page.specs.declared.row.Row.{Row}
 use Rattle.klp_page.specs.Faithful.{AreLeft, last_left, stay_now, Begins, HasPart, IsTrueTo, IsTrueOver, IsEachHoldShown, IsNoHoldMadeUp}
@@ -169,15 +169,15 @@ true_to booted name names script page is quiet =
 
 pub true_over : (text name : List ℕ) (names : Names) (script page : List ℕ) → IsPageOf text name names script page → IsTrueOver text names script page
 true_over text name names script page is =
-    let booted = is.over.booted in
-    let shown = is.over.is_page in
+    let booted = is.booted in
+    let shown = is.is_page in
     let quiet = quiet_at_first (setting_of booted.managed) shown.opening
-    (subst (λ state. IsView (setting_of booted.managed) state shown.opening) is.over.is_booted.state shown.begins)
+    (subst (λ state. IsView (setting_of booted.managed) state shown.opening) is.is_booted.state shown.begins)
     in
     record {
       plan = is.plan;
       planned = is.planned;
       booted = booted;
-      is_booted = is.over.is_booted;
+      is_booted = is.is_booted;
       is_true = true_to booted name names script page shown quiet.0;
     }

@@ -1,4 +1,6 @@
 pub mod FaithfulLemmas
-pub mod PageLemmas
+pub mod OverLemmas
 pub mod RecordLemmas
 pub mod RowLemmas
+pub mod StayLemmas
+pub mod ViewLemmas

@@ -8,7 +8,7 @@ use Rattle.klp_core.specs.Journaled.{Journaled}
 use Rattle.klp_console.specs.Answered.{Answer, IsAnswered}
 use Rattle.klp_console.specs.Lines.{lines_of}
 use Rattle.klp_names.specs.Names.{Names}
-use Rattle.klp_program.specs.Booted.{IsBootedOver}
+use Rattle.klp_boot.specs.Booted.{IsBootedOver}
 use Rattle.klp_story.specs.End.{first_text}
 use Rattle.klp_story.specs.Sentences.{story_text}
 use Rattle.klp_timeline.specs.declared.moment.Said.TheVariants.{Slept}
@@ -17,7 +17,7 @@ use Rattle.klp_timeline.specs.declared.moment.Sleepers.{Sleepers}
 use Rattle.klp_timeline.specs.declared.moment.Stay.{Stay}
 use Rattle.klp_timeline.specs.declared.moment.View.{View}
 use Rattle.klp_timeline.specs.Telling.{Spans, IsShown}
-use Rattle.klp_views.specs.Views.{IsView, stay_in}
+use Rattle.klp_page.specs.Views.{IsView, stay_in}
 use Rattle.klp_page.specs.declared.head.Title.{Title}
 use Rattle.klp_page.specs.Text.{all_refused, opening_text}
 

@@ -1,28 +1,24 @@
 -- What a page comes to over a catalog's text and a script.
-use Rattle.std.specs.Prelude.{◌≡◌, ℕ, Bool, ◌<◌, List, [], ◌∷◌, ◌++◌, length, count_by, is_some, ◌⊎◌, Option, None, Result, Ok, Err}
-use Rattle.std.specs.Io.KnownBytes.{Appends}
+use Rattle.std.specs.Prelude.{◌≡◌, ℕ, Bool, ◌<◌, List, [], ◌∷◌, ◌++◌, length, count_by, is_some, Option, None, Result}
 use Rattle.klp_types.specs.declared.limits.TheConstants.{MAX_CONSOLE_LINE}
-use Rattle.klp_catalog_text.specs.Plan.{Plan}
-use Rattle.klp_catalog_text.specs.Text.{plan_of}
-use Rattle.klp_catalog_text.specs.Text as catalog
 use Rattle.klp_manager_state.specs.Managed.{setting_of}
 use Rattle.klp_core.specs.Journaled.{Journaled}
 use Rattle.klp_catalog.specs.Catalog.{Catalog}
-use Rattle.klp_console.specs.declared.served.ServeFault.TheVariants.{LineTooLong, Write}
 use Rattle.klp_console_io.specs.Lines.{lines_and_rest}
 use Rattle.klp_console.specs.Lines.{lines_of}
-use Rattle.klp_program.specs.declared.fault.Fault.{Fault}
-use Rattle.klp_program.specs.declared.fault.Fault.TheVariants.{NoMemory, Text, Serve}
+use Rattle.klp_boot.specs.declared.fault.Fault.{Fault}
 use Rattle.klp_names.specs.Names.{Names}
-use Rattle.klp_program.specs.Booted.{IsBootedOver, IsBootFault}
 use Rattle.klp_timeline.specs.declared.moment.Moment.{Moment}
 use Rattle.klp_timeline.specs.declared.moment.Sentence.{Sentence}
 use Rattle.klp_timeline.specs.declared.moment.View.{View}
 use Rattle.klp_timeline.specs.Sentences.{sentences_of}
-use Rattle.klp_views.specs.Views.{IsView}
+use Rattle.klp_page.specs.Views.{IsView}
 use Rattle.klp_page.specs.declared.head.Title.{Title}
 use Rattle.klp_page.specs.declared.head.Differing.{Differing}
 use Rattle.klp_page.specs.declared.row.Row.{Row}
+use Rattle.klp_page.specs.declared.unshown.Unshown.{Unshown}
+use Rattle.klp_page.specs.declared.unshown.Unshown.TheVariants.{NoMemory, LongLine, BadTrace}
+use Rattle.klp_page.specs.Over.{IsShownOver, IsFaultOver, WritesOver}
 use Rattle.klp_page.specs.Rows.{AreRows, last_view}
 use Rattle.klp_page.specs.Text.{is_start, page_text}
 
@@ -71,35 +67,18 @@ pub record HasLongLine (script : List ℕ) : Type 0 where
   pub too_long : MAX_CONSOLE_LINE < length long
 
 -- why a script isn't shown: a line is too long; or want of memory
-abbrev pub IsScriptFault : List ℕ → Fault → Type 0
+abbrev pub IsScriptFault : List ℕ → Unshown → Type 0
 IsScriptFault script NoMemory = Unit {0}
-IsScriptFault script (Serve LineTooLong) = HasLongLine script
-IsScriptFault script other = ⊥
+IsScriptFault script LongLine = HasLongLine script
+IsScriptFault script (BadTrace fault) = ⊥
 
--- a manager was booted over a plan, and shows the script
-pub record IsPageOver (plan : Plan) (name : List ℕ) (names : Names) (script page : List ℕ) : Type 0 where
-  pub booted : Journaled
-  pub is_booted : IsBootedOver plan booted
-  pub is_page : IsPage booted name names script page
-
--- none was booted, or the script isn't shown
-abbrev pub IsFaultOver : Plan → List ℕ → Fault → Type 0
-IsFaultOver plan script fault = IsBootFault plan fault ⊎ IsScriptFault script fault
-
--- the same over a catalog's text
-pub record IsPageOf (text name : List ℕ) (names : Names) (script page : List ℕ) : Type 0 where
-  pub plan : Plan
-  pub planned : plan_of text ≡ Ok plan
-  pub over : IsPageOver plan name names script page
+-- the page shows the script with a manager that was booted over a catalog's text
+abbrev pub IsPageOf : List ℕ → List ℕ → Names → List ℕ → List ℕ → Type 0
+IsPageOf text name names script page = IsShownOver (λ booted shown. IsPage booted name names script shown) text page
 
 abbrev pub IsFaultOf : List ℕ → List ℕ → Fault → Type 0
-IsFaultOf text script NoMemory = Unit {0}
-IsFaultOf text script (Text fault) = catalog.IsFaultOf text fault.line fault.kind
-IsFaultOf text script other = (plan : Plan) × (plan_of text ≡ Ok plan) × IsFaultOver plan script other
+IsFaultOf text script fault = IsFaultOver (λ booted why. IsScriptFault script why) text fault
 
--- a script was shown over a catalog's text, and its whole page was written behind what the output had; or that could not be written; or there
--- is no page for this fault, and nothing was written
 abbrev pub Writes : {A : Type 0} → List ℕ → List ℕ → Names → List ℕ → Option (List ℕ) → Option (List ℕ) → Result A Fault → Type 0
-Writes text name names script before after (Ok done) = (page : List ℕ) × IsPageOf text name names script page × Appends before after page
-Writes text name names script before after (Err (Serve Write)) = (page : List ℕ) × IsPageOf text name names script page
-Writes text name names script before after (Err fault) = IsFaultOf text script fault × (after ≡ before)
+Writes text name names script before after result =
+    WritesOver (λ booted shown. IsPage booted name names script shown) (λ booted why. IsScriptFault script why) text before after result

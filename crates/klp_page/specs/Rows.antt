@@ -1,7 +1,7 @@
 -- What the rows of a page show of a script, and the moments that are seen with them.
 use Rattle.std.specs.Prelude.{◌≡◌, ℕ, ◌+◌, ◌&&◌, Bool, false, not, List, [], ◌∷◌, ◌++◌, length, Option, Some, if◌then◌else◌}
 use Rattle.klp_console_commands.specs.Lines.{request_of}
-use Rattle.klp_console.specs.declared.outcome.Outcome.{Outcome}
+use Rattle.klp_console.specs.declared.outcome.LineOutcome.{LineOutcome}
 use Rattle.klp_console.specs.Answered.{Answer, IsAnswered, names_in}
 use Rattle.klp_console.specs.Outcomes.{is_refusal, IsOutcome}
 use Rattle.klp_core.specs.Journaled.{Journaled}
@@ -11,7 +11,7 @@ use Rattle.klp_timeline.specs.declared.moment.Stay.{Stay}
 use Rattle.klp_timeline.specs.declared.moment.Stay.TheVariants.{Holds}
 use Rattle.klp_timeline.specs.declared.moment.View.{View}
 use Rattle.klp_timeline.specs.Still.{are_same, is_still}
-use Rattle.klp_views.specs.Views.{IsView, act_of}
+use Rattle.klp_page.specs.Views.{IsView, act_of}
 use Rattle.klp_page.specs.declared.row.Row.{Row}
 
 abbrev pub holder_of : ℕ → Option Stay → List ℕ
@@ -28,13 +28,13 @@ abbrev pub holders_shown : View → View → List ℕ
 holders_shown before after = if are_same before.stays after.stays then [] else holders_from 0 after.stays
 
 -- a line may be folded away: it was done, and a page has nothing to say of it
-abbrev pub is_quiet : Outcome → View → Moment → Bool
+abbrev pub is_quiet : LineOutcome → View → Moment → Bool
 is_quiet outcome before moment = not (is_refusal outcome) && is_still before moment
 
 -- a line was answered, and came to this; the row has the line and its answer, and the moment is what the line did and what the manager shows afterwards
 pub record IsRowOf (before after : Journaled) (view : View) (line : List ℕ) (row : Row) (moment : Moment) : Type 0 where
   pub answer : Answer
-  pub outcome : Outcome
+  pub outcome : LineOutcome
   pub answered : IsAnswered before after line answer
   pub became : IsOutcome before after (request_of (names_in before) line) outcome
   pub refuses : is_refusal outcome ≡ answer.is_refused
@@ -65,7 +65,7 @@ AreRows before after view (line ∷ lines) (row ∷ rows) (moment ∷ run) =
 AreRows before after view lines rows run = ⊥
 
 -- a line was answered with this text, and this became of it
-pub record IsAnsweredBy (before after : Journaled) (line text : List ℕ) (outcome : Outcome) : Type 0 where
+pub record IsAnsweredBy (before after : Journaled) (line text : List ℕ) (outcome : LineOutcome) : Type 0 where
   pub answer : Answer
   pub answered : IsAnswered before after line answer
   pub became : IsOutcome before after (request_of (names_in before) line) outcome

@@ -14,7 +14,7 @@ use Rattle.klp_timeline.specs.declared.moment.Said.TheVariants.{Did}
 use Rattle.klp_timeline.specs.declared.moment.Sentence.{Sentence}
 use Rattle.klp_timeline.specs.declared.moment.View.{View}
 use Rattle.klp_drawing.specs.declared.style.TheConstants as drawing
-use Rattle.klp_page_layout.specs.declared.style.TheConstants as cards
+use Rattle.klp_cards.specs.declared.style.TheConstants as cards
 use Rattle.klp_page.specs.declared.head.Title.{Title}
 use Rattle.klp_page.specs.declared.head.Differing.{Differing}
 use Rattle.klp_page.specs.declared.row.Row.{Row}

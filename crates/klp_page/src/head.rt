@@ -132,7 +132,7 @@ fn add_style(sheet: &mut Sheet, names: &Names, differing: &Option<Differing>)
     klp_markup::laws::what_is_added_adds_up();
     sheet.markup(STYLE);
     sheet.markup(klp_drawing::STYLE);
-    sheet.markup(klp_page_layout::STYLE);
+    sheet.markup(klp_cards::STYLE);
     add_timed_style(sheet, names);
     add_trace_style(sheet, differing);
 }

@@ -1,12 +1,12 @@
 //! The parts of a page that are layout: the drawing, and what an open row shows.
 
+use klp_cards::{Chronicle, RowParts};
 use klp_catalog_text::Plan;
-use klp_console::Outcome;
+use klp_console::LineOutcome;
 use klp_core::Manager;
 use klp_drawing::{Bars, add_drawing};
 use klp_markup::Sheet;
 use klp_names::Names;
-use klp_page_layout::{Chronicle, RowParts};
 use klp_timeline::{Fact, Moment, Sentence, View};
 use std::alloc::{AllocError, Global};
 
@@ -60,12 +60,15 @@ impl<'a> Layout<'a> {
         &mut self,
         alloc: Global,
         manager: &Manager,
-        outcome: &Outcome,
+        outcome: &LineOutcome,
         before: &View,
         moment: &Moment,
     ) -> Result<Cards, AllocError> {
         self.lines = self.lines.saturating_add(1);
-        if !matches!(outcome, Outcome::Answered(_, Ok(_)) | Outcome::Rewound(_)) {
+        if !matches!(
+            outcome,
+            LineOutcome::Answered(_, Ok(_)) | LineOutcome::Rewound(_)
+        ) {
             return Ok(Cards {
                 sheet: Sheet::new(alloc),
                 is_open: false,

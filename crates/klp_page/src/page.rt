@@ -1,27 +1,24 @@
-//! Boots a manager with a catalog's text, and makes the page of a script that the manager serves.
-ghost use Rattle.std.specs.Prelude.{◌≡◌, length, count_by, IfOk, IfErr};
-ghost use Rattle.klp_catalog_text.specs.Within.{AreTargetsWithin};
+//! The page of a script that a manager serves, from its rows, sentences and drawing.
+ghost use Rattle.std.specs.Prelude.{◌≡◌, count_by, IfOk, IfErr};
 ghost use Rattle.klp_page.specs.Rows.{last_view};
 ghost use Rattle.klp_page.specs.Text.{page_text};
-ghost use Rattle.klp_page.specs.Pages.{is_refused, IsTitle, IsPage, IsPageOfRun, IsScriptFault, IsPageOver};
-ghost use Rattle.klp_page.specs.Pages.{IsFaultOver};
+ghost use Rattle.klp_page.specs.Pages.{is_refused, IsTitle, IsPage, IsPageOfRun, IsScriptFault};
 ghost use Rattle.klp_page.specs.Pages.{IsPageOf, IsFaultOf, Writes};
 
 use crate::head::{Differing, Title, add_front, add_story_and_drawing, transitions};
 use crate::layout::Layout;
+use crate::over::{page_over, write_over};
 use crate::record::{Recorded, last_view, record};
 use crate::row::{Row, add_rows};
+use crate::source::PageSource;
 use crate::style::FOOT;
-use klp_callback::Boxed;
-use klp_catalog::Catalog;
-use klp_catalog_text::Plan;
-use klp_console::ServeFault;
+use crate::unshown::Unshown;
+use crate::view::view_of;
+use klp_boot::Fault;
 use klp_core::Manager;
 use klp_markup::Sheet;
 use klp_names::Names;
-use klp_program::{Fault, boot, close, scripted};
 use klp_timeline::{Sentence, View, sentences};
-use klp_views::view_of;
 use std::alloc::{AllocError, Global};
 use std::io::Write;
 
@@ -128,9 +125,9 @@ fn paged(
     names: &Names,
     script: &[u8],
     layout: &mut Layout<'_>,
-) -> Result<Vec<u8>, Fault>
+) -> Result<Vec<u8>, Unshown>
     ensures page { IfOk result (λ page. IsPage manager.old name.now names.now script.now page.items) }
-    ensures fault { IfErr result (λ fault. IsScriptFault script.now fault) }
+    ensures fault { IfErr result (λ why. IsScriptFault script.now why) }
 {
     layout.open(manager)?;
     let opening = view_of(manager);
@@ -140,50 +137,30 @@ fn paged(
     )?)
 }
 
-// Serves a script with a manager, drops the manager, and returns the page. Only `close` drops managers, so the drop is
-// proved once.
-fn page_over_manager(
-    alloc: Global,
-    mut manager: Manager,
-    name: &[u8],
-    names: &Names,
-    script: &[u8],
-    mut layout: Layout<'_>,
-) -> Result<Vec<u8>, Fault>
-    ensures page { IfOk result (λ page. IsPage manager name.now names.now script.now page.items) }
-    ensures fault { IfErr result (λ fault. IsScriptFault script.now fault) }
-{
-    let page = paged(alloc, &mut manager, name, names, script, &mut layout);
-    close(manager);
-    page
+/// A script, and what the head of its page says of it.
+#[derive(Clone, Copy)]
+struct ScriptRun<'a> {
+    name: &'a [u8],
+    names: &'a Names,
+    script: &'a [u8],
 }
 
-// Boots a manager over a plan, serves the script with it, and returns the page. No function may return a boxed value
-// that it makes, so the callbacks are made in this function.
-fn page_over_plan(
-    alloc: Global,
-    plan: Plan,
-    name: &[u8],
-    names: &Names,
-    script: &[u8],
-) -> Result<Vec<u8>, Fault>
-    requires { AreTargetsWithin (length plan.objects) plan.patches }
-    ensures page { IfOk result (λ page. IsPageOver plan name.now names.now script.now page.items) }
-    ensures fault { IfErr result (λ fault. IsFaultOver plan script.now fault) }
-{
-    let mut layout = Layout::new(alloc, names);
-    layout.watch(&plan)?;
-    let mut callbacks = Vec::new(alloc);
-    while let Some(callback) = scripted(alloc, &plan, callbacks.len())? {
-        callbacks.push(Boxed::new(callback))?;
+impl PageSource for ScriptRun<'_> {
+    ghost shows = { λ run booted page. IsPage booted run.name.now run.names.now run.script.now page };
+
+    ghost lacks = { λ run _ why. IsScriptFault run.script.now why };
+
+    fn page(
+        &self,
+        alloc: Global,
+        manager: &mut Manager,
+        layout: &mut Layout<'_>,
+    ) -> Result<Vec<u8>, Unshown> {
+        paged(alloc, manager, self.name, self.names, self.script, layout)
     }
-    let manager = boot(alloc, plan, callbacks)?;
-    page_over_manager(alloc, manager, name, names, script, layout)
 }
 
-/// Boots a manager over the catalog's text, serves the script with it, and returns a page with a row for each line.
-/// `name` is the page's title. `names` has the names of tasks and the times of lines. Allocates memory in proportion to
-/// the script.
+/// Returns the page of a script, as [`page_over`] does, with a row for each line. `name` is the page's title.
 pub fn page_over_text(
     alloc: Global,
     catalog: &[u8],
@@ -194,12 +171,15 @@ pub fn page_over_text(
     ensures page { IfOk result (λ page. IsPageOf catalog.now name.now names.now script.now page.items) }
     ensures fault { IfErr result (λ fault. IsFaultOf catalog.now script.now fault) }
 {
-    let plan = Catalog::read(alloc, catalog)?;
-    page_over_plan(alloc, plan, name, names, script)
+    let run = ScriptRun {
+        name,
+        names,
+        script,
+    };
+    page_over(alloc, catalog, names, &run)
 }
 
-/// Writes the page of a script to `out` after all lines are served. If a fault is found before the page is complete,
-/// writes nothing. If the page can't be written, returns the fault of a failed write.
+/// Writes the page of a script to `out`, as [`write_over`] does.
 pub fn write_page<W: Write>(
     alloc: Global,
     catalog: &[u8],
@@ -210,12 +190,10 @@ pub fn write_page<W: Write>(
 ) -> Result<(), Fault>
     ensures { Writes catalog.now name.now names.now script.now (W.contents out.old) (W.contents out.new) result }
 {
-    let page = match page_over_text(alloc, catalog, name, names, script) {
-        Ok(page) => page,
-        Err(fault) => return Err(fault),
+    let run = ScriptRun {
+        name,
+        names,
+        script,
     };
-    match out.write_all(&page) {
-        Ok(()) => Ok(()),
-        Err(_) => Err(Fault::Serve(ServeFault::Write)),
-    }
+    write_over(alloc, catalog, names, &run, out)
 }

@@ -2,22 +2,23 @@
 ghost use Rattle.std.specs.Prelude.{◌≡◌, ◌≤◌, ◌+◌, [], ◌++◌, length, IfOk, IfErr, OnOk};
 ghost use Rattle.klp_types.specs.declared.limits.TheConstants.{MAX_TASKS};
 ghost use Rattle.klp_manager_state.specs.Managed.{setting_of};
-ghost use Rattle.klp_views.specs.Views.{IsView, act_of};
+ghost use Rattle.klp_page.specs.Views.{IsView, act_of};
 ghost use Rattle.klp_console.specs.Lines.{lines_of};
 ghost use Rattle.klp_page.specs.Rows.{IsAnsweredBy, IsScriptRow, AddsRow, AreRows, holders_from, holders_shown};
 ghost use Rattle.klp_page.specs.Rows.{is_quiet};
 ghost use Rattle.klp_page.specs.Rows.{last_view};
 ghost use Rattle.klp_page.specs.Pages.{HasRows, IsScriptFault};
 
+use crate::act::act_of;
 use crate::layout::Layout;
 use crate::row::Row;
-use klp_console::{Outcome, ServeFault, answer_line};
+use crate::unshown::Unshown;
+use crate::view::view_of;
+use klp_console::{LineOutcome, answer_line};
 use klp_console_io::{LineBuffer, OverWrite, TooLong};
 use klp_core::Manager;
-use klp_program::Fault;
 use klp_timeline::{Moment, Stay, View, are_same, is_still};
 use klp_types::{MAX_TASKS, TaskId};
-use klp_views::{act_of, view_of};
 use std::alloc::{AllocError, Global};
 use std::marker::Brand;
 use std::sync::ledger::{Blank, Ledger};
@@ -26,7 +27,7 @@ use std::sync::ledger::{Blank, Ledger};
 #[derive(Drop)]
 struct Answered {
     text: Vec<u8>,
-    outcome: Outcome,
+    outcome: LineOutcome,
 }
 
 /// The rows of the lines that were served, with the effect of each line and the state after it.
@@ -69,7 +70,7 @@ fn answer<M: Ledger>(
 
 /// Returns the effect of a line, and the state after it. `before` is the state before the line, `from` is the number of
 /// events before the line, and `outcome` is the line's outcome.
-fn moment_of(manager: &Manager, before: &View, outcome: &Outcome, from: u32) -> Moment
+fn moment_of(manager: &Manager, before: &View, outcome: &LineOutcome, from: u32) -> Moment
     ensures seen { IsView (setting_of manager.now.managed) manager.now.managed.state result.view }
     ensures did { result.act ≡ act_of before.now.moving outcome.now from (length manager.now.groups) }
 {
@@ -168,18 +169,18 @@ fn record_lines(
     opening: &View,
     recorded: &mut Recorded,
     layout: &mut Layout<'_>,
-) -> Result<(), Fault>
+) -> Result<(), Unshown>
     requires line { line.old ≡ [] }
     requires rows { recorded.old.rows.items ≡ [] }
     requires run { recorded.old.run.items ≡ [] }
     ensures done { IfOk result (λ _. HasRows manager.old manager.new opening.now script.now line.new
         recorded.new.rows.items recorded.new.run.items) }
-    ensures fault { IfErr result (λ fault. IsScriptFault script.now fault) }
+    ensures fault { IfErr result (λ why. IsScriptFault script.now why) }
 {
     let mut rest = script;
     while !rest.is_empty() {
         match line.hear(rest) {
-            Err(TooLong) => return Err(Fault::Serve(ServeFault::LineTooLong)),
+            Err(TooLong) => return Err(Unshown::LongLine),
             Ok(None) => return Ok(()),
             Ok(Some(after)) => {
                 add_line(alloc, manager, line.bytes(), opening, recorded, layout)?;
@@ -200,10 +201,10 @@ pub(crate) fn record(
     script: &[u8],
     opening: &View,
     layout: &mut Layout<'_>,
-) -> Result<Recorded, Fault>
+) -> Result<Recorded, Unshown>
     ensures rows { IfOk result (λ recorded. AreRows manager.old manager.new opening.now (lines_of script.now)
         recorded.rows.items recorded.run.items) }
-    ensures fault { IfErr result (λ fault. IsScriptFault script.now fault) }
+    ensures fault { IfErr result (λ why. IsScriptFault script.now why) }
 {
     let mut line = LineBuffer::new();
     let mut recorded = Recorded {

@@ -1,16 +1,11 @@
 -- What the words behind the name of a program ask for.
-use Rattle.std.specs.Prelude.{ℕ, Bool, false, not, ◌==◌, ◌&&◌, ◌||◌, if◌then◌else◌, List, [], ◌∷◌, codes, bytes_eq, string_bytes, Option, Some, None, option_map, option_and_then}
+use Rattle.std.specs.Prelude.{ℕ, Bool, false, not, ◌==◌, ◌&&◌, if◌then◌else◌, List, [], ◌∷◌, codes, bytes_eq, string_bytes, Option, Some, None, option_map, option_and_then}
 use Rattle.klp_program.specs.declared.wanted.Wanted.{Wanted}
 use Rattle.klp_program.specs.declared.wanted.Wanted.TheVariants.{Console, Live}
 
 abbrev pub begins_with_dash : List ℕ → Bool
 begins_with_dash [] = false
 begins_with_dash (b ∷ bytes) = b == 45
-
--- two words, neither of which begins with `-`: the files, each in its place
-abbrev pub two_files : List (List ℕ) → Option (List (List ℕ))
-two_files (first ∷ second ∷ []) = if begins_with_dash first || begins_with_dash second then None else Some (first ∷ second ∷ [])
-two_files words = None
 
 -- what klpsim is to do: to serve standard input over the catalog in a file, or over the built-in one; or to run the steps of a file over a
 -- catalog

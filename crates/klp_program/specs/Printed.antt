@@ -7,8 +7,8 @@ use Rattle.klp_watch.specs.declared.cause.Cause.TheVariants.{NotOpening, Frames,
 use Rattle.klp_watch.specs.declared.difference.Difference.{Difference}
 use Rattle.klp_watch.specs.declared.difference.Difference.TheVariants.{Premise, Answer, State, Files, Version, Text}
 use Rattle.klp_console.specs.declared.served.ServeFault.TheVariants.{Write}
-use Rattle.klp_program.specs.declared.fault.Fault.{Fault}
-use Rattle.klp_program.specs.declared.fault.Fault.TheVariants.{Serve}
+use Rattle.klp_boot.specs.declared.fault.Fault.{Fault}
+use Rattle.klp_boot.specs.declared.fault.Fault.TheVariants.{Serve}
 use Rattle.klp_program.specs.declared.verdict.Counts.{Counts}
 use Rattle.klp_program.specs.declared.verdict.Verdict.{Verdict}
 use Rattle.klp_program.specs.declared.verdict.Verdict.TheVariants.{Honest, Dishonest, Differs}

@@ -1,16 +1,17 @@
 -- What the program comes to over a catalog's text.
 use Rattle.std.specs.Prelude.{◌≡◌, ℕ, false, List, Option, Result, Ok, Err}
 use Rattle.klp_catalog_text.specs.Plan.{Plan}
-use Rattle.klp_catalog_text.specs.Text.{plan_of, IsFaultOf}
+use Rattle.klp_catalog_text.specs.Text.{plan_of}
 use Rattle.klp_core.specs.Journaled.{Journaled}
 use Rattle.klp_console_io.specs.Written.{Written}
 use Rattle.klp_console_io.specs.Supply.{Supply}
 use Rattle.klp_console.specs.declared.served.Served.{Served}
 use Rattle.klp_console.specs.declared.served.ServeFault.{ServeFault}
 use Rattle.klp_console.specs.Served.{ComesTo}
-use Rattle.klp_program.specs.declared.fault.Fault.{Fault}
-use Rattle.klp_program.specs.declared.fault.Fault.TheVariants.{NoMemory, Text, Serve}
-use Rattle.klp_program.specs.Booted.{IsBootedOver, IsBootFault}
+use Rattle.klp_boot.specs.declared.fault.Fault.{Fault}
+use Rattle.klp_boot.specs.declared.fault.Fault.TheVariants.{Serve}
+use Rattle.klp_boot.specs.Booted.{IsBootedOver}
+use Rattle.klp_boot.specs.Over.{IsBootFaultOf}
 
 -- what is still to be read, and what was written
 pub record Streams : Type 0 where
@@ -25,20 +26,6 @@ ServesBy booted before after (Err (Serve fault)) = (left : Journaled)
     × ComesTo (record { supply = before.supply; written = before.written; manager = booted }) (record { supply = after.supply; written = after.written; manager = left }) (Err fault)
 ServesBy booted before after (Err fault) = ⊥
 
--- a manager was booted over a plan, and the console was served by it
-pub record ServesPlan (plan : Plan) (before after : Streams) (ended : Result Served ServeFault) : Type 0 where
-  pub booted : Journaled
-  pub is_booted : IsBootedOver plan booted
-  pub left : Journaled
-  pub comes_to : ComesTo (record { supply = before.supply; written = before.written; manager = booted })
-      (record { supply = after.supply; written = after.written; manager = left }) ended
-
--- the console was served over a plan, or nothing was read and nothing was written
-abbrev pub RunsPlan : Plan → Streams → Streams → Result Served Fault → Type 0
-RunsPlan plan before after (Ok served) = ServesPlan plan before after (Ok served)
-RunsPlan plan before after (Err (Serve fault)) = ServesPlan plan before after (Err fault)
-RunsPlan plan before after (Err fault) = (after ≡ before) × IsBootFault plan fault
-
 -- a manager was booted over the text's plan, and the console was served by it
 pub record Serves (text : List ℕ) (before after : Streams) (ended : Result Served ServeFault) : Type 0 where
   pub plan : Plan
@@ -49,17 +36,11 @@ pub record Serves (text : List ℕ) (before after : Streams) (ended : Result Ser
   pub comes_to : ComesTo (record { supply = before.supply; written = before.written; manager = booted })
       (record { supply = after.supply; written = after.written; manager = left }) ended
 
--- why no manager was booted: a fault of the text; or of its plan; or want of memory
-abbrev pub IsFault : List ℕ → Fault → Type 0
-IsFault text NoMemory = Unit {0}
-IsFault text (Text fault) = IsFaultOf text fault.line fault.kind
-IsFault text other = (plan : Plan) × (plan_of text ≡ Ok plan) × IsBootFault plan other
-
 -- the console was served, or nothing was read and nothing was written
 abbrev pub Runs : List ℕ → Streams → Streams → Result Served Fault → Type 0
 Runs text before after (Ok served) = Serves text before after (Ok served)
 Runs text before after (Err (Serve fault)) = Serves text before after (Err fault)
-Runs text before after (Err fault) = (after ≡ before) × IsFault text fault
+Runs text before after (Err fault) = (after ≡ before) × IsBootFaultOf text fault
 
 -- What contracts know of a reader and of a writer of std: the bytes that the one has left, and those that the other
 -- took. Of standard input and standard output they know neither.

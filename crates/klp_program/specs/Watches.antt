@@ -13,14 +13,16 @@ use Rattle.klp_watch.specs.declared.difference.Differs.{Differs as FirstDifferen
 use Rattle.klp_watch.specs.declared.observed.Observed.{Observed}
 use Rattle.klp_watch.specs.declared.observed.Observed.TheVariants.{Seen as Item, Answered}
 use Rattle.klp_watch.specs.Compared.{taken_from}
+use Rattle.klp_watch.specs.Refused.{refused_in}
+use Rattle.klp_watch.specs.declared.refused.RefusedEvents.{RefusedEvents}
 use Rattle.klp_watch.specs.ComparedWhole.{AreAllSo, IsDifferenceOfWhole}
 use Rattle.klp_trace.specs.Traces.{IsTraceOf, IsTraceFault}
-use Rattle.klp_program.specs.declared.fault.Fault.{Fault}
-use Rattle.klp_program.specs.declared.fault.Fault.TheVariants.{NoMemory, Text, Trace}
+use Rattle.klp_boot.specs.declared.fault.Fault.{Fault}
+use Rattle.klp_boot.specs.declared.fault.Fault.TheVariants.{NoMemory, Text, Trace}
 use Rattle.klp_program.specs.declared.verdict.Counts.{Counts}
 use Rattle.klp_program.specs.declared.verdict.Verdict.{Verdict}
 use Rattle.klp_program.specs.declared.verdict.Verdict.TheVariants.{Honest, Dishonest, Differs}
-use Rattle.klp_program.specs.Booted.{IsBootedOver, IsBootFault}
+use Rattle.klp_boot.specs.Booted.{IsBootedOver, IsBootFault}
 
 abbrev pub is_event : Observed → Bool
 is_event (Item (Happens event)) = true
@@ -40,20 +42,21 @@ abbrev pub is_compared : Observed → Bool
 is_compared (Item item) = false
 is_compared other = true
 
-abbrev pub counted : List Observed → Counts
-counted items = record {
+abbrev pub counted : List Observed → RefusedEvents → Counts
+counted items refused = record {
   events = count_by is_event items;
   calls = count_by is_call items;
   returns = count_by is_return items;
   compared = count_by is_compared items;
+  refused = refused;
 }
 
--- what happens of the items is an honest run to their end, consistent at every moment; each item is as the rules say; and so many are
--- of each kind
+-- what happens of the items is an honest run to their end, consistent at every moment; each item is as the rules say; so many are of
+-- each kind; and these are refused
 pub record IsHonestBy (before after : Managed) (items : List Observed) (counts : Counts) : Type 0 where
   pub so : AreAllSo before after items
   pub consistent : IsConsistent (setting_of before) before.state (taken_from items)
-  pub counts_are : counts ≡ counted items
+  pub counts_are : counts ≡ counted items (refused_in (setting_of before) before.state items)
 
 -- an item that breaks a premise isn't honest, and any other differs
 abbrev pub reported_as : ℕ → Difference → Verdict

@@ -1,13 +1,12 @@
-ghost use Rattle.std.specs.Prelude.{◌≡◌, ◌⊎◌, [], ◌∷◌, map, string_bytes, Some, None, option_map, IfOk, IfErr};
-ghost use Rattle.std.specs.Prelude.{MatchResult};
+ghost use Rattle.std.specs.Prelude.{◌≡◌, ◌⊎◌, map, string_bytes, Some, None, option_map, IfOk, IfErr};
 ghost use Rattle.clap.specs.Words.{first_of, found_of, rows_of, subcommand_rows_of};
-ghost use Rattle.klp_program.specs.Asked.{asked_of, begins_with_dash, meaning, two_files};
+ghost use Rattle.klp_program.specs.Asked.{asked_of, meaning};
 ghost use Rattle.klp_program.specs.Commands.{asked_in, console_app, klpsim_app, live_app, IsCommand};
 
-use crate::fault::Fault;
 use crate::wanted::Wanted;
 use clap::error::ErrorKind as WordsErrorKind;
 use clap::{Arg, ArgMatches, Command};
+use klp_boot::Fault;
 use std::alloc::{AllocError, Global};
 use std::io::{ErrorKind, Write};
 use std::rt::Env;
@@ -96,12 +95,10 @@ fn words_given<R: Env + AllocGlobal>(rt: &R) -> io::Result<Vec<String>> {
     Ok(given)
 }
 
-/// Returns the arguments of the program, which calls itself `name`. If an argument isn't text, or if memory runs out,
-/// writes a line to `err` and returns the exit status as `Err`. The exit status is 2 for a refused argument, and 1 for
-/// lack of memory.
+/// Returns klpsim's arguments. If an argument isn't text, or if memory runs out, writes a line to `err` and returns the
+/// exit status as `Err`. The exit status is 2 for a refused argument, and 1 for lack of memory.
 pub fn program_arguments<R: Env + AllocGlobal, W: Write>(
     rt: &R,
-    name: &str,
     err: &mut W,
 ) -> Result<Vec<String>, u8>
     ensures { IfErr result (λ status. (status ≡ 1) ⊎ (status ≡ 2)) }
@@ -109,9 +106,9 @@ pub fn program_arguments<R: Env + AllocGlobal, W: Write>(
     match words_given(rt) {
         Ok(given) => Ok(given),
         Err(error) if error.kind() == ErrorKind::OutOfMemory => {
-            Err(report_fault_as(name, Fault::NoMemory, err))
+            Err(report_fault(Fault::NoMemory, err))
         }
-        Err(_) => Err(report_usage_as(name, err)),
+        Err(_) => Err(report_usage(err)),
     }
 }
 
@@ -146,34 +143,6 @@ pub fn parse_arguments<W: Write>(alloc: Global, given: &[String], err: &mut W) -
     }
 }
 
-/// Whether an argument begins with `-`, as options do.
-fn begins_with_dash(word: &str) -> bool
-    ensures { result ≡ begins_with_dash word.now }
-{
-    word.as_bytes().first() == Some(&b'-')
-}
-
-/// Returns a program's two arguments, which are the paths of its files. `name` is what the program calls itself. If
-/// there aren't exactly two arguments, or if one begins with `-`, writes a line to `err` and returns the exit status 2
-/// as `Err`.
-pub fn file_words<'a, W: Write>(
-    name: &str,
-    given: &'a [String],
-    err: &mut W,
-) -> Result<(&'a str, &'a str), u8>
-    ensures { MatchResult result
-        (λ files. two_files (map string_bytes given.now) ≡ Some (files.0.now ∷ files.1.now ∷ []))
-        (λ status. (status ≡ 2) × (two_files (map string_bytes given.now) ≡ None)) }
-{
-    match given {
-        [first, second]
-            if !begins_with_dash(first.as_str()) && !begins_with_dash(second.as_str()) => {
-            Ok((first.as_str(), second.as_str()))
-        }
-        _ => Err(report_usage_as(name, err)),
-    }
-}
-
 /// Writes a fault to `err`, as a line of klpsim. Returns the exit status, 1.
 pub fn report_fault<W: Write>(fault: Fault, err: &mut W) -> u8
     ensures { result ≡ 1 }
@@ -181,21 +150,13 @@ pub fn report_fault<W: Write>(fault: Fault, err: &mut W) -> u8
     report_fault_as(NAME, fault, err)
 }
 
-/// Writes to `err` that klpsim's arguments are refused. Returns the exit status, 2.
+/// Writes to `err` that klpsim's arguments are refused, by the one word that scripts wait for. Returns the exit status,
+/// 2.
 pub fn report_usage<W: Write>(err: &mut W) -> u8
     ensures { result ≡ 2 }
 {
-    report_usage_as(NAME, err)
-}
-
-/// Returns what a program writes if its arguments are refused: how to call the program, and where to read more. Scripts
-/// wait for the word `usage` of klpsim, so klpsim writes only this word.
-fn usage_of(name: &str) -> &'static str {
-    match name.as_bytes() {
-        b"klpwatch" => "usage: klpwatch CATALOG TRACE (man klpwatch)",
-        b"klppage" => "usage: klppage CATALOG SCRIPT|--trace TRACE [NAMES] (man klppage)",
-        _ => "usage",
-    }
+    let _ = writeln!(err, "{NAME}: usage");
+    USAGE
 }
 
 /// Writes a fault to `err`, as a line of the program `name`. Returns the exit status, 1.
@@ -204,12 +165,4 @@ pub fn report_fault_as<W: Write>(name: &str, fault: Fault, err: &mut W) -> u8
 {
     let _ = writeln!(err, "{name}: {fault}");
     FAULT
-}
-
-/// Writes to `err` how to call the program `name`. Returns the exit status for refused arguments, 2.
-pub fn report_usage_as<W: Write>(name: &str, err: &mut W) -> u8
-    ensures { result ≡ 2 }
-{
-    let _ = writeln!(err, "{name}: {}", usage_of(name));
-    USAGE
 }

@@ -1,9 +1,9 @@
 //! Reads the console's catalog from its file.
 ghost use Rattle.std.specs.Prelude.{◌≡◌, ◌⊎◌, IsSome, IfOk, IfErr};
-ghost use Rattle.klp_program.specs.declared.fault.Fault.TheVariants.{CannotRead, NoMemory};
+ghost use Rattle.klp_boot.specs.declared.fault.Fault.TheVariants.{CannotRead, NoMemory};
 
-use crate::fault::Fault;
 use crate::sample::CATALOG;
+use klp_boot::Fault;
 use std::fs;
 use std::io::ErrorKind;
 use std::rt::Files;

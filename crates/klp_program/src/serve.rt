@@ -1,15 +1,9 @@
 //! Boots a manager with a catalog's text, and serves the console with the manager.
-ghost use Rattle.std.specs.Prelude.{◌≡◌, ◌≤◌, length};
-ghost use Rattle.klp_catalog_text.specs.Within.{AreTargetsWithin};
-ghost use Rattle.klp_program.specs.Runs.{Exits, Runs, RunsOver, RunsPlan, ServesBy};
+ghost use Rattle.std.specs.Prelude.{◌≡◌, ◌≤◌};
+ghost use Rattle.klp_program.specs.Runs.{Exits, Runs, RunsOver, ServesBy};
 
 use crate::arguments::report_fault;
-use crate::booted::boot;
-use crate::fault::Fault;
-use crate::kind::{Kind, callback_of};
-use klp_callback::Boxed;
-use klp_catalog::Catalog;
-use klp_catalog_text::Plan;
+use klp_boot::{Fault, ManagerUse};
 use klp_console::{Served, serve};
 use klp_console_io::{OverRead, OverWrite, Sink, Source};
 use klp_core::Manager;
@@ -18,52 +12,27 @@ use std::io::{Read, Write};
 use std::marker::Brand;
 use std::sync::ledger::{Blank, Ledger};
 
-/// Drops a manager. It is costly to prove that a manager may be dropped. So each function that owns a manager calls
-/// this function at its end, and the proof is done only here.
-pub fn close(_manager: Manager) {}
-
-// Serves the console with a manager, and then drops the manager.
-fn over_manager<R: Source, W: Sink>(
-    mut manager: Manager,
-    reader: &mut R,
-    writer: &mut W,
-) -> Result<Served, Fault>
-    ensures { ServesBy manager (record { supply = R.supply reader.old; written = W.written writer.old })
-        (record { supply = R.supply reader.new; written = W.written writer.new }) result }
-{
-    let ended = serve(reader, writer, &mut manager);
-    close(manager);
-    match ended {
-        Ok(served) => Ok(served),
-        Err(fault) => Err(Fault::Serve(fault)),
-    }
+/// The console between a reader and a writer.
+#[derive(Drop)]
+struct Session<'a, R, W> {
+    reader: &'a mut R,
+    writer: &'a mut W,
 }
 
-// Boots a manager over a plan, and serves the console with it.
-//
-// Each script of the text gets a callback of the simplest kind that can run the script. If a function makes a box and
-// returns it, what is proved of the box is lost. So the boxes are made here, and no box is returned.
-fn over_plan<R: Source, W: Sink>(
-    alloc: Global,
-    plan: Plan,
-    reader: &mut R,
-    writer: &mut W,
-) -> Result<Served, Fault>
-    requires { AreTargetsWithin (length plan.objects) plan.patches }
-    ensures { RunsPlan plan (record { supply = R.supply reader.old; written = W.written writer.old })
-        (record { supply = R.supply reader.new; written = W.written writer.new }) result }
-{
-    let mut callbacks = Vec::new(alloc);
-    while let Some(kind) = callback_of(alloc, &plan, callbacks.len())? {
-        let callback = match kind {
-            Kind::Scripted(callback) => Boxed::new(callback),
-            Kind::Refusing(callback) => Boxed::new(callback),
-            Kind::Quiet(callback) => Boxed::new(callback),
-        };
-        callbacks.push(callback)?;
+impl<R: Source, W: Sink> ManagerUse for Session<'_, R, W> {
+    type Done = Result<Served, Fault>;
+
+    ghost comes_to = { λ before after booted ended.
+        (after.reader.ghost_name ≡ before.reader.ghost_name) × (after.writer.ghost_name ≡ before.writer.ghost_name)
+        × ServesBy booted (record { supply = R.supply before.reader.now; written = W.written before.writer.now })
+        (record { supply = R.supply after.reader.now; written = W.written after.writer.now }) ended };
+
+    fn run(&mut self, _alloc: Global, manager: &mut Manager) -> Result<Served, Fault> {
+        match serve(self.reader, self.writer, manager) {
+            Ok(served) => Ok(served),
+            Err(fault) => Err(Fault::Serve(fault)),
+        }
     }
-    let manager = boot(alloc, plan, callbacks)?;
-    over_manager(manager, reader, writer)
 }
 
 /// Boots a manager over the catalog's text, and serves the console with it until the input ends. If the text has a
@@ -77,8 +46,8 @@ pub fn over_text<R: Source, W: Sink>(
     ensures { Runs catalog.now (record { supply = R.supply reader.old; written = W.written writer.old })
         (record { supply = R.supply reader.new; written = W.written writer.new }) result }
 {
-    let plan = Catalog::read(alloc, catalog)?;
-    over_plan(alloc, plan, reader, writer)
+    let mut session = Session { reader, writer };
+    klp_boot::over_text(alloc, catalog, &mut session)?
 }
 
 // Serves the console between two streams of std, and returns the streams. `reads` and `writes` are tokens, by which the

@@ -1,4 +1,4 @@
-use klp_watch::{Differs, NotHonest};
+use klp_watch::{Differs, NotHonest, RefusedEvents};
 
 /// How many items of each kind a trace has. Accepted and refused events both count.
 #[derive(Clone, Copy)]
@@ -9,6 +9,8 @@ pub struct Counts {
     /// How many answers and sights were compared with the rules. An event with an answer is counted both here and as an
     /// event.
     pub compared: usize,
+    /// The events that the rules refuse, and whose answer the trace doesn't have.
+    pub refused: RefusedEvents,
 }
 
 /// The verdict on a trace. Each line is an item, so the number of an item is that of its line.

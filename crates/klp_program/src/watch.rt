@@ -1,33 +1,20 @@
 //! Boots a manager over a catalog's text, and compares the kernel of a trace with the manager.
-ghost use Rattle.std.specs.Prelude.{◌≡◌, ◌≤◌, [], ◌∷◌, length, map, string_bytes, Some, None, OnOk, MatchResult};
+ghost use Rattle.std.specs.Prelude.{◌≡◌, ◌≤◌, OnOk, MatchResult};
 ghost use Rattle.std.specs.Io.KnownBytes.{Appends};
-ghost use Rattle.klp_catalog_text.specs.Within.{AreTargetsWithin};
-ghost use Rattle.klp_manager_state.specs.Managed.{Managed};
 ghost use Rattle.klp_program.specs.declared.verdict.Verdict.TheVariants.{Honest, Dishonest, Differs};
-ghost use Rattle.klp_program.specs.Asked.{two_files};
 ghost use Rattle.klp_program.specs.Printed.{cause_text, difference_text, verdict_text, verdict_status, Prints};
-ghost use Rattle.klp_program.specs.Watches.{counted, reported, IsFound, WatchesBy, WatchesPlan, Watches};
+ghost use Rattle.klp_program.specs.Watches.{counted, reported, WatchesBy, Watches};
 
-use crate::arguments::file_words;
-use crate::booted::boot;
-use crate::fault::Fault;
-use crate::kind::scripted;
-use crate::serve::close;
 use crate::verdict::{Counts, Verdict};
-use klp_callback::Boxed;
-use klp_catalog::Catalog;
-use klp_catalog_text::Plan;
+use klp_boot::{Fault, ManagerUse, over_text};
 use klp_console::ServeFault;
 use klp_core::Manager;
 use klp_model::Seen;
 use klp_trace::Trace;
-use klp_watch::{Cause, Difference, Differs, NotHonest, Observed, compare_whole};
+use klp_watch::{Cause, Difference, Differs, NotHonest, Observed, RefusedEvents, compare_whole};
 use std::alloc::Global;
 use std::io;
 use std::io::Write;
-
-/// The name by which the program calls itself.
-const NAME: &str = "klpwatch";
 
 /// The exit status for an honest trace whose kernel does as the rules say. `REFUTED` is the exit status for any other
 /// trace.
@@ -35,15 +22,16 @@ const HONEST: u8 = 0;
 
 const REFUTED: u8 = 3;
 
-/// Returns how many items of each kind there are.
-fn counted(items: &[Observed]) -> Counts
-    ensures { result ≡ counted items.now }
+/// Returns how many items of each kind there are. `refused` are the events among them that the rules refuse.
+fn counted(items: &[Observed], refused: RefusedEvents) -> Counts
+    ensures { result ≡ counted items.now refused }
 {
     let mut counts = Counts {
         events: 0,
         calls: 0,
         returns: 0,
         compared: 0,
+        refused,
     };
     for item in items {
         match item {
@@ -74,50 +62,32 @@ fn reported(differs: Differs) -> Verdict
 }
 
 /// Returns the verdict on `items`. `ended` is the result of comparing the items with the rules.
-fn verdict_of(ended: Result<(), Differs>, items: &[Observed]) -> Verdict
-    ensures { MatchResult ended (λ _. result ≡ Honest (counted items.now)) (λ differs. result ≡ reported differs) }
+fn verdict_of(ended: Result<RefusedEvents, Differs>, items: &[Observed]) -> Verdict
+    ensures { MatchResult ended (λ refused. result ≡ Honest (counted items.now refused))
+        (λ differs. result ≡ reported differs) }
 {
     match ended {
-        Ok(()) => Verdict::Honest(counted(items)),
+        Ok(refused) => Verdict::Honest(counted(items, refused)),
         Err(differs) => reported(differs),
     }
 }
 
-// Compares all items with what the manager does, and then drops the manager.
-fn watch_items(mut manager: Manager, items: &[Observed]) -> Verdict
-    ensures { (left : Managed) × IsFound manager.managed left items.now result }
-{
-    let ended = compare_whole(&mut manager, items);
-    close(manager);
-    verdict_of(ended, items)
+/// A trace that is compared with a manager.
+#[derive(Drop)]
+struct Watched<'a> {
+    trace: &'a [u8],
 }
 
-// Reads a trace with the names of the manager's catalog, and compares the trace with what the manager does. Drops the
-// manager, even if the trace can't be read.
-fn watch_over_manager(alloc: Global, manager: Manager, trace: &[u8]) -> Result<Verdict, Fault>
-    ensures { WatchesBy manager trace.now result }
-{
-    match Trace::read(alloc, trace, &manager) {
-        Ok(trace) => Ok(watch_items(manager, &trace.items)),
-        Err(fault) => {
-            close(manager);
-            Err(Fault::Trace(fault))
-        }
-    }
-}
+impl ManagerUse for Watched<'_> {
+    type Done = Result<Verdict, Fault>;
 
-// Boots a manager over a plan, and judges the trace by what that manager does. The boxes of the callbacks are made
-// here, as in `over_plan` of serve.rt. Here all boxes are of one kind.
-fn watch_over_plan(alloc: Global, plan: Plan, trace: &[u8]) -> Result<Verdict, Fault>
-    requires { AreTargetsWithin (length plan.objects) plan.patches }
-    ensures { WatchesPlan plan trace.now result }
-{
-    let mut callbacks = Vec::new(alloc);
-    while let Some(callback) = scripted(alloc, &plan, callbacks.len())? {
-        callbacks.push(Boxed::new(callback))?;
+    ghost comes_to = { λ before _ booted ended. WatchesBy booted before.trace.now ended };
+
+    fn run(&mut self, alloc: Global, manager: &mut Manager) -> Result<Verdict, Fault> {
+        let trace = Trace::read(alloc, self.trace, manager)?;
+        let ended = compare_whole(manager, &trace.items);
+        Ok(verdict_of(ended, &trace.items))
     }
-    let manager = boot(alloc, plan, callbacks)?;
-    watch_over_manager(alloc, manager, trace)
 }
 
 /// Boots a manager with the catalog's text, and judges a trace by what that manager does. Two questions are answered:
@@ -127,8 +97,7 @@ fn watch_over_plan(alloc: Global, plan: Plan, trace: &[u8]) -> Result<Verdict, F
 pub fn watch_over_text(alloc: Global, catalog: &[u8], trace: &[u8]) -> Result<Verdict, Fault>
     ensures { Watches catalog.now trace.now result }
 {
-    let plan = Catalog::read(alloc, catalog)?;
-    watch_over_plan(alloc, plan, trace)
+    over_text(alloc, catalog, &mut Watched { trace })?
 }
 
 /// Returns the word for a premise that is broken.
@@ -215,14 +184,4 @@ pub fn watch_trace<W: Write>(
         Ok(()) => Ok(verdict),
         Err(_) => Err(Fault::Serve(ServeFault::Write)),
     }
-}
-
-/// Returns klpwatch's two arguments: the files of a catalog and of a trace. If the arguments are others, writes a line
-/// to `err` and returns the exit status 2 as `Err`.
-pub fn trace_words<'a, W: Write>(given: &'a [String], err: &mut W) -> Result<(&'a str, &'a str), u8>
-    ensures { MatchResult result
-        (λ files. two_files (map string_bytes given.now) ≡ Some (files.0.now ∷ files.1.now ∷ []))
-        (λ status. (status ≡ 2) × (two_files (map string_bytes given.now) ≡ None)) }
-{
-    file_words(NAME, given, err)
 }

@@ -101,7 +101,7 @@ fn tasks_of(sentence: &Sentence) -> usize
 
 /// Whether the end of the run shows this sentence. It must last to the end, and fewer than [`MAX_HOLDERS`] sentences
 /// were shown before.
-fn is_shown(room: usize, sentence: &Sentence) -> bool
+fn fits_in_list(room: usize, sentence: &Sentence) -> bool
     ensures { result ≡ (nat_lt 0 room && is_lasting sentence.now) }
 {
     room > 0 && is_lasting(sentence)
@@ -121,7 +121,7 @@ fn add_lasting(
     klp_markup::laws::what_is_added_adds_up();
     let mut room = MAX_HOLDERS;
     for sentence in sentences {
-        if is_shown(room, sentence) {
+        if fits_in_list(room, sentence) {
             add_sleeper(sheet, names, catalog, modules, sentence);
             room -= 1;
         }
@@ -135,7 +135,7 @@ fn others(sleepers: usize, sentences: &[Sentence]) -> usize
     let mut left = sleepers;
     let mut room = MAX_HOLDERS;
     for sentence in sentences {
-        if is_shown(room, sentence) {
+        if fits_in_list(room, sentence) {
             left = left.saturating_sub(tasks_of(sentence));
             room -= 1;
         }

@@ -1,11 +1,9 @@
 -- Membership by flags, and by lists.
-use Rattle.std.proofs.Common.{◌≡◌, ℕ, zero, suc, Bool, false, List, [], ◌∷◌, get_or, replicate, refl, Some, None}
+use Rattle.std.proofs.Common.{◌≡◌, ℕ, zero, suc, Bool, false, List, [], ◌∷◌, get_or, replicate, refl}
 use Rattle.std.specs.List.{list_any}
 use Rattle.klp_types.specs.declared.limits.TheConstants.{MAX_SITES, MAX_PATCHES, MAX_FUNCTIONS}
 use Rattle.klp_types.specs.declared.version.Version.{Version}
 use Rattle.klp_types.specs.declared.version.Version.TheVariants.{Original, New}
-use Rattle.klp_model.specs.Task.{Tasks}
-use Rattle.klp_tasks.specs.Sleepers.{sleeps_where}
 use Rattle.klp_tasks.specs.Members.{has}
 
 none_at : (n i : ℕ) → get_or (replicate n false) i false ≡ false
@@ -26,8 +24,3 @@ in_none (New patch function) = none_in MAX_PATCHES MAX_FUNCTIONS patch function
 pub same_any : (one other : Version → Bool) → ((version : Version) → one version ≡ other version) → (versions : List Version) → list_any one versions ≡ list_any other versions
 same_any one other same [] = refl
 same_any one other same (version ∷ versions) = rw (same version, same_any one other same versions) refl
-
-pub same_sleeping : (one other : Version → Bool) → ((version : Version) → one version ≡ other version) → (tasks : Tasks) → list_any (sleeps_where one) tasks ≡ list_any (sleeps_where other) tasks
-same_sleeping one other same [] = refl
-same_sleeping one other same (None ∷ tasks) = same_sleeping one other same tasks
-same_sleeping one other same (Some task ∷ tasks) = rw (same_any one other same task.frames, same_sleeping one other same tasks) refl

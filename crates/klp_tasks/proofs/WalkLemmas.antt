@@ -1,12 +1,12 @@
 -- Walks over the numbers that a task has: no row that they pass over has one.
-use Rattle.std.proofs.Common.{◌≡◌, ℕ, zero, suc, ◌+◌, ◌<◌, ◌≤◌, Bool, true, false, ◌||◌, get_or, drop, drop-cons, zero-add, add-one, [], ◌∷◌, ◌++◌, length, inl, inr, refl, sym, ap, ◌∙◌, cond, arith, Option, Some, None}
+use Rattle.std.proofs.Common.{◌≡◌, ℕ, zero, suc, ◌+◌, ◌<◌, ◌≤◌, Bool, false, get_or, drop, drop-cons, zero-add, add-one, [], ◌∷◌, ◌++◌, length, inl, inr, refl, sym, ap, ◌∙◌, cond, arith, Option, Some, None}
 use Rattle.std.proofs.lemmas.Bool.{cases_eq, cases_lt}
 use Rattle.std.proofs.lemmas.Nat.Bits.{bit_at-zero}
 use Rattle.std.specs.Option.{is_some, option_map, option_to_list}
 use Rattle.std.specs.Prelude.{map}
 use Rattle.std.proofs.lemmas.List.{get_or_read_under}
 use Rattle.std.proofs.Math.Seq.{drop-length}
-use Rattle.std.specs.List.{list_any, count_by}
+use Rattle.std.specs.List.{count_by}
 use Rattle.std.proofs.lemmas.List.Sums.{sum_by-cons, count_by-le-length}
 use Rattle.std.specs.Int.{bit_at}
 use Rattle.klp_types.specs.declared.limits.TheConstants.{MAX_TASKS}
@@ -141,24 +141,12 @@ pub record CountedSoFar (test : Option Task → Bool) (left count : ℕ) (tasks 
   pub are_left : AreLeft tasks left from
   pub counted : count + count_by test (drop from tasks) ≡ count_by test tasks
 
--- no row passes the test but for those that are left
-pub record NoneSoFar (test : Option Task → Bool) (left : ℕ) (tasks : Tasks) : Type 0 where
-  pub from : ℕ
-  pub are_left : AreLeft tasks left from
-  pub none : list_any test (drop from tasks) ≡ list_any test tasks
-
 module _ (test : Option Task → Bool) (fails : test None ≡ false) (left : ℕ) (tasks : Tasks) (long : length tasks ≡ MAX_TASKS) where
   count_heedless : (tasks : Tasks) → count_by test (None ∷ tasks) ≡ count_by test tasks
   count_heedless tasks = sum_by-cons (λ row. cond (test row) 1 0) None tasks ∙ rw (fails, zero-add) refl
 
-  any_heedless : (tasks : Tasks) → list_any test (None ∷ tasks) ≡ list_any test tasks
-  any_heedless tasks = rw fails refl
-
   pub count_started : AreTaken left tasks → CountedSoFar test left 0 tasks
   count_started taken = record { from = 0; are_left = all_left tasks left taken; counted = rw zero-add refl }
-
-  pub any_started : AreTaken left tasks → NoneSoFar test left tasks
-  any_started taken = record { from = 0; are_left = all_left tasks left taken; none = refl }
 
   module _ (number rest : ℕ) (is : IsLowest number left rest) where
     pub counted_past : (count : ℕ) → CountedSoFar test left count tasks → (passes : Bool) → test (task_at tasks number) ≡ passes → CountedSoFar test rest (count + cond passes 1 0) tasks
@@ -173,38 +161,11 @@ module _ (test : Option Task → Bool) (fails : test None ≡ false) (left : ℕ
           counted = rw add-one (omega (arith, so_far.counted, next ∙ ap (count_by test) split, own ∙ ap (λ b. cond b 1 0 + count_by test (drop (suc number) tasks)) tested));
         }
 
-    pub none_past : NoneSoFar test left tasks → test (task_at tasks number) ≡ false → NoneSoFar test rest tasks
-    none_past so_far fails_too =
-        let passed = none_passed tasks left so_far.from number rest so_far.are_left is in
-        let next = rest_past (list_any test) any_heedless so_far.from number tasks passed.0 passed.1 in
-        let split = drop-cons tasks number None (omega (arith, is.within, long)) in
-        record {
-          from = number + 1;
-          are_left = next_left tasks left so_far.from number rest so_far.are_left is;
-          none = rw add-one (sym (next ∙ ap (list_any test) split ∙ ap (λ b. b || list_any test (drop (suc number) tasks)) fails_too) ∙ so_far.none);
-        }
-
   pub counted_all : (count : ℕ) → CountedSoFar test left count tasks → left ≡ 0 → count ≡ count_by test tasks
   counted_all count so_far done =
       let none = none_left tasks so_far.from (rw done at so_far.are_left) in
       let end = rest_past (count_by test) count_heedless so_far.from MAX_TASKS tasks so_far.are_left.within none in
       omega (arith, so_far.counted, end ∙ ap (count_by test) (ap (λ n. drop n tasks) (sym long) ∙ drop-length tasks))
-
-  pub none_at_all : NoneSoFar test left tasks → left ≡ 0 → list_any test tasks ≡ false
-  none_at_all so_far done =
-      let none = none_left tasks so_far.from (rw done at so_far.are_left) in
-      let end = rest_past (list_any test) any_heedless so_far.from MAX_TASKS tasks so_far.are_left.within none in
-      sym so_far.none ∙ end ∙ ap (list_any test) (ap (λ n. drop n tasks) (sym long) ∙ drop-length tasks)
-
--- a row that passes the test is found
-pub one_passes : (test : Option Task → Bool) (tasks : Tasks) (number : ℕ) → number < length tasks → test (task_at tasks number) ≡ true → list_any test tasks ≡ true
-one_passes test [] number within passes = absurd (omega arith)
-one_passes test (first ∷ tasks) zero within passes = rw passes refl
-one_passes test (first ∷ tasks) (suc number) within passes = rw (one_passes test tasks number (omega arith) passes) (either_way (test first))
-  where
-    either_way : (b : Bool) → (b || true) ≡ true
-    either_way true = refl
-    either_way false = refl
 
 pub few_counted : (test : Option Task → Bool) (left count : ℕ) (tasks : Tasks) → length tasks ≡ MAX_TASKS → CountedSoFar test left count tasks → count ≤ MAX_TASKS
 few_counted test left count tasks long so_far = omega (arith, so_far.counted, count_by-le-length test tasks, long)

@@ -1,4 +1,3 @@
 pub mod Changes
 pub mod Members
 pub mod Numbers
-pub mod Sleepers

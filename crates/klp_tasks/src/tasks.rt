@@ -12,8 +12,7 @@ ghost use Rattle.klp_model.specs.Task.{task_at, with_task, is_mode, at_target, i
 ghost use Rattle.klp_model.specs.TaskStep.{new_task, exited};
 ghost use Rattle.klp_model.specs.Blocked.{switched, lags};
 ghost use Rattle.klp_types.specs.Frames.{frames_of};
-ghost use Rattle.klp_tasks.specs.Members.{has, ArePassing, IsSetOf};
-ghost use Rattle.klp_tasks.specs.Sleepers.{sleeps_where};
+ghost use Rattle.klp_tasks.specs.Members.{has, IsSetOf};
 ghost use Rattle.klp_tasks.specs.Changes.{Changes, changed, record_of, record_if_switched, records_switched};
 ghost use Rattle.klp_tasks.specs.Changes.{IsSwitchLogged, put_back, undone, with_child};
 
@@ -75,17 +74,6 @@ pub fn target_state(target: bool) -> PatchState
         PatchState::PATCHED
     } else {
         PatchState::UNPATCHED
-    }
-}
-
-/// Whether a task sleeps inside of one of the versions. False for a task that isn't asleep, since the table stores no
-/// frames for it.
-fn sleeps_inside(row: &Option<Task>, versions: &VersionSet) -> bool
-    ensures { result ≡ sleeps_where (has versions.now) row.now }
-{
-    match row {
-        None => false,
-        Some(task) => task.mode == Mode::Asleep && versions.holds(&task.frames),
     }
 }
 
@@ -163,15 +151,6 @@ impl Tasks {
             }
         }
         count
-    }
-
-    /// Whether any task sleeps inside of one of the versions. The call switches no task. It reads only the rows that
-    /// have a task, and only the frames of sleepers.
-    pub fn sleeps_in(&self, versions: &VersionSet) -> bool
-        ensures { (test : AnyVersion → Bool) → ArePassing versions.now test
-            → result ≡ list_any (sleeps_where test) self.now }
-    {
-        self.any_sleeps_in(versions)
     }
 
     /// Logs the row of a task number before the row changes. The row may have no task. The row is passed to the log by
@@ -423,20 +402,6 @@ impl Tasks {
         };
         row.state = state;
         row.mode = mode;
-    }
-
-    /// Whether any task sleeps inside of a version of the set. This contract is about the set itself. The contract of
-    /// `sleeps_in` is about any test of versions that agrees with the set.
-    fn any_sleeps_in(&self, versions: &VersionSet) -> bool
-        ensures { result ≡ list_any (sleeps_where (has versions.now)) self.now }
-    {
-        let mut left = self.numbers;
-        while let Some(number) = left.take_lowest() {
-            if sleeps_inside(&self.rows[usize::from(number)], versions) {
-                return true;
-            }
-        }
-        false
     }
 
     /// Returns a copy of a task. The precondition requires that the task exists, so the arm for a missing task is never

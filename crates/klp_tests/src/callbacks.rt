@@ -1,8 +1,8 @@
 //! Catalogs that get more or fewer callbacks than their texts have scripts. If memory may be short too, the contract
 //! leaves open which fault is returned. No program gives a wrong number of callbacks.
 use crate::managed::{Given, outcome};
+use klp_boot::Fault;
 use klp_catalog::AssembleFault;
-use klp_program::Fault;
 use std::alloc::Global;
 
 /// Two objects, a patch that changes both, and three callbacks.

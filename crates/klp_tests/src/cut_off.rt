@@ -3,8 +3,8 @@
 //! lines, and must then show the same as the first manager.
 use crate::input::{Input, whole};
 use crate::managed::{Given, Shown, outcome};
+use klp_boot::Fault;
 use klp_console::{ServeFault, Served};
-use klp_program::Fault;
 use std::alloc::{AllocError, Global};
 
 /// How many bytes a read gives or a write accepts, if it is cut.

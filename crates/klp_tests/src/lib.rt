@@ -4,7 +4,7 @@
 //! - the numbers of faults and refusals, and the names that faults print
 //! - faults of images and catalogs that no text can have
 //! - reads and writes that fail, and which lines stay done
-//! - what no line of the console shows
+//! - what no line of the console shows, and what `watch` finds
 //! - what docs/LIBRARY.md shows
 //! - catalogs that are cut after each of their bytes, checked by rules that don't read the catalogs
 //!
@@ -37,5 +37,7 @@ mod names;
 mod resolved;
 #[cfg(test)]
 mod spare;
+#[cfg(test)]
+mod watched;
 #[cfg(test)]
 mod words;

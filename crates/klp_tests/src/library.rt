@@ -1,25 +1,11 @@
 //! The code of docs/LIBRARY.md. So it is known to compile, and to do what the page says.
-use klp_catalog::Catalog;
+use klp_boot::{Fault, ManagerUse, over_text};
 use klp_core::Manager;
 use klp_model::Event;
-use klp_program::{CATALOG, Fault, close, opened};
+use klp_program::CATALOG;
 use klp_types::{ObjId, PatchId};
 use std::alloc::Global;
 use std::test::Fail;
-
-/// Boots a manager with a catalog's text. The catalog's patches must have no callbacks.
-fn booted(alloc: Global, text: &[u8]) -> Result<Manager, Fault> {
-    let mut plan = Catalog::read(alloc, text)?;
-    let (image, modules) = opened(alloc, &mut plan)?;
-    let catalog = Catalog::assemble(alloc, &modules, plan, Vec::new(alloc))?;
-    Ok(Manager::boot(alloc, image, modules, catalog)?)
-}
-
-/// Enables a patch, and polls once. Returns whether the patch's transition is then complete.
-fn enable(manager: &mut Manager, patch: PatchId) -> bool {
-    manager.run(&[Event::Enable(patch), Event::Poll]) == (2, 0)
-        && manager.transition(patch) == Some(false)
-}
 
 /// Returns the first byte of the kernel's first function. The function asks by a query, which changes nothing.
 fn first_byte(manager: &Manager) -> Option<u8> {
@@ -28,21 +14,32 @@ fn first_byte(manager: &Manager) -> Option<u8> {
     body.first().copied()
 }
 
-/// Enables a patch, and undoes the events. Returns the first byte of the kernel's text before, meanwhile and
-/// afterwards.
-fn enable_and_undo(manager: &mut Manager, patch: PatchId) -> [Option<u8>; 3] {
-    let (mark, before) = (manager.mark(), first_byte(manager));
-    let is_complete = enable(manager, patch);
-    let meanwhile = first_byte(manager).filter(|_byte| is_complete);
-    let _ = manager.rewind(mark);
-    [before, meanwhile, first_byte(manager)]
+/// The patch that is tried out with the manager.
+#[derive(Drop)]
+struct Trial {
+    patch: PatchId,
+}
+
+impl ManagerUse for Trial {
+    type Done = [Option<u8>; 3];
+
+    ghost comes_to = { λ _ _ _ _. Unit {0} };
+
+    // Enables the patch, polls once, and undoes both events. Returns the first byte of the kernel's text before,
+    // meanwhile if the transition is complete, and afterwards.
+    fn run(&mut self, _alloc: Global, manager: &mut Manager) -> [Option<u8>; 3] {
+        let patch = self.patch;
+        let (mark, before) = (manager.mark(), first_byte(manager));
+        let is_complete = manager.run(&[Event::Enable(patch), Event::Poll]) == (2, 0)
+            && manager.transition(patch) == Some(false);
+        let meanwhile = first_byte(manager).filter(|_byte| is_complete);
+        let _ = manager.rewind(mark);
+        [before, meanwhile, first_byte(manager)]
+    }
 }
 
 fn shown(alloc: Global) -> Result<[Option<u8>; 3], Fault> {
-    let mut manager = booted(alloc, CATALOG)?;
-    let shown = enable_and_undo(&mut manager, PatchId(0));
-    close(manager);
-    Ok(shown)
+    over_text(alloc, CATALOG, &mut Trial { patch: PatchId(0) })
 }
 
 #[test]

@@ -3,7 +3,7 @@
 use crate::input::whole;
 use crate::large::LARGE;
 use crate::managed::{Given, Shown, outcome};
-use klp_program::Fault;
+use klp_boot::Fault;
 use std::alloc::Global;
 use std::test::Fail;
 

@@ -6,12 +6,12 @@ ghost use Rattle.klp_catalog_text.specs.Within.{AreTargetsWithin};
 
 use crate::input::{Input, serve_input};
 use arrayvec::ArrayVec;
+use klp_boot::{Fault, close, opened};
 use klp_callback::{Boxed, Scripted};
 use klp_catalog::Catalog;
 use klp_catalog_text::Plan;
 use klp_console::{ServeFault, Served};
 use klp_core::Manager;
-use klp_program::{Fault, close, opened};
 use klp_types::PatchId;
 use klp_world::Script;
 use std::alloc::{AllocError, Global};

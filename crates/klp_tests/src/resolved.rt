@@ -1,8 +1,8 @@
 //! Tests which symbol a name and a position pick, and the three reasons why they may pick none. The console reports all
 //! three in the same way.
+use klp_boot::{Fault, opened};
 use klp_catalog::Catalog;
 use klp_modules::{Modules, SymbolFault};
-use klp_program::{Fault, opened};
 use klp_types::{ObjId, Site};
 use std::alloc::Global;
 

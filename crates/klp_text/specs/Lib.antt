@@ -1,3 +1,4 @@
+pub mod EntrySite
 pub mod TextImage
 pub mod Faults
 pub mod Kept

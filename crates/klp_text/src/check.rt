@@ -179,14 +179,14 @@ fn lies_on_symbols(symbols: &[SymbolText], symbol: &SymbolText) -> bool
 }
 
 /// Whether two symbols share an address.
-fn share_address(a: &SymbolText, b: &SymbolText) -> bool
+pub fn share_address(a: &SymbolText, b: &SymbolText) -> bool
     ensures { result ≡ faults.share_address a.now b.now }
 {
     u128::from(a.address) < end_of(b) && u128::from(b.address) < end_of(a)
 }
 
 /// Returns the address after a symbol. It may not fit in 64 bits, so the result has 128 bits.
-fn end_of(symbol: &SymbolText) -> u128
+pub fn end_of(symbol: &SymbolText) -> u128
     ensures { result ≡ symbol.now.address + length symbol.now.body }
 {
     u128::from(symbol.address) + symbol.body.len() as u128

@@ -1,7 +1,8 @@
-ghost use Rattle.std.specs.Prelude.{◌≡◌, ◌≤◌, ◌<◌, ◌^◌, FitsSigned};
+ghost use Rattle.std.specs.Prelude.{◌≡◌, ◌≤◌, ◌<◌, ◌^◌, FitsSigned, option_map};
 ghost use Rattle.std.specs.Int.{w32};
 ghost use Rattle.klp_types.specs.Bytes as bytes;
 ghost use Rattle.klp_types.specs.Bytes.{can_reach};
+ghost use Rattle.klp_text.specs.EntrySite.{entry_bytes};
 
 use klp_types::ENTRY_SITE_LEN;
 
@@ -26,6 +27,14 @@ pub fn entry_offset(body: &[u8]) -> usize
     } else {
         0
     }
+}
+
+/// Returns the bytes of the entry site in a body. Returns `None` if the body ends before its entry site does.
+pub fn entry_bytes(body: &[u8]) -> Option<&[u8]>
+    ensures { option_map (λ site. site.now) result ≡ entry_bytes body.now }
+{
+    let offset = entry_offset(body);
+    body.get(offset..offset + ENTRY_SITE_LEN)
 }
 
 /// Returns the displacement of a call at this address. The displacement is the distance to the handler, counted from

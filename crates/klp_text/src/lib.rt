@@ -19,5 +19,7 @@ mod fault;
 mod image;
 mod stored;
 
+pub use check::{end_of, share_address};
+pub use entry_site::{can_reach, displacement, entry_bytes, entry_offset};
 pub use fault::ImageFault;
 pub use image::Image;

@@ -1,24 +1,11 @@
 //! The stays that begin with a line.
 ghost use Rattle.std.specs.Prelude.{◌≡◌, ◌++◌, ◌∷◌, [], ◌≤◌, ◌<◌, ◌+◌, ◌^◌, length, IfOk, OnOk};
 ghost use Rattle.klp_types.specs.declared.limits.TheConstants.{MAX_TASKS};
-ghost use Rattle.klp_model.specs.Blocked.{is_version};
 ghost use Rattle.klp_timeline.specs.Stays.{is_transition, is_stay, is_seen, until, sleep_of, sleeps_begun};
 
 use crate::moment::{Moment, Sleep, Stay};
-use klp_types::{MAX_TASKS, TaskId, Transition, Version};
+use klp_types::{MAX_TASKS, TaskId, Transition};
 use std::alloc::{AllocError, Global};
-
-/// Whether two versions are the same.
-fn is_version(own: &Version, other: &Version) -> bool
-    ensures { result ≡ is_version own.now other.now }
-{
-    match (own, other) {
-        (Version::Original(site), Version::Original(frame)) => site == frame,
-        (Version::New(patch, function), Version::New(other, number)) => patch == other
-            && function == number,
-        _ => false,
-    }
-}
 
 /// Whether two transitions have the same patch and target.
 pub(crate) fn is_transition(own: &Transition, other: &Transition) -> bool
@@ -33,9 +20,9 @@ pub(crate) fn is_stay(own: &Stay, other: &Stay) -> bool
 {
     match (own, other) {
         (Stay::Holds(moving, version), Stay::Holds(other, frame)) => {
-            is_transition(moving, other) && is_version(version, frame)
+            is_transition(moving, other) && version == frame
         }
-        (Stay::Outdated(version), Stay::Outdated(frame)) => is_version(version, frame),
+        (Stay::Outdated(version), Stay::Outdated(frame)) => version == frame,
         _ => false,
     }
 }

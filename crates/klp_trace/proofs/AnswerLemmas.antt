@@ -9,9 +9,9 @@ use Rattle.klp_model.specs.declared.event.Refusal.TheVariants.{NoPatch, Busy, Al
 use Rattle.klp_words.specs.Split.{separates, words_between}
 use Rattle.klp_words.specs.declared.split.Separators.TheVariants.{Spaces}
 use Rattle.klp_core.specs.Journaled.{Journaled}
-use Rattle.klp_console.specs.Refusals.{refusal_text}
+use Rattle.klp_console.specs.Refusals.{refusals, refusal_text}
 use Rattle.klp_console.specs.Replies.{answer_text, reply_text}
-use Rattle.klp_trace.specs.Answers.{is_line_of, as_written, refusals, refusal_of, reply_in, answer_with, answer_of}
+use Rattle.klp_trace.specs.Answers.{is_line_of, as_written, refusal_of, reply_in, answer_with, answer_of}
 
 found_passes : (p : Refusal → Bool) (refusals : List Refusal) (refusal : Refusal) → find p refusals ≡ Some refusal → p refusal ≡ true
 found_passes p [] refusal is = let none : ⊥ = cc in absurd none

@@ -1,12 +1,9 @@
--- Frames that are read one after another, and told so.
+-- Frames that are read one after another.
 use Rattle.std.proofs.Common.{◌≡◌, ℕ, suc, ◌+◌, ◌<◌, ◌≤◌, Bool, true, false, nat_lt, if◌then◌else◌, List, [], ◌∷◌, ◌++◌, length, take, get_or, Option, Some, None, option_map, refl, sym, ap, ◌∙◌, append_assoc, append-nil, arith, add-zero, zero-add, length-append}
 use Rattle.std.specs.Prelude.{option_and_then}
-use Rattle.std.proofs.Math.Seq.{take-suc}
 use Rattle.std.proofs.lemmas.Bool.Decides.{nat_tests}
 use Rattle.klp_types.specs.declared.version.Version.{Version}
-use Rattle.klp_catalog.specs.Catalog.{Catalog}
 use Rattle.klp_core.specs.Journaled.{Journaled}
-use Rattle.klp_console.specs.Replies.{frame_text, frames_text}
 use Rattle.klp_trace.specs.Names.{version_of, versions_of, frames_of}
 
 -- what becomes of frames so far, and words that are left
@@ -53,17 +50,3 @@ frames_more manager frames word words version is =
     ∙ ap (λ o. if nat_lt 32 (length (frames ++ version ∷ []) + length words) then None
     else option_map (λ versions. frames ++ versions) (option_and_then (λ v. option_map (λ versions. v ∷ versions) (versions_of manager words)) o)) is
     ∙ ap (λ (o : Option (List Version)). if nat_lt 32 (length (frames ++ version ∷ []) + length words) then None else o) (behind frames version (versions_of manager words))
-
--- one frame more is told behind the others
-frames_text-append : (catalog : Catalog) (versions : List Version) (version : Version) → frames_text catalog (versions ++ version ∷ []) ≡ frames_text catalog versions ++ frame_text catalog version
-frames_text-append catalog [] version = append-nil (frame_text catalog version)
-frames_text-append catalog (first ∷ versions) version =
-    ap (λ text. frame_text catalog first ++ text) (frames_text-append catalog versions version)
-    ∙ sym (append_assoc (frame_text catalog first) (frames_text catalog versions) (frame_text catalog version))
-
-pub frames_text_on : (catalog : Catalog) (frames : List Version) (place : ℕ) (version : Version) → place < length frames → version ≡ get_or frames place version
-    → frames_text catalog (take place frames) ++ frame_text catalog version ≡ frames_text catalog (take (place + 1) frames)
-frames_text_on catalog frames place version within found =
-    let next : place + 1 ≡ suc place = omega arith in
-    let more = take-suc frames place version within ∙ ap (λ v. take place frames ++ v ∷ []) (sym found) in
-    sym (ap (λ n. frames_text catalog (take n frames)) next ∙ ap (frames_text catalog) more ∙ frames_text-append catalog (take place frames) version)

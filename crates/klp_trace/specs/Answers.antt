@@ -4,13 +4,12 @@ use Rattle.std.specs.List.{find}
 use Rattle.klp_model.specs.declared.event.Reply.{Reply}
 use Rattle.klp_model.specs.declared.event.Reply.TheVariants.{Done, Started, Reversed, Pending, Completed, PreFailed, Value, Freed, Woken}
 use Rattle.klp_model.specs.declared.event.Refusal.{Refusal}
-use Rattle.klp_model.specs.declared.event.Refusal.TheVariants.{NoPatch, Busy, AlreadyThere, Pinned, Incompatible, NoSymbol, NoModule, InUse, NoTask, TaskThere, WrongMode, BadFrame, Full, JournalFull, NotMoving, Exists, NotFound, SameValue}
 use Rattle.klp_words.specs.Words.{decimal_of, status_of, shadow_value_of}
 use Rattle.klp_words.specs.Split.{separates, words_between}
 use Rattle.klp_words.specs.declared.split.Separators.TheVariants.{Spaces}
 use Rattle.klp_core.specs.Journaled.{Journaled}
 use Rattle.klp_console.specs.Replies.{reply_text}
-use Rattle.klp_console.specs.Refusals.{refusal_text}
+use Rattle.klp_console.specs.Refusals.{refusals, refusal_text}
 use Rattle.klp_trace.specs.Names.{patch_of, object_of, frames_of, flag_of}
 
 -- a word behind the first one of a reply, as this is read
@@ -50,12 +49,6 @@ is_line_of text line = bytes_eq line (text ++ codes "\n")
 abbrev pub as_written : Journaled → List ℕ → Option Reply → Option (Result Reply Refusal)
 as_written manager text None = None
 as_written manager text (Some reply) = if is_line_of text (reply_text manager.managed.catalog reply) then Some (Ok reply) else None
-
--- all refusals
-abbrev pub refusals : List Refusal
-refusals =
-    NoPatch ∷ Busy ∷ AlreadyThere ∷ Pinned ∷ Incompatible ∷ NoSymbol ∷ NoModule ∷ InUse ∷ NoTask ∷ TaskThere ∷ WrongMode ∷ BadFrame
-    ∷ Full ∷ JournalFull ∷ NotMoving ∷ Exists ∷ NotFound ∷ SameValue ∷ []
 
 -- the refusal of which the console writes this text
 abbrev pub refusal_of : List ℕ → Option Refusal

@@ -9,33 +9,11 @@ ghost use Rattle.klp_trace.specs.Answers.{next_as, pre_failed_of, reply_with, re
 ghost use Rattle.klp_trace.specs.Answers.{refusal_of, answer_of};
 
 use crate::names::{flag_of, frames_of, object_of, patch_of};
-use crate::text::{refusal_line, reply_text};
+use klp_console::{all_refusals, answer_text, refusal_line};
 use klp_core::Manager;
 use klp_model::{Refusal, Reply};
 use klp_words::{LineWords, Separators, number64, shadow_value, signed};
 use std::alloc::{AllocError, Global};
-
-/// All refusals. There are few refusals, so the one that a text spells is found by trying each.
-static REFUSALS: [Refusal; 18] = [
-    Refusal::NoPatch,
-    Refusal::Busy,
-    Refusal::AlreadyThere,
-    Refusal::Pinned,
-    Refusal::Incompatible,
-    Refusal::NoSymbol,
-    Refusal::NoModule,
-    Refusal::InUse,
-    Refusal::NoTask,
-    Refusal::TaskThere,
-    Refusal::WrongMode,
-    Refusal::BadFrame,
-    Refusal::Full,
-    Refusal::JournalFull,
-    Refusal::NotMoving,
-    Refusal::Exists,
-    Refusal::NotFound,
-    Refusal::SameValue,
-];
 
 /// Reads the word behind `pending`: the number of tasks that aren't at the target.
 fn pending_of(words: &mut LineWords<'_>) -> Option<Reply>
@@ -126,10 +104,10 @@ fn reply_in(text: &[u8], manager: &Manager) -> Option<Reply>
 }
 
 /// Whether `line` is `text` followed by a line feed.
-fn is_line_of(text: &[u8], line: &str) -> bool
+fn is_line_of(text: &[u8], line: &[u8]) -> bool
     ensures { result ≡ is_line_of text.now line.now }
 {
-    match line.as_bytes().strip_suffix(b"\n".as_slice()) {
+    match line.strip_suffix(b"\n".as_slice()) {
         Some(front) => front == text,
         None => false,
     }
@@ -148,21 +126,22 @@ fn as_written(
     let Some(reply) = reply else {
         return Ok(None);
     };
-    let line = reply_text(alloc, manager, &reply)?;
+    let answer = Ok(reply);
+    let line = answer_text(alloc, manager, &answer)?;
     if is_line_of(text, &line) {
-        Ok(Some(Ok(reply)))
+        Ok(Some(answer))
     } else {
         Ok(None)
     }
 }
 
 /// Returns the refusal for which the console writes exactly this text. Returns `None` if there is no such refusal.
+/// There are few refusals, so each is tried.
 fn refusal_of(text: &[u8]) -> Option<Refusal>
     ensures { result ≡ refusal_of text.now }
 {
-    let mut refusals = REFUSALS.iter();
-    refusals
-        .find(|refusal| is_line_of(text, refusal_line(**refusal)))
+    let mut all = all_refusals().iter();
+    all.find(|refusal| is_line_of(text, refusal_line(**refusal)))
         .copied()
 }
 

@@ -6,8 +6,8 @@
 //! console writes it (`specs/Answers`). A line may begin with its time, and no time is before the time of an earlier
 //! line (`specs/Traces`). The first line that has no item or is out of order is reported.
 //!
-//! [`answer_text`] returns what the console writes for an answer. [`LineParts`] are the parts of a line, for messages
-//! to people. `examples` has lines of each kind, and refused ones. `laws` has the laws about answers.
+//! [`LineParts`] are the parts of a line, for messages to people. `examples` has lines of each kind, and refused ones.
+//! `laws` has the laws about answers.
 #![tactic(auto)]
 
 mod answer;
@@ -19,13 +19,11 @@ pub mod laws;
 mod line;
 mod names;
 mod sight;
-mod text;
 mod time;
 mod trace;
 
 pub use entry::{Entry, Timed};
 pub use fault::{TraceFault, TraceFaultKind};
 pub use line::LineParts;
-pub use text::answer_text;
 pub use time::Microseconds;
 pub use trace::Trace;

@@ -1,15 +1,15 @@
 -- The row of an event: with the kernel's answer beside that of the rules, if the trace has it.
-use Rattle.std.proofs.Common.{◌≡◌, ℕ, ◌&&◌, Bool, true, false, not, List, bytes_eq, Some, None, refl, sym, ap, ◌∙◌}
+use Rattle.std.proofs.Common.{◌≡◌, ℕ, ◌&&◌, Bool, true, false, not, List, bytes_eq, Some, None, refl, sym, ap, subst, ◌∙◌}
 use Rattle.std.specs.Prelude.{Result, Ok, Err, IfOk}
 use Rattle.klp_model.specs.declared.event.Reply.{Reply}
 use Rattle.klp_model.specs.declared.event.Refusal.{Refusal}
-use Rattle.klp_core.specs.Journaled.{Journaled}
+use Rattle.klp_core.specs.Journaled.{Journaled, with_room}
 use Rattle.klp_console.specs.Replies.{answer_text}
 use Rattle.klp_timeline.specs.declared.moment.Moment.{Moment}
 use Rattle.klp_timeline.specs.declared.moment.View.{View}
 use Rattle.klp_page.specs.declared.row.Row.{Row}
 use Rattle.klp_page.specs.Rows.{IsScriptRow}
-use Rattle.klp_trace_page.specs.Traced.{IsRoomy, IsTakenRow, IsPlayedEvent, IsEventRow}
+use Rattle.klp_trace_page.specs.Traced.{IsTakenRow, IsPlayedEvent, IsEventRow}
 
 stays_quiet : (quiet differs : Bool) → differs ≡ false → quiet ≡ (quiet && not differs)
 stays_quiet true true is = is
@@ -48,12 +48,12 @@ answered there after view text answer own row moment seen served is seen_is diff
 
 -- the row of a line that was served, if there is one
 pub taken : {E : Type 0} (before there after : Journaled) (view : View) (text : List ℕ) (made : Result (Row × Moment) E)
-    → IsRoomy before there → IfOk made (λ m. IsScriptRow there after view text m.0 m.1) → IfOk made (λ m. IsTakenRow before after view text m.0 m.1)
-taken before there after view text (Ok m) roomy is = (there, roomy, is)
+    → there ≡ with_room before → IfOk made (λ m. IsScriptRow there after view text m.0 m.1) → IfOk made (λ m. IsTakenRow before after view text m.0 m.1)
+taken before there after view text (Ok m) roomy is = subst (λ (t : Journaled). IsScriptRow t after view text m.0 m.1) roomy is
 taken before there after view text (Err e) roomy is = tt
 
 -- and the same, as that of an event of which no answer is known
 pub taken_alone : {E : Type 0} (before after : Journaled) (view : View) (text : List ℕ) (made : Result (Row × Moment) E)
     → IfOk made (λ m. IsTakenRow before after view text m.0 m.1) → IfOk made (λ m. IsPlayedEvent before after view text None m.0 m.1)
-taken_alone before after view text (Ok m) is = (is.0, is.1, not_answered is.0 after view text m.0 m.1 is.2)
+taken_alone before after view text (Ok m) is = not_answered (with_room before) after view text m.0 m.1 is
 taken_alone before after view text (Err e) is = tt

@@ -1,18 +1,16 @@
 -- The rows of a trace: one for each of its lines, in order. The manager follows the rules.
-use Rattle.std.specs.Prelude.{◌≡◌, ℕ, ◌==◌, ◌&&◌, true, false, not, nat_eq, List, [], ◌∷◌, ◌++◌, drop, codes, bytes_eq, ◌⊎◌, Option, Some, None, is_some, Result, if◌then◌else◌}
+use Rattle.std.specs.Prelude.{◌≡◌, ℕ, ◌==◌, ◌&&◌, true, false, not, nat_eq, List, [], ◌∷◌, ◌++◌, drop, codes, bytes_eq, Option, Some, None, is_some, Result, if◌then◌else◌}
 use Rattle.std.specs.List.{starts_with, before_first, after_first}
 use Rattle.klp_model.specs.declared.event.Reply.{Reply}
 use Rattle.klp_model.specs.declared.event.Refusal.{Refusal}
 use Rattle.klp_model.specs.declared.seen.Seen.TheVariants.{Event as Happens, Call as Calls, Return as Returns}
-use Rattle.klp_journal.specs.Journal.{has_room}
 use Rattle.klp_catalog.specs.Catalog.{Catalog}
 use Rattle.klp_manager_state.specs.Managed.{setting_of}
-use Rattle.klp_core.specs.Journaled.{Journaled}
-use Rattle.klp_console.specs.Answered.{sealed}
+use Rattle.klp_core.specs.Journaled.{Journaled, with_room}
 use Rattle.klp_console.specs.Replies.{answer_text}
 use Rattle.klp_timeline.specs.declared.moment.Moment.{Moment}
 use Rattle.klp_timeline.specs.declared.moment.View.{View}
-use Rattle.klp_views.specs.Views.{IsView}
+use Rattle.klp_page.specs.Views.{IsView}
 use Rattle.klp_watch.specs.declared.observed.Observed.{Observed}
 use Rattle.klp_watch.specs.declared.observed.Observed.TheVariants.{Seen as Item, Answered, Saw}
 use Rattle.klp_page.specs.declared.row.Row.{Row}
@@ -57,20 +55,13 @@ pub record IsStillRow (before after : Journaled) (text rules seen : List ℕ) (r
   pub no_holders : row.holders.items ≡ []
   pub no_cards : row.cards.text ≡ []
 
--- the journal is sealed on the way, so no event is refused for want of room
-pub record IsRoomy (before there : Journaled) : Type 0 where
-  pub same : (there ≡ before) ⊎ (there ≡ sealed before)
-  pub room : has_room there.groups ≡ true
-
 -- a line of the console that asks for an event was served, with room in the journal for it
 abbrev pub IsTakenRow : Journaled → Journaled → View → List ℕ → Row → Moment → Type 0
-IsTakenRow before after view text row moment =
-    (there : Journaled) × IsRoomy before there × IsScriptRow there after view text row moment
+IsTakenRow before after view text row moment = IsScriptRow (with_room before) after view text row moment
 
 -- an event of the trace was taken, with room in the journal for it
 abbrev pub IsPlayedEvent : Journaled → Journaled → View → List ℕ → Option (Result Reply Refusal) → Row → Moment → Type 0
-IsPlayedEvent before after view text answer row moment =
-    (there : Journaled) × IsRoomy before there × IsEventRow there after view text answer row moment
+IsPlayedEvent before after view text answer row moment = IsEventRow (with_room before) after view text answer row moment
 
 -- the row of a line with this item
 abbrev pub IsTracedRow : Journaled → Journaled → View → List ℕ → Observed → Row → Moment → Type 0

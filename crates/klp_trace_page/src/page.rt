@@ -1,22 +1,15 @@
-//! Boots a manager with a catalog's text, and makes a page that compares a kernel's trace with the manager.
+//! The page that compares a kernel's trace with a manager that follows the rules.
 ghost use Rattle.std.specs.Prelude.{◌≡◌, length, IfOk, IfErr};
 ghost use Rattle.std.specs.Str.Lines.{lines};
-ghost use Rattle.klp_catalog_text.specs.Within.{AreTargetsWithin};
-ghost use Rattle.klp_trace_page.specs.Pages.{IsPlayed, IsTracePage, IsTracePageOver, IsTracePageOf};
-ghost use Rattle.klp_trace_page.specs.Pages.{IsUnshown, IsFaultOver, IsFaultOf, Writes};
+ghost use Rattle.klp_trace_page.specs.Pages.{IsPlayed, IsTracePage, IsTracePageOf, IsTraceUnshown, IsFaultOf, Writes};
 
 use crate::differing::differing_in;
 use crate::record::record_trace;
-use klp_callback::Boxed;
-use klp_catalog::Catalog;
-use klp_catalog_text::Plan;
-use klp_console::ServeFault;
+use klp_boot::Fault;
 use klp_core::Manager;
 use klp_names::Names;
-use klp_page::{Layout, page_of};
-use klp_program::{Fault, boot, close, scripted};
+use klp_page::{Layout, PageSource, Unshown, page_of, page_over, view_of, write_over};
 use klp_trace::Trace;
-use klp_views::view_of;
 use klp_watch::Observed;
 use std::alloc::{AllocError, Global};
 use std::io::Write;
@@ -60,61 +53,42 @@ fn read_and_paged(
     names: &Names,
     trace: &[u8],
     layout: &mut Layout<'_>,
-) -> Result<Vec<u8>, Fault>
+) -> Result<Vec<u8>, Unshown>
     ensures page { IfOk result (λ page. IsTracePage manager.old name.now names.now trace.now page.items) }
-    ensures fault { IfErr result (λ fault. IsUnshown manager.old trace.now fault) }
+    ensures fault { IfErr result (λ why. IsTraceUnshown manager.old trace.now why) }
 {
     match Trace::read(alloc, trace, manager) {
         Ok(read) => Ok(paged(alloc, manager, name, names, trace, &read.items, layout)?),
-        Err(fault) => Err(Fault::Trace(fault)),
+        Err(fault) => Err(Unshown::BadTrace(fault)),
     }
 }
 
-// Plays a trace on a manager, drops the manager, and returns the page. Only `close` drops managers, so the drop is
-// proved once.
-fn page_over_manager(
-    alloc: Global,
-    mut manager: Manager,
-    name: &[u8],
-    names: &Names,
-    trace: &[u8],
-    mut layout: Layout<'_>,
-) -> Result<Vec<u8>, Fault>
-    ensures page { IfOk result (λ page. IsTracePage manager name.now names.now trace.now page.items) }
-    ensures fault { IfErr result (λ fault. IsUnshown manager trace.now fault) }
-{
-    let page = read_and_paged(alloc, &mut manager, name, names, trace, &mut layout);
-    close(manager);
-    page
+/// A trace, and what the head of its page says of it.
+#[derive(Clone, Copy)]
+struct TraceRun<'a> {
+    name: &'a [u8],
+    names: &'a Names,
+    trace: &'a [u8],
 }
 
-// Boots a manager over a plan, plays the trace on it, and returns the page. No function may return a boxed value that
-// it makes, so the callbacks are made in this function.
-fn page_over_plan(
-    alloc: Global,
-    plan: Plan,
-    name: &[u8],
-    names: &Names,
-    trace: &[u8],
-) -> Result<Vec<u8>, Fault>
-    requires { AreTargetsWithin (length plan.objects) plan.patches }
-    ensures page { IfOk result (λ page. IsTracePageOver plan name.now names.now trace.now page.items) }
-    ensures fault { IfErr result (λ fault. IsFaultOver plan trace.now fault) }
-{
-    let mut layout = Layout::new(alloc, names);
-    layout.watch(&plan)?;
-    let mut callbacks = Vec::new(alloc);
-    while let Some(callback) = scripted(alloc, &plan, callbacks.len())? {
-        callbacks.push(Boxed::new(callback))?;
+impl PageSource for TraceRun<'_> {
+    ghost shows = { λ run booted page. IsTracePage booted run.name.now run.names.now run.trace.now page };
+
+    ghost lacks = { λ run booted why. IsTraceUnshown booted run.trace.now why };
+
+    fn page(
+        &self,
+        alloc: Global,
+        manager: &mut Manager,
+        layout: &mut Layout<'_>,
+    ) -> Result<Vec<u8>, Unshown> {
+        read_and_paged(alloc, manager, self.name, self.names, self.trace, layout)
     }
-    let manager = boot(alloc, plan, callbacks)?;
-    page_over_manager(alloc, manager, name, names, trace, layout)
 }
 
-/// Boots a manager with the catalog's text, plays the trace on it by the rules, and returns a page with a row for each
-/// line. `name` is the page's title. `names` has the names of tasks and the times of lines. Returns `Err` if no manager
-/// can be booted with the text, or if memory runs out. If lines of the trace are faulty, returns the first such line as
-/// `Err`. Allocates memory in proportion to the trace.
+/// Plays a trace by the rules on a manager that is booted over the catalog's text, and returns the page as
+/// [`page_over`] does, with a row for each line. `name` is the page's title. If lines of the trace are faulty, returns
+/// the first such line as `Err`.
 pub fn page_over_trace(
     alloc: Global,
     catalog: &[u8],
@@ -125,12 +99,11 @@ pub fn page_over_trace(
     ensures page { IfOk result (λ page. IsTracePageOf catalog.now name.now names.now trace.now page.items) }
     ensures fault { IfErr result (λ fault. IsFaultOf catalog.now trace.now fault) }
 {
-    let plan = Catalog::read(alloc, catalog)?;
-    page_over_plan(alloc, plan, name, names, trace)
+    let run = TraceRun { name, names, trace };
+    page_over(alloc, catalog, names, &run)
 }
 
-/// Writes the page of a trace to `out` after all lines are played. If a fault is found before the page is complete,
-/// writes nothing. If the page can't be written, returns the fault of a failed write.
+/// Writes the page of a trace to `out`, as [`write_over`] does.
 pub fn write_trace_page<W: Write>(
     alloc: Global,
     catalog: &[u8],
@@ -141,12 +114,6 @@ pub fn write_trace_page<W: Write>(
 ) -> Result<(), Fault>
     ensures { Writes catalog.now name.now names.now trace.now (W.contents out.old) (W.contents out.new) result }
 {
-    let page = match page_over_trace(alloc, catalog, name, names, trace) {
-        Ok(page) => page,
-        Err(fault) => return Err(fault),
-    };
-    match out.write_all(&page) {
-        Ok(()) => Ok(()),
-        Err(_) => Err(Fault::Serve(ServeFault::Write)),
-    }
+    let run = TraceRun { name, names, trace };
+    write_over(alloc, catalog, names, &run, out)
 }

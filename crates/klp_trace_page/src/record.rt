@@ -2,37 +2,23 @@
 ghost use Rattle.std.specs.Prelude.{◌≡◌, ◌&&◌, not, length, bytes_eq, Some, IfOk};
 ghost use Rattle.std.specs.Str.Lines.{lines};
 ghost use Rattle.klp_core.specs.Journaled.{IsWellFormed};
-ghost use Rattle.klp_console.specs.Replies.{answer_text};
 ghost use Rattle.klp_watch.specs.declared.observed.Observed.TheVariants.{Seen as Item};
 ghost use Rattle.klp_page.specs.Rows.{last_view};
-ghost use Rattle.klp_trace_page.specs.Traced.{IsRoomy, IsTakenRow, IsPlayedEvent, IsStillRow, IsTracedRow};
+ghost use Rattle.klp_trace_page.specs.Traced.{IsTakenRow, IsPlayedEvent, IsStillRow, IsTracedRow};
 ghost use Rattle.klp_trace_page.specs.Traced.{AddsTracedRow, AreTraced};
 ghost use Rattle.klp_trace_page.specs.Rules.{rules_text, sight_text};
 
 use crate::line::item_text;
 use crate::rules::{rules_text, sight_text};
 use klp_catalog_text::Lines;
-use klp_console::Outcome;
+use klp_console::{LineOutcome, answer_text};
 use klp_core::Manager;
 use klp_markup::Sheet;
 use klp_model::{Refusal, Reply, Seen};
-use klp_page::{Layout, Recorded, Row, last_view, record_line};
+use klp_page::{Layout, Recorded, Row, last_view, record_line, view_of};
 use klp_timeline::{Moment, View};
-use klp_trace::answer_text;
-use klp_types::{MAX_GROUPS, MAX_RECORDS};
-use klp_views::view_of;
 use klp_watch::{Observed, Sight};
 use std::alloc::{AllocError, Global};
-
-/// Seals the journal if it may have no room for the next event.
-fn make_room(manager: &mut Manager)
-    requires { IsWellFormed manager.old }
-    ensures { IsRoomy manager.old manager.new }
-{
-    if manager.mark() >= MAX_GROUPS as u32 || manager.records_free() < MAX_RECORDS as u32 {
-        manager.seal();
-    }
-}
 
 /// Adds the kernel's answer to a row that has the answer of the rules. If the two answers differ, marks the row.
 fn compare(row: &mut Row, seen: Vec<u8>)
@@ -61,20 +47,8 @@ fn event_row(
     requires { IsWellFormed manager.old }
     ensures { IfOk result (λ made. IsTakenRow manager.old manager.new before.now text.now made.0 made.1) }
 {
-    make_room(manager);
+    manager.make_room();
     record_line(alloc, manager, text, before, layout)
-}
-
-/// Returns the kernel's answer in the form in which the console writes answers. `Err` if memory runs out.
-fn seen_answer(
-    alloc: Global,
-    manager: &Manager,
-    answer: &Result<Reply, Refusal>,
-) -> Result<Vec<u8>, AllocError>
-    ensures { IfOk result (λ seen. seen.items ≡ answer_text manager.now.managed.catalog answer.now) }
-{
-    let text = answer_text(alloc, manager, answer)?;
-    Vec::from_slice(alloc, text.as_bytes())
 }
 
 /// Does an event as [`event_row`] does. Adds the kernel's answer to the row, beside the answer of the rules. `Err` if
@@ -92,7 +66,7 @@ fn answered_row(
         made.0 made.1) }
 {
     let (mut row, moment) = event_row(alloc, manager, text, before, layout)?;
-    let seen = seen_answer(alloc, manager, answer)?;
+    let seen = answer_text(alloc, manager, answer)?;
     compare(&mut row, seen);
     Ok((row, moment))
 }
@@ -114,7 +88,7 @@ fn still_row(
         act: None,
         view: view_of(manager),
     };
-    layout.see(alloc, manager, &Outcome::Done, before, &moment)?;
+    layout.see(alloc, manager, &LineOutcome::Done, before, &moment)?;
     let differs = rules.as_bytes() != seen.as_bytes();
     let row = Row {
         line: Vec::from_slice(alloc, text)?,

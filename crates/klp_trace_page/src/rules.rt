@@ -4,11 +4,11 @@ ghost use Rattle.klp_types.specs.declared.version.Target.{Target as AnyTarget};
 ghost use Rattle.klp_model.specs.Entries.{is_site_loaded, is_hooked};
 ghost use Rattle.klp_model.specs.Pick.{pick};
 ghost use Rattle.klp_manager_state.specs.Managed.{setting_of};
-ghost use Rattle.klp_console.specs.Names.{patch_name};
 ghost use Rattle.klp_watch.specs.Compared.{files_of};
 ghost use Rattle.klp_trace_page.specs.Rules.{flag_text, hook_text, files_text, state_text, picked_text, text_text};
 ghost use Rattle.klp_trace_page.specs.Rules.{rules_text, sight_text};
 
+use klp_console::patch_name;
 use klp_core::Manager;
 use klp_types::{PatchId, PatchState, Site, TaskId, Version};
 use klp_watch::{PatchFiles, Sight};
@@ -71,13 +71,6 @@ fn number_of(state: Option<PatchState>) -> Option<i8>
     }
 }
 
-/// Returns the name of a patch. The name is empty if the catalog has no such patch.
-fn patch_name(manager: &Manager, patch: PatchId) -> &str
-    ensures { result.now ≡ patch_name manager.now.managed.catalog patch }
-{
-    manager.catalog().patch_name(patch).unwrap_or("")
-}
-
 /// Returns the words for a version that a task runs if it calls a site: `PATCH:INDEX`, or the words for the original.
 fn version_text(alloc: Global, manager: &Manager, version: Version) -> Result<String, AllocError>
     ensures { IfOk result (λ text. string_bytes text ≡ picked_text manager.now.managed.catalog (Some version)) }
@@ -86,7 +79,7 @@ fn version_text(alloc: Global, manager: &Manager, version: Version) -> Result<St
         Version::Original(_) => String::from_str(alloc, "the original"),
         Version::New(patch, function) => {
             let function = format!(in alloc; ":{function}")?;
-            let mut text = String::from_str(alloc, patch_name(manager, patch))?;
+            let mut text = String::from_str(alloc, patch_name(manager.catalog(), patch))?;
             text.push_str(function.as_str())?;
             Ok(text)
         }

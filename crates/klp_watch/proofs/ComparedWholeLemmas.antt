@@ -1,6 +1,7 @@
 -- A whole trace compared with the rules, item by item.
 use Rattle.std.proofs.Common.{◌≡◌, ℕ, ◌+◌, ◌<◌, Bool, true, false, List, [], ◌∷◌, ◌++◌, length, take, drop, get_or, Option, Some, None, refl, sym, ap, subst, ◌∙◌, arith, append-nil, add-one}
 use Rattle.std.specs.Prelude.{is_none, is_ok, if◌then◌else◌, Result}
+use Rattle.std.specs.Result.{result_err}
 use Rattle.std.proofs.lemmas.List.{length-take-le}
 use Rattle.klp_types.specs.declared.version.Version.{Version}
 use Rattle.klp_types.specs.Callbacks.{Call}
@@ -9,7 +10,7 @@ use Rattle.klp_types.specs.Setting.{Setting}
 use Rattle.klp_model.specs.declared.event.Event.{Event}
 use Rattle.klp_model.specs.declared.event.Reply.{Reply}
 use Rattle.klp_model.specs.declared.event.Refusal.{Refusal}
-use Rattle.klp_model.specs.declared.seen.Seen.TheVariants.{Event as Happens}
+use Rattle.klp_model.specs.declared.seen.Seen.TheVariants.{Event as Happens, Call as Calls, Return as Returns}
 use Rattle.klp_model.specs.State.{State}
 use Rattle.klp_model.specs.EventCalls.{calls}
 use Rattle.klp_model.specs.Refusals.{refusal}
@@ -25,7 +26,10 @@ use Rattle.klp_watch.specs.declared.observed.Observed.{Observed}
 use Rattle.klp_watch.specs.declared.observed.Observed.TheVariants.{Seen as Item, Answered, Saw}
 use Rattle.klp_watch.specs.declared.difference.Difference.{Difference}
 use Rattle.klp_watch.specs.declared.difference.Difference.TheVariants.{Premise, Answer}
+use Rattle.klp_watch.specs.declared.refused.RefusedEvents.{RefusedEvents}
 use Rattle.klp_watch.specs.Inside.{AreInside}
+use Rattle.klp_watch.specs.Refused.{refusal_at, refused_in, with_refusal}
+use Rattle.klp_watch.proofs.RefusedLemmas.{one_more_refused}
 use Rattle.klp_watch.specs.Watching.{moment_of, once_taken_back}
 use Rattle.klp_watch.specs.Whole.{LeadHonestly, once_reported}
 use Rattle.klp_watch.specs.Compared.{taken_of, taken_from, IsSo, IsSoAt, IsDoneSo, DiffersIn, IsReportedFor, once_differing}
@@ -54,6 +58,13 @@ module _ (setting : Setting) (groups : List Group) (room : has_room groups ≡ t
   so_by_rules state (Item item) is = tt
   so_by_rules state (Answered event answer) is = in_empty state event ∙ is
   so_by_rules state (Saw sight) is = is
+
+  refusal_by_rules : (state : State) (item : Observed) → refusal_at setting state groups item ≡ refusal_at setting state [] item
+  refusal_by_rules state (Item (Happens event)) = ap result_err (sym (in_empty state event))
+  refusal_by_rules state (Item (Calls task site)) = refl
+  refusal_by_rules state (Item (Returns task)) = refl
+  refusal_by_rules state (Answered event answer) = refl
+  refusal_by_rules state (Saw sight) = refl
 
   differs_by_rules : (w : Watched) (item : Observed) (difference : Difference) → DiffersIn setting w groups item difference → DiffersIn setting w [] item difference
   differs_by_rules w (Item item) (Premise cause) is = cause_by_rules setting w groups item cause room is
@@ -123,6 +134,24 @@ module _ (first now ready after : Journaled) (table new : List (List Version)) (
       subst (λ (s : State). IsSo setting s [] item) (ap (λ (m : Managed). m.state) made ∙ ap (λ (m : Managed). m.state) lead.left)
       (subst (λ (k : Setting). IsSo k ready.managed.state [] item) ready_same
       (so_by_rules (setting_of ready.managed) ready.groups room ready.managed.state item is))
+
+  refused_there : (items : List Observed) (item : Observed) → LeadHonestly first.managed now.managed (taken_from items)
+      → refusal_at (setting_of ready.managed) ready.managed.state ready.groups item
+      ≡ refusal_at setting (run setting first.managed.state (events_of (taken_from items))) [] item
+  refused_there items item lead =
+      refusal_by_rules (setting_of ready.managed) ready.groups room ready.managed.state item
+      ∙ ap (λ (k : Setting). refusal_at k ready.managed.state [] item) ready_same
+      ∙ ap (λ (s : State). refusal_at setting s [] item) (ap (λ (m : Managed). m.state) made ∙ ap (λ (m : Managed). m.state) lead.left)
+
+  pub refused_next : (items : List Observed) (item : Observed) (refused more : RefusedEvents) (number : ℕ) (refusal : Option Refusal) → number ≡ 1 + length items
+      → LeadHonestly first.managed now.managed (taken_from items) → refused ≡ refused_in setting first.managed.state items
+      → refusal ≡ refusal_at (setting_of ready.managed) ready.managed.state ready.groups item → more ≡ with_refusal refused number refusal
+      → more ≡ refused_in setting first.managed.state (items ++ item ∷ [])
+  refused_next items item refused more number refusal is lead so tells added =
+      added
+      ∙ ap (λ (r : RefusedEvents). with_refusal r number refusal) so
+      ∙ ap (with_refusal (refused_in setting first.managed.state items) number) (tells ∙ refused_there items item lead)
+      ∙ one_more_refused setting first.managed.state items item number is
 
   pub all_so_next : GoOn → OfEvents → (items : List Observed) (item : Observed) → AllSoTo first.managed now.managed table items
       → ((stacks : Stacks) → AreInside table stacks → IsDoneSo ready after stacks item new) → AllSoTo first.managed after.managed new (items ++ item ∷ [])

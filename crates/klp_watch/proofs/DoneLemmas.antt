@@ -1,6 +1,6 @@
 -- What one item comes to.
 use Rattle.std.proofs.Common.{◌≡◌, ℕ, Bool, true, false, List, [], ◌∷◌, Option, Some, None, refl, sym, ap, subst, ◌∙◌, append-nil}
-use Rattle.std.specs.Prelude.{not, is_none, is_some, is_err, if◌then◌else◌, Result, Ok, Err, IfOk}
+use Rattle.std.specs.Prelude.{not, is_none, is_some, is_err, if◌then◌else◌, Result, Ok, Err}
 use Rattle.std.proofs.lemmas.Bool.{and_parts}
 use Rattle.klp_types.specs.declared.task.Mode.TheVariants.{Kernel}
 use Rattle.klp_types.specs.declared.version.Version.{Version}
@@ -84,7 +84,7 @@ module _ (manager : Journaled) (stacks : Stacks) (table : List (List Version)) w
   abbrev own : Setting
   own = setting_of manager.managed
 
-  called_done : (task site : ℕ) → (may_call own (moment_of manager stacks) task site ≡ true)
+  pub called_done : (task site : ℕ) → (may_call own (moment_of manager stacks) task site ≡ true)
       × AreInside table (seen_next own (moment_of manager stacks) (Calls task site)).stacks
       → IsDone manager manager stacks (Calls task site) table
   called_done task site is = record {
@@ -101,7 +101,7 @@ module _ (manager : Journaled) (stacks : Stacks) (table : List (List Version)) w
   is_false false is = refl
   is_false true is = let no : ⊥ = cc in absurd no
 
-  returned_done : (task : ℕ) → (may_return (moment_of manager stacks) task ≡ true)
+  pub returned_done : (task : ℕ) → (may_return (moment_of manager stacks) task ≡ true)
       × AreInside table (seen_next own (moment_of manager stacks) (Returns task)).stacks
       → IsDone manager manager stacks (Returns task) table
   returned_done task is =
@@ -115,19 +115,3 @@ module _ (manager : Journaled) (stacks : Stacks) (table : List (List Version)) w
         base = refl;
         inside = is.1;
       }
-
--- what a call of the program says of its `Ok`
-module _ (manager : Journaled) (table new : List (List Version)) where
-  pub if_called : {A E : Type 0} (result : Result A E) (task site : ℕ)
-      → IfOk result (λ _. (stacks : Stacks) → AreInside table stacks → (may_call (setting_of manager.managed) (moment_of manager stacks) task site ≡ true)
-      × AreInside new (seen_next (setting_of manager.managed) (moment_of manager stacks) (Calls task site)).stacks)
-      → IfOk result (λ _. (stacks : Stacks) → AreInside table stacks → IsDone manager manager stacks (Calls task site) new)
-  if_called (Ok value) task site does = λ stacks are. called_done manager stacks new task site (does stacks are)
-  if_called (Err error) task site does = tt
-
-  pub if_returned : {A E : Type 0} (result : Result A E) (task : ℕ)
-      → IfOk result (λ _. (stacks : Stacks) → AreInside table stacks → (may_return (moment_of manager stacks) task ≡ true)
-      × AreInside new (seen_next (setting_of manager.managed) (moment_of manager stacks) (Returns task)).stacks)
-      → IfOk result (λ _. (stacks : Stacks) → AreInside table stacks → IsDone manager manager stacks (Returns task) new)
-  if_returned (Ok value) task does = λ stacks are. returned_done manager stacks new task (does stacks are)
-  if_returned (Err error) task does = tt

@@ -5,6 +5,7 @@ pub mod DoneLemmas
 pub mod EnteredLemmas
 pub mod FramesLemmas
 pub mod InsideLemmas
+pub mod RefusedLemmas
 pub mod RunLemmas
 pub mod TaskLemmas
 pub mod WatchedLemmas

@@ -1,7 +1,6 @@
 -- A whole trace, item by item: with room in the journal the rules alone answer an event.
-use Rattle.std.proofs.Common.{◌≡◌, ℕ, ◌+◌, ◌<◌, Bool, true, false, List, [], ◌∷◌, ◌++◌, length, take, drop, get_or, Option, Some, None, refl, sym, ap, subst, ◌∙◌, arith}
+use Rattle.std.proofs.Common.{◌≡◌, Bool, true, false, List, [], ◌∷◌, ◌++◌, Option, Some, None, refl, sym, ap, subst, ◌∙◌}
 use Rattle.std.specs.Prelude.{is_none, is_ok, if◌then◌else◌, Result, Ok, Err}
-use Rattle.std.proofs.lemmas.List.{length-take-le}
 use Rattle.klp_types.specs.declared.version.Version.{Version}
 use Rattle.klp_types.specs.Callbacks.{Call}
 use Rattle.klp_types.specs.FirstOf.{unless}
@@ -26,10 +25,10 @@ use Rattle.klp_core.specs.Taking.{unless_full, answer_in}
 use Rattle.klp_watch.specs.declared.cause.Cause.{Cause}
 use Rattle.klp_watch.specs.declared.cause.Cause.TheVariants.{NoCall, NoReturn, Deep}
 use Rattle.klp_watch.specs.Inside.{AreInside}
-use Rattle.klp_watch.specs.Watching.{Became, accepted_in, moment_of, IsTakenAs, IsCause, IsDone, IsReported, once_taken_back}
-use Rattle.klp_watch.specs.Whole.{LeadHonestly, once_reported, BreakOff}
+use Rattle.klp_watch.specs.Watching.{Became, accepted_in, moment_of, IsTakenAs, IsCause, IsDone, once_taken_back}
+use Rattle.klp_watch.specs.Whole.{LeadHonestly, once_reported}
 use Rattle.klp_watch.proofs.RunLemmas.{GoOn, OfEvents, AtMostOne, events_more, seen_more, honest_more, left_more}
-use Rattle.klp_watch.proofs.WatchedLemmas.{StaysAllowed, allowed_now, parted_at}
+use Rattle.klp_watch.proofs.WatchedLemmas.{StaysAllowed, allowed_now}
 
 -- the state of a manager, where tasks are inside of this
 abbrev at : Managed → Stacks → Watched
@@ -166,26 +165,3 @@ module _ (first now ready after : Journaled) (table : List (List Version)) (same
       let stacks = (seen_from (setting_of first.managed) first.managed.state items).stacks in
       one_more_seen of first.managed ready.managed items before.0 ready_same go after.managed item new
       (next_seen ready after stacks new room item (does stacks before.1))
-
-  pub breaks_off : OfEvents → (items : List Seen) (count : ℕ) (item : Seen) (cause : Cause) → count < length items → item ≡ get_or items count item
-      → SeenTo first.managed now.managed table (take count items) → ((stacks : Stacks) → AreInside table stacks → IsReported ready after stacks item cause)
-      → HasNoTask first.managed.state → BreakOff first.managed after.managed items count cause
-  breaks_off of items count item cause below is so_far tells nobody =
-      let earlier = take count items in
-      let before = ready_seen earlier so_far nobody in
-      let moment = seen_from (setting_of first.managed) first.managed.state earlier in
-      let reported = tells moment.stacks before.1 in
-      record {
-        earlier = earlier;
-        item = item;
-        later = drop (count + 1) items;
-        parted = parted_at items count item below is;
-        count_is = length-take-le count items (omega arith);
-        done = ready.managed;
-        lead = before.0;
-        why = subst (λ (w : Watched). IsCause (setting_of first.managed) w [] item cause)
-            (moment_now of first.managed ready.managed earlier before.0 ready_same)
-            (subst (λ (k : Setting). IsCause k (moment_of ready moment.stacks) [] item cause) ready_same
-            (cause_by_rules (setting_of ready.managed) (moment_of ready moment.stacks) ready.groups item cause room reported.why));
-        left = reported_left ready after item reported.left;
-      }

@@ -1,5 +1,5 @@
--- What comparing a kernel with the rules comes to: what was observed of it is so at its place, up to the first item that isn't.
-use Rattle.std.specs.Prelude.{◌≡◌, ℕ, zero, suc, Bool, true, false, List, [], ◌∷◌, ◌++◌, length, Option, Some, None, option_map, is_ok, if◌then◌else◌}
+-- What comparing one item with the rules comes to: what was observed is so, or how it differs.
+use Rattle.std.specs.Prelude.{◌≡◌, ℕ, Bool, true, false, List, [], ◌∷◌, ◌++◌, Option, Some, None, option_map, is_ok, if◌then◌else◌}
 use Rattle.klp_types.specs.declared.task.Task.{Task}
 use Rattle.klp_types.specs.declared.version.Target.{Target}
 use Rattle.klp_types.specs.declared.version.Version.{Version}
@@ -10,16 +10,15 @@ use Rattle.klp_model.specs.declared.seen.Seen.{Seen}
 use Rattle.klp_model.specs.declared.seen.Seen.TheVariants.{Event as Happens}
 use Rattle.klp_model.specs.State.{State, is_installed}
 use Rattle.klp_model.specs.Task.{task_at}
-use Rattle.klp_model.specs.Refusals.{enabled_value, is_there}
+use Rattle.klp_model.specs.Refusals.{enabled_value}
 use Rattle.klp_model.specs.Pick.{pick}
 use Rattle.klp_model.specs.Entries.{is_site_loaded, is_hooked}
-use Rattle.klp_model.specs.Observed.{Stacks, Watched, seen_from, IsHonestEvent}
+use Rattle.klp_model.specs.Observed.{Stacks, Watched, IsHonestEvent}
 use Rattle.klp_journal.specs.Journal.{Group}
 use Rattle.klp_manager_state.specs.Managed.{setting_of}
 use Rattle.klp_core.specs.Journaled.{Journaled}
 use Rattle.klp_core.specs.Taking.{answer_in}
 use Rattle.klp_watch.specs.declared.cause.Cause.{Cause}
-use Rattle.klp_watch.specs.declared.cause.Cause.TheVariants.{NotOpening}
 use Rattle.klp_watch.specs.declared.observed.Observed.{Observed}
 use Rattle.klp_watch.specs.declared.observed.Observed.TheVariants.{Seen as Item, Answered, Saw}
 use Rattle.klp_watch.specs.declared.observed.Sight.{Sight}
@@ -28,7 +27,7 @@ use Rattle.klp_watch.specs.declared.observed.PatchFiles.{PatchFiles}
 use Rattle.klp_watch.specs.declared.difference.Difference.{Difference}
 use Rattle.klp_watch.specs.declared.difference.Difference.TheVariants.{Premise, Answer, State as OtherState, Files as OtherFiles, Version as OtherVersion, Text as OtherText}
 use Rattle.klp_watch.specs.Inside.{AreInside}
-use Rattle.klp_watch.specs.Watching.{AreWatched, IsAgainst, IsCause, IsDone, moment_of, once_taken_back, accepted_in}
+use Rattle.klp_watch.specs.Watching.{IsAgainst, IsCause, IsDone, moment_of, once_taken_back}
 
 -- what the files of a patch read; they are there while it is installed
 abbrev pub files_of : State → ℕ → Option PatchFiles
@@ -71,24 +70,6 @@ IsSo setting state groups (Saw sight) = Shows setting state sight
 abbrev pub IsSoAt : Journaled → Observed → Type 0
 IsSoAt manager item = IsSo (setting_of manager.managed) manager.managed.state manager.groups item
 
--- between two managers, behind the first items: there the next item is so. What happened later is behind what had happened there
-pub record IsSoBehind (before after : Journaled) (first : List Observed) (item : Observed) : Type 0 where
-  pub there : Journaled
-  pub watched : AreWatched before there (taken_from first)
-  pub later : List Group
-  pub goes_on : after.groups ≡ there.groups ++ later
-  pub so : IsSoAt there item
-
--- the items were watched, and each of them is so at its place
-pub record AreCompared (before after : Journaled) (items : List Observed) : Type 0 where
-  pub watched : AreWatched before after (taken_from items)
-  pub so : (first later : List Observed) (item : Observed) → items ≡ first ++ item ∷ later → IsSoBehind before after first item
-
--- what tasks are inside of, once these items are done
-abbrev pub inside_behind : (before after : Journaled) (items : List Observed) → AreWatched before after (taken_from items) → Stacks
-inside_behind before after items watched =
-    (seen_from (setting_of before.managed) before.managed.state (accepted_in (taken_from items) watched.outcomes)).stacks
-
 -- one item is so, and was done where tasks were inside of this, and now they are inside of what the table has
 abbrev pub IsDoneSo : Journaled → Journaled → Stacks → Observed → List (List Version) → Type 0
 IsDoneSo before after stacks (Item item) table = IsDone before after stacks item table
@@ -122,20 +103,3 @@ once_differing before (Saw sight) = before
 pub record IsReportedFor (before after : Journaled) (stacks : Stacks) (item : Observed) (difference : Difference) : Type 0 where
   pub why : DiffersIn (setting_of before.managed) (moment_of before stacks) before.groups item difference
   pub left : after ≡ once_differing before item
-
--- so many items are as the rules say, and the next one isn't
-pub record DiffersBehind (before after : Journaled) (items : List Observed) (count : ℕ) (difference : Difference) : Type 0 where
-  pub earlier : List Observed
-  pub item : Observed
-  pub later : List Observed
-  pub parted : items ≡ earlier ++ item ∷ later
-  pub count_is : length earlier ≡ count
-  pub done : Journaled
-  pub compared : AreCompared before done earlier
-  pub reported : IsReportedFor done after (inside_behind before done earlier compared.watched) item difference
-
--- the item that differs, counted from 1; with 0 nothing was done, since a task was there at the start
-abbrev pub IsDifference : Journaled → Journaled → List Observed → ℕ → Difference → Type 0
-IsDifference before after items zero difference =
-    (difference ≡ Premise NotOpening) × (after ≡ before) × ((task : ℕ) × (is_there before.managed.state task ≡ true))
-IsDifference before after items (suc count) difference = DiffersBehind before after items count difference

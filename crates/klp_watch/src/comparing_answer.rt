@@ -1,6 +1,5 @@
 //! Events with the answers that were observed.
 ghost use Rattle.std.specs.Prelude.{◌≡◌, ◌↔◌, IsTrue, IfOk, IfErr, IfSome, IfNone};
-ghost use Rattle.klp_model.specs.declared.seen.Seen.TheVariants.{Event as Happens};
 ghost use Rattle.klp_model.specs.Observed.{Stacks, IsHonestEvent};
 ghost use Rattle.klp_manager_state.specs.Managed.{setting_of};
 ghost use Rattle.klp_core.specs.Journaled.{IsWellFormed};

@@ -15,7 +15,7 @@ use klp_types::{PatchId, PatchState, Site, TaskId, Version};
 
 /// Whether the state shows what was seen. The cost is a look-up. For a patch, the list of installed patches is searched
 /// too.
-pub(crate) fn is_shown(manager: &Manager, sight: &Sight) -> bool
+pub fn holds_in_state(manager: &Manager, sight: &Sight) -> bool
     ensures { IsTrue result ↔ Shows (setting_of manager.now.managed) manager.now.managed.state sight.now }
 {
     match sight {

@@ -5,12 +5,13 @@ ghost use Rattle.klp_model.specs.Observed.{Stacks, begun, IsHonestEvent};
 ghost use Rattle.klp_manager_state.specs.Managed.{setting_of};
 ghost use Rattle.klp_core.specs.Journaled.{IsWellFormed};
 ghost use Rattle.klp_watch.specs.Inside.{AreInside};
+ghost use Rattle.klp_watch.specs.Refused.{refusal_of};
 ghost use Rattle.klp_watch.specs.Watching.{IsAgainst, IsDone, IsReported};
 
 use crate::cause::Cause;
 use crate::inside::Inside;
 use klp_core::Manager;
-use klp_model::Event;
+use klp_model::{Event, Refusal};
 use klp_types::Frames;
 
 /// Returns the premise that an accepted event breaks. Returns `None` if it breaks no premise. The versions that the
@@ -43,26 +44,33 @@ pub(crate) fn begin(inside: &mut Inside, event: &Event)
     }
 }
 
-/// Passes an event to the manager. A refusal is no fault. If an accepted event breaks a premise, the event is taken
+/// Passes an event to the manager. A refusal is no fault, and is returned. If an accepted event breaks a premise, the event is taken
 /// back by its own records, so that no later item sees its effect. The manager is well formed, so it is known to which
 /// state these records lead back.
-pub(crate) fn happen(manager: &mut Manager, inside: &mut Inside, event: &Event) -> Result<(), Cause>
+pub(crate) fn happen(
+    manager: &mut Manager,
+    inside: &mut Inside,
+    event: &Event,
+) -> Result<Option<Refusal>, Cause>
     requires { IsWellFormed manager.old }
     ensures done { IfOk result (λ _. (stacks : Stacks) → AreInside inside.old.rows stacks
         → IsDone manager.old manager.new stacks (Happens event.now) inside.new.rows) }
     ensures reported { IfErr result (λ cause. (stacks : Stacks) → AreInside inside.old.rows stacks
         → IsReported manager.old manager.new stacks (Happens event.now) cause) }
+    ensures refused { IfOk result (λ refused. refused
+        ≡ refusal_of (setting_of manager.old.managed) manager.old.managed.state manager.old.groups
+        (Happens event.now)) }
     ensures setting { setting_of manager.new.managed ≡ setting_of manager.old.managed }
     ensures well_formed { IsWellFormed manager.new }
 {
     let mark = manager.mark();
-    if manager.apply_without_reply(event).is_err() {
-        return Ok(());
+    if let Err(refusal) = manager.apply_without_reply(event) {
+        return Ok(Some(refusal));
     }
     if let Some(cause) = against(manager, inside, event) {
         let _ = manager.rewind(mark);
         return Err(cause);
     }
     begin(inside, event);
-    Ok(())
+    Ok(None)
 }

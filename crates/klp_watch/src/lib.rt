@@ -4,28 +4,26 @@
 //! manager, and stores which versions each task is inside of. If no item is at fault, the list is an honest observed
 //! run (`specs/Watching`). So at every moment each task ran one version of each function, and no task was inside of
 //! code that had left the function stacks (`klp_model::consistency`). If an item breaks a premise, [`watch`] returns
-//! the first such item with its [`Cause`]. This item changes nothing. [`watch_whole`] does the same for a trace of any
-//! length. [`compare`] also compares the kernel's answers and sights with the rules (`specs/Compared`), and
-//! [`compare_whole`] does so for a trace of any length (`specs/ComparedWhole`).
+//! the first such item with its [`Cause`]. This item changes nothing. [`compare_whole`] also compares the kernel's answers
+//! and sights with the rules (`specs/Compared`), for a trace of any length (`specs/ComparedWhole`).
 #![tactic(auto)]
 
 mod cause;
 mod comparing;
 mod comparing_answer;
 mod comparing_sight;
-mod comparing_whole;
 mod difference;
 mod event;
 mod inside;
 mod observed;
+mod refused;
 mod task;
 mod watching;
-mod watching_whole;
 
 pub use cause::{Cause, NotHonest};
-pub use comparing::compare;
-pub use comparing_whole::compare_whole;
+pub use comparing::compare_whole;
+pub use comparing_sight::holds_in_state;
 pub use difference::{Difference, Differs};
 pub use observed::{Observed, PatchFiles, Sight};
+pub use refused::{FirstRefused, RefusedEvents};
 pub use watching::watch;
-pub use watching_whole::watch_whole;

@@ -6,6 +6,7 @@ ghost use Rattle.klp_model.specs.Refusals.{is_there};
 ghost use Rattle.klp_manager_state.specs.Managed.{setting_of};
 ghost use Rattle.klp_core.specs.Journaled.{IsWellFormed};
 ghost use Rattle.klp_watch.specs.Inside.{AreInside};
+ghost use Rattle.klp_watch.specs.Refused.{refusal_of};
 ghost use Rattle.klp_watch.specs.Watching.{AreWatched, IsConsistent, IsDone, IsFault, IsReported};
 
 use crate::cause::{Cause, NotHonest};
@@ -13,7 +14,7 @@ use crate::event::happen;
 use crate::inside::Inside;
 use crate::task::{call, come_back};
 use klp_core::Manager;
-use klp_model::Seen;
+use klp_model::{Refusal, Seen};
 use klp_types::{MAX_TASKS, TaskId};
 
 /// Does the items of a trace in order, on a manager without tasks. Returns the first item that isn't honest. Such an
@@ -93,23 +94,32 @@ pub(crate) fn has_task(manager: &Manager) -> bool
     false
 }
 
-/// Watches one item. `inside` has the versions that each task is inside of.
+/// Watches one item. `inside` has the versions that each task is inside of. Returns the refusal of an event that is
+/// refused.
 pub(crate) fn watch_item(
     manager: &mut Manager,
     inside: &mut Inside,
     item: &Seen,
-) -> Result<(), Cause>
+) -> Result<Option<Refusal>, Cause>
     ensures done { IfOk result (λ _. (stacks : Stacks) → AreInside inside.old.rows stacks
         → IsDone manager.old manager.new stacks item.now inside.new.rows) }
     ensures reported { IfErr result (λ cause. (stacks : Stacks) → AreInside inside.old.rows stacks
         → IsReported manager.old manager.new stacks item.now cause) }
+    ensures refused { IfOk result (λ refused. refused
+        ≡ refusal_of (setting_of manager.old.managed) manager.old.managed.state manager.old.groups item.now) }
     ensures setting { setting_of manager.new.managed ≡ setting_of manager.old.managed }
     ensures well_formed { IsWellFormed manager.new }
 {
     let _for_its_clause = manager.mark();
     match item {
         Seen::Event(event) => happen(manager, inside, event),
-        Seen::Call(task, site) => call(manager, inside, *task, *site),
-        Seen::Return(task) => come_back(manager, inside, *task),
+        Seen::Call(task, site) => match call(manager, inside, *task, *site) {
+            Ok(()) => Ok(None),
+            Err(cause) => Err(cause),
+        },
+        Seen::Return(task) => match come_back(manager, inside, *task) {
+            Ok(()) => Ok(None),
+            Err(cause) => Err(cause),
+        },
     }
 }

@@ -1,7 +1,7 @@
 //! Writes the files of a run to a folder.
+use klp_boot::Fault;
 use klp_capture_run::Explained;
 use klp_names::Names;
-use klp_program::Fault;
 use klp_trace_page::{page_over_trace, timed_names};
 use std::alloc::{AllocError, Global};
 use std::fs::OpenOptions;

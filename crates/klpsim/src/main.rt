@@ -1,12 +1,16 @@
-//! The program. It boots a manager over a catalog, and answers console lines from standard input on standard output. Or
+//! The program. It is the one as which it is called: `klpwatch`, `klppage`, `klplint` or `klpsee`, or else `klpsim`.
+//! As `klpsim` it boots a manager over a catalog, and answers console lines from standard input on standard output. Or
 //! it lets two task threads run the steps of a file.
 #![tactic(auto)]
+
+mod called;
 
 ghost use Rattle.std.specs.Prelude.{◌≡◌, ◌⊎◌, ℕ, List, Option, None, IfErr};
 ghost use Rattle.klp_program.specs.declared.sample.TheConstants.{CATALOG};
 ghost use Rattle.klp_program.specs.Runs.{IsServed};
 ghost use Rattle.klp_live_run.specs.Living.{Exits};
 
+use crate::called::{CalledProgram, program_called};
 use klp_live_run::live;
 use klp_program::{
     Wanted, bytes_in_both, catalog_in, console, parse_arguments, program_arguments, report_fault,
@@ -17,8 +21,6 @@ use std::process::ExitCode;
 use std::rt::Files;
 use std::sync::Wait;
 use std::thread::Threads;
-
-const NAME: &str = "klpsim";
 
 // Serves standard input over a catalog, or over the built-in one if no file is named. Returns the exit status. It is 1
 // also if the catalog can't be read.
@@ -60,17 +62,23 @@ fn wanted(rt: &HostRuntime) -> Result<Wanted, u8>
     ensures { IfErr result (λ status. (status ≡ 1) ⊎ (status ≡ 2)) }
 {
     let mut err = rt.stderr();
-    let given = program_arguments(rt, NAME, &mut err)?;
+    let given = program_arguments(rt, &mut err)?;
     parse_arguments(rt.alloc(), &given, &mut err)
 }
 
 fn main(rt: HostRuntime) -> ExitCode {
-    let status = match wanted(&rt) {
-        Ok(Wanted::Console(path)) => serve(&rt, path),
-        Ok(Wanted::Live(catalog, steps)) => {
-            race(&rt, catalog.as_str(), steps.as_str(), &mut rt.stderr())
-        }
-        Err(status) => status,
+    let status = match program_called(&rt) {
+        CalledProgram::Klpsim => match wanted(&rt) {
+            Ok(Wanted::Console(path)) => serve(&rt, path),
+            Ok(Wanted::Live(catalog, steps)) => {
+                race(&rt, catalog.as_str(), steps.as_str(), &mut rt.stderr())
+            }
+            Err(status) => status,
+        },
+        CalledProgram::Klpwatch => klpwatch::run(&rt),
+        CalledProgram::Klppage => klppage::run(&rt),
+        CalledProgram::Klplint => klplint::run(&rt),
+        CalledProgram::Klpsee => klpsee::run(&rt),
     };
     ExitCode::from(status)
 }

@@ -1,4 +1,4 @@
-use Rattle.std.proofs.Common.{◌≡◌, ◌+◌, List, ◌++◌, drop, Option, sym, ap, ◌∙◌, append_assoc}
+use Rattle.std.proofs.Common.{◌+◌, List, ◌++◌, drop, Option, sym, ap, ◌∙◌, append_assoc}
 use Rattle.klp_core.specs.declared.holders.Lag.{Lag}
 use Rattle.klp_capture_run.specs.declared.holders.Holder.{Holder}
 use Rattle.klp_capture_run.specs.Holders.{holder_at, holders_from}

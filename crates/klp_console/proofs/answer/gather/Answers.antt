@@ -6,7 +6,7 @@ use Rattle.klp_console_io.specs.Marks.{events_at_cut}
 use Rattle.klp_console_io.specs.Written.{Written}
 use Rattle.klp_console.specs.Answered.{IsDoneIf}
 use Rattle.klp_console.specs.Back.{IsTakenBack}
-use Rattle.klp_console.specs.Said.{Moment, IsSaid}
+use Rattle.klp_console.specs.Said.{Serving, IsSaid}
 use Rattle.klp_console.proofs.SaidLemmas.{held_falls}
 use Rattle.klp_console.proofs.AheadLemmas.{hold, does_line, next_ahead, next_cut}
 use Rattle.klp_console.proofs.answer.gather.Goals as goal
@@ -25,8 +25,8 @@ returns-then-has_failed-clause-comes g c =
     let said : Gathered × Written = (c.done-is_refused.new.answers, g.W.Sink.written c.done-is_refused.new.writer) in
     let says = subst (λ (a : Gathered). IsSaid (IsDoneIf c.args.manager.now c.done-is_refused.new.manager (asked_with c.args.asked.now c.args.event.now)) (a, start.1) said c.done-is_refused.result)
     c.hold-gathered.ensures.held c.done-is_refused.ensures in
-    let b : Moment = record { manager = c.args.manager.now; served = c.args.served.now; said = start; marks = c.args.marks.now } in
-    let n : Moment = record { manager = c.done-is_refused.new.manager; served = c.count.new.served; said = said; marks = c.args.marks.now } in
+    let b : Serving = record { manager = c.args.manager.now; served = c.args.served.now; said = start; marks = c.args.marks.now } in
+    let n : Serving = record { manager = c.done-is_refused.new.manager; served = c.count.new.served; said = said; marks = c.args.marks.now } in
     let failed = sym c.has_failed.ensures ∙ c.if-has_failed.true in
     let back = subst (λ k. IsTakenBack n.manager c.take_back.new.manager (events_at_cut (k - c.done-is_refused.new.answers.held) c.args.marks.now)) c.hold-gathered.ensures.result c.take_back.ensures in
     λ before lines line asked short ahead. (
@@ -41,8 +41,8 @@ returns-else-has_failed-clause-comes g c =
     let said : Gathered × Written = (c.done-is_refused.new.answers, g.W.Sink.written c.done-is_refused.new.writer) in
     let says = subst (λ (a : Gathered). IsSaid (IsDoneIf c.args.manager.now c.done-is_refused.new.manager (asked_with c.args.asked.now c.args.event.now)) (a, start.1) said c.done-is_refused.result)
     c.hold-gathered.ensures.held c.done-is_refused.ensures in
-    let b : Moment = record { manager = c.args.manager.now; served = c.args.served.now; said = start; marks = c.args.marks.now } in
-    let n : Moment = record { manager = c.done-is_refused.new.manager; served = c.count.new.served; said = said; marks = c.mark_line.new.marks } in
+    let b : Serving = record { manager = c.args.manager.now; served = c.args.served.now; said = start; marks = c.args.marks.now } in
+    let n : Serving = record { manager = c.done-is_refused.new.manager; served = c.count.new.served; said = said; marks = c.mark_line.new.marks } in
     let still = sym c.has_failed.ensures ∙ c.if-has_failed.false in
     λ before lines line asked short ahead. (
       λ same. next_ahead before b n lines line ahead

@@ -7,8 +7,8 @@ use Rattle.klp_callback.specs.LentCallback.{LentCallback}
 use Rattle.klp_catalog_text.specs.Plan.{Plan}
 use Rattle.klp_catalog_text.specs.Scripts.{scripts_of}
 use Rattle.klp_core.proofs.Sends.{manager_given}
-use Rattle.klp_program.specs.Booted.{never_ran}
-use Rattle.klp_program.proofs.ServeLemmas.{first_made, next_made, all_made, reported_of}
+use Rattle.klp_boot.specs.Booted.{never_ran}
+use Rattle.klp_boot.proofs.BoxLemmas.{first_made, next_made, all_made, reported_of}
 use Rattle.klp_live_run.proofs.RunLemmas.{lives_plan}
 use Rattle.klp_callback.specs.contracts.boxed.Boxed.new.dyn-1 as table
 use Rattle.klp_live_run.proofs.running.live_over_plan.OwnLists.{own-1, lawful-own-1, at-1-1}

@@ -1,6 +1,6 @@
 use Rattle.std.proofs.Common.{◌≡◌, ◌-◌, length}
 use Rattle.klp_catalog_text.specs.Scripts.{scripts_of}
-use Rattle.klp_program.proofs.ServeLemmas.{first_made}
+use Rattle.klp_boot.proofs.BoxLemmas.{first_made}
 use Rattle.klp_live_run.proofs.running.live_over_plan.Given as goal
 
 -- there is a callback for each script so far

@@ -1,9 +1,14 @@
-use Rattle.klp_program.proofs.ServeLemmas.{runs_text}
+use Rattle.std.proofs.Common.{rules}
+use Rattle.klp_program.proofs.ServeLemmas.{runs_booted}
 use Rattle.klp_program.proofs.serve.over_text.Goals as goal
 
 pub returns : goal.returns
 returns g c =
-    runs_text c.args.catalog.now c.in_ok-plan.plan
+    let over = c.in_ok-over_text.ensures in
+    let user = c.over_text.new.user in
+    let runs = runs_booted c.args.catalog.now over.plan over.over.booted
     (record { supply = g.R.Source.supply c.args.reader.now; written = g.W.Sink.written c.args.writer.now })
-    (record { supply = g.R.Source.supply c.over_plan.new.reader; written = g.W.Sink.written c.over_plan.new.writer })
-    c.over_plan.result c.in_ok-plan.ensures.plan c.over_plan.ensures
+    (record { supply = g.R.Source.supply user.reader.now; written = g.W.Sink.written user.writer.now })
+    c.in_ok-over_text.field-0 over.planned over.over.is_booted over.over.came_to.2
+    in
+    search rules

@@ -9,6 +9,7 @@ invariant-loop-item l = record {
   calls : l.counts.calls ≡ count_by is_call (take l.item-index l.items);
   returns : l.counts.returns ≡ count_by is_return (take l.item-index l.items);
   compared : l.counts.compared ≡ count_by is_compared (take l.item-index l.items);
+  refused : l.counts.refused ≡ l.fn.refused;
   few_events : l.counts.events ≤ l.item-index;
   few_calls : l.counts.calls ≤ l.item-index;
   few_returns : l.counts.returns ≤ l.item-index;

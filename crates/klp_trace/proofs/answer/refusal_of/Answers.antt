@@ -3,8 +3,8 @@ use Rattle.std.specs.Prelude.{find}
 use Rattle.std.proofs.lemmas.Iterator.{YieldsList-from_slice}
 use Rattle.std.proofs.lemmas.Iterator.Search.{find_from_yields_List}
 use Rattle.klp_model.specs.declared.event.Refusal.{Refusal}
-use Rattle.klp_console.specs.Refusals.{refusal_text}
-use Rattle.klp_trace.specs.Answers.{is_line_of, refusals}
+use Rattle.klp_console.specs.Refusals.{refusals, refusal_text}
+use Rattle.klp_trace.specs.Answers.{is_line_of}
 use Rattle.klp_trace.proofs.answer.refusal_of.Goals as goal
 
 pub returns : goal.returns

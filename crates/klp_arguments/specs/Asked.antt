@@ -1,0 +1,116 @@
+-- What words ask a program for, by the values that the reader of words finds in them.
+use Rattle.std.specs.Prelude.{ℕ, ◌≡◌, ◌≢◌, ◌⊎◌, ⊤, Bool, true, false, List, [], ◌∷◌, codes, bytes_eq, Option, Some, None, option_map}
+use Rattle.clap.specs.Words.{App, Kinds, Row, Text, IsAmong, fault_of, first_of, matches_of}
+use Rattle.clap.specs.declared.error.kind.ErrorKind.TheVariants.{DisplayHelp}
+use Rattle.klp_arguments.specs.Commands.{lint_app, page_app, see_app, watch_app}
+use Rattle.klp_arguments.specs.declared.asked.WatchWords.{WatchWords}
+use Rattle.klp_arguments.specs.declared.asked.PageWords.{PageWords}
+use Rattle.klp_arguments.specs.declared.asked.LintWords.{LintWords}
+use Rattle.klp_arguments.specs.declared.asked.SeeWords.{SeeWords}
+use Rattle.klp_arguments.specs.declared.ending.Ending.{Ending}
+use Rattle.klp_arguments.specs.declared.ending.Ending.TheVariants.{Help, Refused, NoMemory}
+
+pub record Watched : Type 0 where
+  pub catalog : Text
+  pub trace : Text
+
+pub record Paged : Type 0 where
+  pub catalog : Text
+  pub run : Text
+  pub is_trace : Bool
+  pub names : Option Text
+
+pub record Linted : Type 0 where
+  pub catalog : Text
+  pub script : Option Text
+  pub is_json : Bool
+
+pub record Seen : Type 0 where
+  pub log : Text
+  pub folder : Option Text
+  pub is_json : Bool
+
+-- an option without a value is given
+abbrev pub is_given : Option Text → Bool
+is_given (Some value) = bytes_eq value (codes "true")
+is_given None = false
+
+abbrev pub watched_by : Option Text → Option Text → Option Watched
+watched_by (Some catalog) (Some trace) = Some (record { catalog = catalog; trace = trace })
+watched_by catalog trace = None
+
+-- a catalog, a trace, a script and names: behind a trace, the first file is the one with the names
+abbrev pub paged_by : Option Text → Option Text → Option Text → Option Text → Option Paged
+paged_by (Some catalog) None (Some run) names = Some (record { catalog = catalog; run = run; is_trace = false; names = names })
+paged_by (Some catalog) (Some run) names None = Some (record { catalog = catalog; run = run; is_trace = true; names = names })
+paged_by catalog trace script names = None
+
+abbrev pub linted_by : Option Text → Option Text → Option Text → Option Linted
+linted_by (Some catalog) script json = Some (record { catalog = catalog; script = script; is_json = is_given json })
+linted_by None script json = None
+
+abbrev pub seen_by : Option Text → Option Text → Option Text → Option Seen
+seen_by (Some log) folder json = Some (record { log = log; folder = folder; is_json = is_given json })
+seen_by None folder json = None
+
+-- what the values ask for, unless the words are at fault
+abbrev pub unless : {Z : Type 0} → Kinds → Option Z → Option Z
+unless [] asked = asked
+unless (kind ∷ kinds) asked = None
+
+abbrev pub watched_in : List Row → Option Watched
+watched_in rows = watched_by (first_of (codes "CATALOG") rows) (first_of (codes "TRACE") rows)
+
+abbrev pub paged_in : List Row → Option Paged
+paged_in rows = paged_by (first_of (codes "CATALOG") rows) (first_of (codes "TRACE") rows) (first_of (codes "SCRIPT") rows) (first_of (codes "NAMES") rows)
+
+abbrev pub linted_in : List Row → Option Linted
+linted_in rows = linted_by (first_of (codes "CATALOG") rows) (first_of (codes "SCRIPT") rows) (first_of (codes "JSON") rows)
+
+abbrev pub seen_in : List Row → Option Seen
+seen_in rows = seen_by (first_of (codes "LOG") rows) (first_of (codes "FOLDER") rows) (first_of (codes "JSON") rows)
+
+abbrev pub watch_asked : List Text → Option Watched
+watch_asked words = unless (fault_of watch_app words) (watched_in (matches_of watch_app words))
+
+abbrev pub page_asked : List Text → Option Paged
+page_asked words = unless (fault_of page_app words) (paged_in (matches_of page_app words))
+
+abbrev pub lint_asked : List Text → Option Linted
+lint_asked words = unless (fault_of lint_app words) (linted_in (matches_of lint_app words))
+
+abbrev pub see_asked : List Text → Option Seen
+see_asked words = unless (fault_of see_app words) (seen_in (matches_of see_app words))
+
+abbrev pub watch_meaning : WatchWords → Watched
+watch_meaning words = record { catalog = words.catalog.now; trace = words.trace.now }
+
+abbrev pub page_meaning : PageWords → Paged
+page_meaning words = record { catalog = words.catalog.now; run = words.run.now; is_trace = words.is_trace; names = option_map (λ names. names.now) words.names }
+
+abbrev pub lint_meaning : LintWords → Linted
+lint_meaning words = record { catalog = words.catalog.now; script = option_map (λ script. script.now) words.script; is_json = words.is_json }
+
+abbrev pub see_meaning : SeeWords → Seen
+see_meaning words = record { log = words.log.now; folder = option_map (λ folder. folder.now) words.folder; is_json = words.is_json }
+
+-- help is written only where the words ask for it, and words are refused only where they ask for nothing, not even for help
+abbrev pub Ends : {Z : Type 0} → Kinds → Option Z → Ending → Type 0
+Ends kinds asked (Help error) = IsAmong DisplayHelp kinds
+Ends kinds asked Refused = (asked ≡ None) × (kinds ≢ DisplayHelp ∷ [])
+Ends kinds asked NoMemory = ⊤
+
+-- the same by the status with which the program ends
+abbrev pub EndsWith : {Z : Type 0} → Kinds → Option Z → ℕ → Type 0
+EndsWith kinds asked status = ((status ≡ 0) × IsAmong DisplayHelp kinds) ⊎ ((status ≡ 1) ⊎ ((status ≡ 2) × ((asked ≡ None) × (kinds ≢ DisplayHelp ∷ []))))
+
+abbrev pub status_of : Ending → ℕ
+status_of (Help error) = 0
+status_of Refused = 2
+status_of NoMemory = 1
+
+-- why the reader of words refuses them
+abbrev pub EndsBy : Kinds → Ending → Type 0
+EndsBy kinds (Help error) = IsAmong DisplayHelp kinds
+EndsBy kinds Refused = (kinds ≢ []) × (kinds ≢ DisplayHelp ∷ [])
+EndsBy kinds NoMemory = ⊤

@@ -1,0 +1,55 @@
+-- The command of each program, as the reader of words has it.
+use Rattle.std.specs.Prelude.{◌≡◌, true, false, codes, Some}
+use Rattle.clap.specs.Words.{App, Rule, Text, app_of, new_app, new_rule, rule_of, with_rule}
+use Rattle.clap.specs.declared.builder.action.ArgAction.TheVariants.{SetTrue}
+use Rattle.clap.specs.declared.builder.arg.Arg.{Arg}
+use Rattle.clap.specs.declared.builder.command.Command.{Command}
+use Rattle.klp_arguments.specs.declared.program.Program.{Program}
+use Rattle.klp_arguments.specs.declared.program.Program.TheVariants.{Klpwatch, Klppage, Klplint, Klpsee}
+
+abbrev pub name_of : Program → Text
+name_of Klpwatch = codes "klpwatch"
+name_of Klppage = codes "klppage"
+name_of Klplint = codes "klplint"
+name_of Klpsee = codes "klpsee"
+
+-- a program without arguments. The words are those behind its name
+abbrev pub bare : Text → App
+bare name = record (new_app name) { top = record (new_app name).top { no_binary_name = true } }
+
+abbrev pub required : Text → Rule
+required id = record (new_rule id) { required = true }
+
+abbrev pub trace : Rule
+trace = record (new_rule (codes "TRACE")) { long = Some (codes "trace") }
+
+-- `o` is 111
+abbrev pub folder : Rule
+folder = record (new_rule (codes "FOLDER")) { short = Some 111 }
+
+-- an option that is given or not
+abbrev pub json : Rule
+json = record (new_rule (codes "JSON")) { long = Some (codes "json"); action = Some SetTrue }
+
+abbrev pub watch_app : App
+watch_app = with_rule (with_rule (bare (codes "klpwatch")) (required (codes "CATALOG"))) (required (codes "TRACE"))
+
+abbrev pub page_app : App
+page_app =
+    let catalog = with_rule (bare (codes "klppage")) (required (codes "CATALOG")) in
+    with_rule (with_rule (with_rule catalog (new_rule (codes "SCRIPT"))) (new_rule (codes "NAMES"))) trace
+
+abbrev pub lint_app : App
+lint_app = with_rule (with_rule (with_rule (bare (codes "klplint")) (required (codes "CATALOG"))) (new_rule (codes "SCRIPT"))) json
+
+abbrev pub see_app : App
+see_app = with_rule (with_rule (with_rule (bare (codes "klpsee")) (required (codes "LOG"))) folder) json
+
+-- the command is this one
+abbrev pub IsCommand : Command → App → Type 0
+IsCommand command app = app_of command ≡ app
+
+-- the argument is read by this rule, and holds for the program alone
+pub record IsArg (arg : Arg) (rule : Rule) : Type 0 where
+  pub is_rule : rule_of arg ≡ rule
+  pub local : arg.global ≡ false

@@ -1,0 +1,39 @@
+//! What the arguments of each program ask for.
+
+/// The files of `klpwatch`.
+#[derive(Clone, Copy)]
+pub struct WatchWords<'a> {
+    pub catalog: &'a str,
+    pub trace: &'a str,
+}
+
+/// The files of `klppage`.
+#[derive(Clone, Copy)]
+pub struct PageWords<'a> {
+    pub catalog: &'a str,
+    /// The path of the script or the trace.
+    pub run: &'a str,
+    pub is_trace: bool,
+    /// The path of the file with the names of tasks and the times of lines.
+    pub names: Option<&'a str>,
+}
+
+/// What `klplint` judges, and in which form it answers.
+#[derive(Clone, Copy)]
+pub struct LintWords<'a> {
+    pub catalog: &'a str,
+    /// The path of the script that comes before.
+    pub script: Option<&'a str>,
+    /// Whether the answer is for programs.
+    pub is_json: bool,
+}
+
+/// What `klpsee` explains, and where its answer goes.
+#[derive(Clone, Copy)]
+pub struct SeeWords<'a> {
+    pub log: &'a str,
+    /// The path of the folder for files, if one is given.
+    pub folder: Option<&'a str>,
+    /// Whether the answer is for programs.
+    pub is_json: bool,
+}

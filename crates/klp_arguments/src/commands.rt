@@ -1,0 +1,132 @@
+//! The command of each program, by which `clap` reads its arguments and writes its help.
+ghost use Rattle.std.specs.Prelude.{◌≡◌, IfOk};
+ghost use Rattle.clap.specs.Words.{app_of, new_rule};
+ghost use Rattle.klp_arguments.specs.Commands.{bare, folder, json, lint_app, name_of, page_app, required, see_app};
+ghost use Rattle.klp_arguments.specs.Commands.{trace, watch_app, IsArg, IsCommand};
+
+use crate::program::Program;
+use clap::{Arg, ArgAction, Command};
+use std::alloc::{AllocError, Global};
+
+pub(crate) const CATALOG: &str = "CATALOG";
+
+pub(crate) const TRACE: &str = "TRACE";
+
+/// The script of `klppage`, or, behind a trace, the names.
+pub(crate) const SCRIPT: &str = "SCRIPT";
+
+pub(crate) const NAMES: &str = "NAMES";
+
+pub(crate) const LOG: &str = "LOG";
+
+pub(crate) const FOLDER: &str = "FOLDER";
+
+pub(crate) const JSON: &str = "JSON";
+
+// Returns the command of a program, without arguments. Its words are those behind the program's name.
+fn command_of<'a>(alloc: Global, program: Program) -> Command<'a>
+    ensures { app_of result ≡ bare (name_of program) }
+{
+    Command::new(alloc, program.name())
+        .no_binary_name(true)
+        .about(program.about())
+        .override_usage(program.usage())
+        .after_help(program.more())
+}
+
+// Returns a file that may be left out.
+fn file<'a>(alloc: Global, id: &'a str, help: &'a str) -> Arg<'a>
+    ensures { IsArg result (new_rule id.now) }
+{
+    Arg::new(alloc, id).help(help)
+}
+
+// Returns a file that is needed.
+fn needed<'a>(alloc: Global, id: &'a str, help: &'a str) -> Arg<'a>
+    ensures { IsArg result (required id.now) }
+{
+    Arg::new(alloc, id).required(true).help(help)
+}
+
+// Returns the catalog, which each program but klpsee needs.
+fn catalog<'a>(alloc: Global) -> Arg<'a>
+    ensures { IsArg result (required CATALOG.now) }
+{
+    needed(alloc, CATALOG, "The file with the catalog")
+}
+
+// Returns the option for a trace in place of a script.
+fn trace<'a>(alloc: Global) -> Arg<'a>
+    ensures { IsArg result trace }
+{
+    Arg::new(alloc, TRACE)
+        .long("trace")
+        .help("The file with the trace, in place of a script")
+}
+
+// Returns the option for a folder.
+fn folder<'a>(alloc: Global) -> Arg<'a>
+    ensures { IsArg result folder }
+{
+    Arg::new(alloc, FOLDER).short('o').help(
+        "The folder for a catalog, a trace, names and a page of the run",
+    )
+}
+
+// Returns the option for an answer to programs. It has no value.
+fn json<'a>(alloc: Global) -> Arg<'a>
+    ensures { IsArg result json }
+{
+    Arg::new(alloc, JSON)
+        .long("json")
+        .action(ArgAction::SetTrue)
+        .help("Answer for programs")
+}
+
+/// Returns the command of klpwatch.
+pub(crate) fn watch_command<'a>(alloc: Global) -> Result<Command<'a>, AllocError>
+    ensures { IfOk result (λ command. IsCommand command watch_app) }
+{
+    command_of(alloc, Program::Klpwatch)
+        .arg(catalog(alloc))?
+        .arg(needed(alloc, TRACE, "The file with the trace"))
+}
+
+/// Returns the command of klppage.
+pub(crate) fn page_command<'a>(alloc: Global) -> Result<Command<'a>, AllocError>
+    ensures { IfOk result (λ command. IsCommand command page_app) }
+{
+    command_of(alloc, Program::Klppage)
+        .arg(catalog(alloc))?
+        .arg(file(
+            alloc,
+            SCRIPT,
+            "The file with the script, unless there is a trace",
+        ))?
+        .arg(file(
+            alloc,
+            NAMES,
+            "The file with names of tasks and times of lines",
+        ))?
+        .arg(trace(alloc))
+}
+
+/// Returns the command of klplint.
+pub(crate) fn lint_command<'a>(alloc: Global) -> Result<Command<'a>, AllocError>
+    ensures { IfOk result (λ command. IsCommand command lint_app) }
+{
+    command_of(alloc, Program::Klplint)
+        .arg(catalog(alloc))?
+        .arg(file(alloc, SCRIPT, "The file with lines that are answered first"))?
+        .arg(json(alloc))
+}
+
+/// Returns the command of klpsee.
+pub(crate) fn see_command<'a>(alloc: Global) -> Result<Command<'a>, AllocError>
+    ensures { IfOk result (λ command. IsCommand command see_app) }
+{
+    command_of(alloc, Program::Klpsee)
+        .arg(needed(alloc, LOG, "The file with the log of klpcap"))?
+        .arg(folder(alloc))?
+        .arg(json(alloc))
+}

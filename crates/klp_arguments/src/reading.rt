@@ -1,0 +1,271 @@
+//! Reads the arguments of each program.
+ghost use Rattle.std.specs.Prelude.{◌≡◌, ◌⊎◌, [], true, map, option_map, string_bytes, Some, IfErr, MatchResult};
+ghost use Rattle.clap.specs.Words.{app_of, fault_of, first_of, found_of, is_simple, is_simple_and_free, matches_of, rows_of};
+ghost use Rattle.klp_arguments.specs.Asked.{is_given, lint_asked, page_asked, see_asked, watch_asked, Ends, EndsBy, EndsWith};
+ghost use Rattle.klp_arguments.specs.Asked.{lint_meaning, page_meaning, see_meaning, watch_meaning};
+ghost use Rattle.klp_arguments.specs.Asked.{linted_in, paged_in, seen_in, watched_in};
+ghost use Rattle.klp_arguments.specs.Commands.{lint_app, page_app, see_app, watch_app};
+
+use crate::asked::{LintWords, PageWords, SeeWords, WatchWords};
+use crate::commands::{
+    CATALOG, FOLDER, JSON, LOG, NAMES, SCRIPT, TRACE, lint_command, page_command, see_command,
+    watch_command,
+};
+use crate::ending::Ending;
+use crate::program::Program;
+use clap::error::ErrorKind as WordsErrorKind;
+use clap::{ArgMatches, Command};
+use std::alloc::Global;
+use std::io::{ErrorKind, Write};
+use std::rt::Env;
+use std::{env, io};
+
+// Returns the arguments of the program. Returns `Err` if an argument isn't text, or if memory runs out.
+fn words<R: Env + AllocGlobal>(rt: &R) -> io::Result<Vec<String>> {
+    let mut given = Vec::new(rt.alloc());
+    for word in env::args(rt)?.skip(1) {
+        given.push(word)?;
+    }
+    Ok(given)
+}
+
+/// Returns the arguments of the program. If an argument isn't text, or if memory runs out, writes a line to `err` and
+/// returns the exit status as `Err`: 2 for a refused argument, and 1 for lack of memory.
+pub fn given_words<R: Env + AllocGlobal, W: Write, E: Write>(
+    rt: &R,
+    program: Program,
+    out: &mut W,
+    err: &mut E,
+) -> Result<Vec<String>, u8>
+    ensures { IfErr result (λ status. (status ≡ 1) ⊎ (status ≡ 2)) }
+{
+    match words(rt) {
+        Ok(given) => Ok(given),
+        Err(error) if error.kind() == ErrorKind::OutOfMemory => {
+            Err(Ending::NoMemory.report(program, out, err))
+        }
+        Err(_) => Err(Ending::Refused.report(program, out, err)),
+    }
+}
+
+// Matches the arguments with a command.
+fn matches_in<'a>(command: Command<'a>, given: &'a [String]) -> Result<ArgMatches<'a>, Ending>
+    requires walked { is_simple (app_of command) ≡ true }
+    requires judged { is_simple_and_free (app_of command) ≡ true }
+    ensures { MatchResult result
+        (λ matches. (fault_of (app_of command.entry) (map string_bytes given.now) ≡ [])
+        × (rows_of (found_of matches) ≡ matches_of (app_of command.entry) (map string_bytes given.now)))
+        (λ ending. EndsBy (fault_of (app_of command.entry) (map string_bytes given.now)) ending) }
+{
+    match command.try_get_matches_from(given) {
+        Ok(matches) => Ok(matches),
+        Err(error) => Err(match error.kind() {
+            WordsErrorKind::DisplayHelp => Ending::Help(error),
+            WordsErrorKind::OutOfMemory => Ending::NoMemory,
+            _ => Ending::Refused,
+        }),
+    }
+}
+
+// Returns the value of an argument.
+fn value_of<'a>(matches: &ArgMatches<'a>, name: &str) -> Option<&'a str>
+    ensures { option_map (λ value. value.now) result ≡ first_of name.now (rows_of (found_of matches.now)) }
+{
+    matches.get_str(name)
+}
+
+// Whether an option without a value is given.
+fn is_given(matches: &ArgMatches<'_>, name: &str) -> bool
+    ensures { result ≡ is_given (first_of name.now (rows_of (found_of matches.now))) }
+{
+    match value_of(matches, name) {
+        Some(value) => value == "true",
+        None => false,
+    }
+}
+
+// Returns the files of klpwatch. Returns `None` if one is missing.
+fn watched<'a>(matches: &ArgMatches<'a>) -> Option<WatchWords<'a>>
+    ensures { option_map watch_meaning result ≡ watched_in (rows_of (found_of matches.now)) }
+{
+    match (value_of(matches, CATALOG), value_of(matches, TRACE)) {
+        (Some(catalog), Some(trace)) => Some(WatchWords { catalog, trace }),
+        _ => None,
+    }
+}
+
+// Returns what the arguments of klpwatch ask for.
+fn watch_asked<'a>(alloc: Global, given: &'a [String]) -> Result<WatchWords<'a>, Ending>
+    ensures { MatchResult result (λ asked. watch_asked (map string_bytes given.now) ≡ Some (watch_meaning asked))
+        (λ ending. Ends (fault_of watch_app (map string_bytes given.now)) (watch_asked (map string_bytes given.now)) ending) }
+{
+    match matches_in(watch_command(alloc)?, given) {
+        Ok(matches) => match watched(&matches) {
+            Some(asked) => Ok(asked),
+            None => Err(Ending::Refused),
+        },
+        Err(ending) => Err(ending),
+    }
+}
+
+// Returns the files of klppage. Behind a trace, the names are in the place of the script. Returns `None` if one is missing.
+fn paged<'a>(matches: &ArgMatches<'a>) -> Option<PageWords<'a>>
+    ensures { option_map page_meaning result ≡ paged_in (rows_of (found_of matches.now)) }
+{
+    let (script, names) = (value_of(matches, SCRIPT), value_of(matches, NAMES));
+    match (
+        value_of(matches, CATALOG),
+        value_of(matches, TRACE),
+        script,
+        names,
+    ) {
+        (Some(catalog), None, Some(run), names) => Some(PageWords {
+            catalog,
+            run,
+            is_trace: false,
+            names,
+        }),
+        (Some(catalog), Some(run), names, None) => Some(PageWords {
+            catalog,
+            run,
+            is_trace: true,
+            names,
+        }),
+        _ => None,
+    }
+}
+
+// Returns what the arguments of klppage ask for.
+fn page_asked<'a>(alloc: Global, given: &'a [String]) -> Result<PageWords<'a>, Ending>
+    ensures { MatchResult result (λ asked. page_asked (map string_bytes given.now) ≡ Some (page_meaning asked))
+        (λ ending. Ends (fault_of page_app (map string_bytes given.now)) (page_asked (map string_bytes given.now)) ending) }
+{
+    match matches_in(page_command(alloc)?, given) {
+        Ok(matches) => match paged(&matches) {
+            Some(asked) => Ok(asked),
+            None => Err(Ending::Refused),
+        },
+        Err(ending) => Err(ending),
+    }
+}
+
+// Returns what klplint is to judge, and the form of its answer. Returns `None` if one is missing.
+fn linted<'a>(matches: &ArgMatches<'a>) -> Option<LintWords<'a>>
+    ensures { option_map lint_meaning result ≡ linted_in (rows_of (found_of matches.now)) }
+{
+    match value_of(matches, CATALOG) {
+        Some(catalog) => Some(LintWords {
+            catalog,
+            script: value_of(matches, SCRIPT),
+            is_json: is_given(matches, JSON),
+        }),
+        None => None,
+    }
+}
+
+// Returns what the arguments of klplint ask for.
+fn lint_asked<'a>(alloc: Global, given: &'a [String]) -> Result<LintWords<'a>, Ending>
+    ensures { MatchResult result (λ asked. lint_asked (map string_bytes given.now) ≡ Some (lint_meaning asked))
+        (λ ending. Ends (fault_of lint_app (map string_bytes given.now)) (lint_asked (map string_bytes given.now)) ending) }
+{
+    match matches_in(lint_command(alloc)?, given) {
+        Ok(matches) => match linted(&matches) {
+            Some(asked) => Ok(asked),
+            None => Err(Ending::Refused),
+        },
+        Err(ending) => Err(ending),
+    }
+}
+
+// Returns what klpsee is to explain, and where its answer goes. Returns `None` if one is missing.
+fn seen<'a>(matches: &ArgMatches<'a>) -> Option<SeeWords<'a>>
+    ensures { option_map see_meaning result ≡ seen_in (rows_of (found_of matches.now)) }
+{
+    match value_of(matches, LOG) {
+        Some(log) => Some(SeeWords {
+            log,
+            folder: value_of(matches, FOLDER),
+            is_json: is_given(matches, JSON),
+        }),
+        None => None,
+    }
+}
+
+// Returns what the arguments of klpsee ask for.
+fn see_asked<'a>(alloc: Global, given: &'a [String]) -> Result<SeeWords<'a>, Ending>
+    ensures { MatchResult result (λ asked. see_asked (map string_bytes given.now) ≡ Some (see_meaning asked))
+        (λ ending. Ends (fault_of see_app (map string_bytes given.now)) (see_asked (map string_bytes given.now)) ending) }
+{
+    match matches_in(see_command(alloc)?, given) {
+        Ok(matches) => match seen(&matches) {
+            Some(asked) => Ok(asked),
+            None => Err(Ending::Refused),
+        },
+        Err(ending) => Err(ending),
+    }
+}
+
+/// Reads the arguments of klpwatch. If they ask for help, writes it to `out`. If they are refused, or if memory runs
+/// out, writes a line to `err`. Then returns the exit status as `Err`.
+pub fn watch_words<'a, W: Write, E: Write>(
+    alloc: Global,
+    given: &'a [String],
+    out: &mut W,
+    err: &mut E,
+) -> Result<WatchWords<'a>, u8>
+    ensures { MatchResult result (λ asked. watch_asked (map string_bytes given.now) ≡ Some (watch_meaning asked))
+        (λ status. EndsWith (fault_of watch_app (map string_bytes given.now)) (watch_asked (map string_bytes given.now)) status) }
+{
+    match watch_asked(alloc, given) {
+        Ok(asked) => Ok(asked),
+        Err(ending) => Err(ending.report(Program::Klpwatch, out, err)),
+    }
+}
+
+/// Reads the arguments of klppage, as [`watch_words`] does those of klpwatch.
+pub fn page_words<'a, W: Write, E: Write>(
+    alloc: Global,
+    given: &'a [String],
+    out: &mut W,
+    err: &mut E,
+) -> Result<PageWords<'a>, u8>
+    ensures { MatchResult result (λ asked. page_asked (map string_bytes given.now) ≡ Some (page_meaning asked))
+        (λ status. EndsWith (fault_of page_app (map string_bytes given.now)) (page_asked (map string_bytes given.now)) status) }
+{
+    match page_asked(alloc, given) {
+        Ok(asked) => Ok(asked),
+        Err(ending) => Err(ending.report(Program::Klppage, out, err)),
+    }
+}
+
+/// Reads the arguments of klplint, as [`watch_words`] does those of klpwatch.
+pub fn lint_words<'a, W: Write, E: Write>(
+    alloc: Global,
+    given: &'a [String],
+    out: &mut W,
+    err: &mut E,
+) -> Result<LintWords<'a>, u8>
+    ensures { MatchResult result (λ asked. lint_asked (map string_bytes given.now) ≡ Some (lint_meaning asked))
+        (λ status. EndsWith (fault_of lint_app (map string_bytes given.now)) (lint_asked (map string_bytes given.now)) status) }
+{
+    match lint_asked(alloc, given) {
+        Ok(asked) => Ok(asked),
+        Err(ending) => Err(ending.report(Program::Klplint, out, err)),
+    }
+}
+
+/// Reads the arguments of klpsee, as [`watch_words`] does those of klpwatch.
+pub fn see_words<'a, W: Write, E: Write>(
+    alloc: Global,
+    given: &'a [String],
+    out: &mut W,
+    err: &mut E,
+) -> Result<SeeWords<'a>, u8>
+    ensures { MatchResult result (λ asked. see_asked (map string_bytes given.now) ≡ Some (see_meaning asked))
+        (λ status. EndsWith (fault_of see_app (map string_bytes given.now)) (see_asked (map string_bytes given.now)) status) }
+{
+    match see_asked(alloc, given) {
+        Ok(asked) => Ok(asked),
+        Err(ending) => Err(ending.report(Program::Klpsee, out, err)),
+    }
+}

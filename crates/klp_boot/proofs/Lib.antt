@@ -1,0 +1,3 @@
+pub mod BootedLemmas
+pub mod BoxLemmas
+pub mod OverLemmas

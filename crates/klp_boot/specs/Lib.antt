@@ -1,0 +1,3 @@
+pub mod Booted
+pub mod Kinds
+pub mod Over

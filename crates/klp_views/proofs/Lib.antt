@@ -1,2 +1,0 @@
-pub mod StayLemmas
-pub mod ViewLemmas

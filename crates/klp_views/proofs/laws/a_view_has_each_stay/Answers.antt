@@ -1,5 +1,0 @@
-use Rattle.klp_views.proofs.StayLemmas.{stay_seen}
-use Rattle.klp_views.proofs.laws.a_view_has_each_stay.Goals as goal
-
-pub returns : goal.returns
-returns c = stay_seen

@@ -1,0 +1,140 @@
+//! The program `klppage`. It boots a manager over a catalog, serves a script or plays a trace, and writes a page of the
+//! run to standard output. A file of names may say what tasks are called, and when lines were. What is wrong, and where,
+//! goes to standard error.
+#![tactic(auto)]
+
+use klp_arguments::{PageWords, Program, given_words, page_words};
+use klp_boot::Fault;
+use klp_diagnostics::{FileKind, FileText, Inputs, file_in};
+use klp_names::{Misread, Names, NamesFault};
+use klp_page::write_page;
+use klp_trace_page::{timed_names, write_trace_page};
+use std::alloc::Global;
+use std::io;
+use std::io::{Input, Write};
+
+/// The name of the program in its messages.
+const NAME: &str = "klppage";
+
+/// The exit status of a fault.
+const FAULT: u8 = 1;
+
+/// Returns the last part of a path.
+fn file_name(path: &str) -> &str {
+    match path.rsplit_once('/') {
+        Some((_, name)) => name,
+        None => path,
+    }
+}
+
+/// Writes the page of a script or a trace to `out`.
+fn write<W: Write>(
+    alloc: Global,
+    inputs: &Inputs<'_>,
+    names: &Names,
+    out: &mut W,
+) -> Result<(), Fault> {
+    let name = file_name(inputs.second.name).as_bytes();
+    let (catalog, run) = (inputs.catalog.bytes, inputs.second.bytes);
+    match inputs.kind {
+        FileKind::Script => write_page(alloc, catalog, name, names, run, out),
+        FileKind::Trace => write_trace_page(alloc, catalog, name, names, run, out),
+    }
+}
+
+/// Writes hints at the inputs to `err`, and the page to `out`. If there is a fault, writes what is wrong to `err`.
+/// Returns the exit status.
+fn show<W: Write, E: Write>(
+    alloc: Global,
+    inputs: &Inputs<'_>,
+    names: &Names,
+    out: &mut W,
+    err: &mut E,
+) -> u8 {
+    inputs.hint(err);
+    if matches!(inputs.kind, FileKind::Script) {
+        inputs.hint_line(alloc, err);
+    }
+    match write(alloc, inputs, names, out) {
+        Ok(()) => 0,
+        Err(fault) => inputs.print_fault(alloc, fault, err),
+    }
+}
+
+/// Reads the names of this text. If there is a trace, adds the times of its lines.
+fn names_of(alloc: Global, text: &[u8], trace: Option<&[u8]>) -> Result<Names, NamesFault> {
+    let names = Names::read(alloc, text)?;
+    match trace {
+        Some(trace) => Ok(timed_names(alloc, text, trace).unwrap_or(names)),
+        None => Ok(names),
+    }
+}
+
+/// Reads the file of names, if one is given, and adds the times of the trace, if there is one. If the file can't be
+/// read or has a faulty line, writes that to `err`, and returns the exit status as `Err`.
+fn names_in<E: Write>(
+    rt: &HostRuntime,
+    file: Option<&str>,
+    trace: Option<&[u8]>,
+    err: &mut E,
+) -> Result<Names, u8> {
+    let (file, text) = match file {
+        Some(file) => (file, file_in(rt, NAME, file, err)?),
+        None => ("", Vec::new(rt.alloc())),
+    };
+    match names_of(rt.alloc(), &text, trace) {
+        Ok(names) => Ok(names),
+        Err(fault) => {
+            let misread = Misread {
+                file,
+                text: &text,
+                fault,
+            };
+            let _ = writeln!(err, "{NAME}: {misread}");
+            Err(FAULT)
+        }
+    }
+}
+
+/// Returns the kind of the second file: a script or a trace.
+fn kind_of(files: PageWords<'_>) -> FileKind {
+    if files.is_trace {
+        FileKind::Trace
+    } else {
+        FileKind::Script
+    }
+}
+
+// Returns the program's exit status. Returns it as `Err` if the arguments are refused, or if a file can't be read.
+fn status_in(rt: &HostRuntime) -> Result<u8, u8> {
+    let (mut out, mut err) = (io::writer(rt), rt.stderr());
+    let given = given_words(rt, Program::Klppage, &mut out, &mut err)?;
+    let files = page_words(rt.alloc(), &given, &mut out, &mut err)?;
+    let catalog = file_in(rt, NAME, files.catalog, &mut err)?;
+    let run = file_in(rt, NAME, files.run, &mut err)?;
+    let trace = if files.is_trace {
+        Some(run.as_slice())
+    } else {
+        None
+    };
+    let names = names_in(rt, files.names, trace, &mut err)?;
+    let inputs = Inputs {
+        program: NAME,
+        catalog: FileText {
+            name: files.catalog,
+            bytes: &catalog,
+        },
+        second: FileText {
+            name: files.run,
+            bytes: &run,
+        },
+        kind: kind_of(files),
+    };
+    Ok(show(rt.alloc(), &inputs, &names, &mut out, &mut err))
+}
+
+/// Runs the program, and returns the exit status.
+pub fn run(rt: &HostRuntime) -> u8 {
+    let (Ok(status) | Err(status)) = status_in(rt);
+    status
+}

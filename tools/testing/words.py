@@ -1,0 +1,131 @@
+"""The words behind a program's name: which are refused, which ask for help, and which mean the same."""
+import functools
+import re
+import tempfile
+
+from testing.run import TOP, built_program, fault, finish, read, run, start
+
+# How the programs are called. The synopsis of each man page says the same.
+USAGE = {
+    "klpwatch": "klpwatch CATALOG TRACE",
+    "klppage": "klppage CATALOG SCRIPT|--trace TRACE [NAMES]",
+    "klplint": "klplint [--json] CATALOG [SCRIPT]",
+    "klpsee": "klpsee LOG [-o FOLDER] [--json]",
+}
+REFUSED = {
+    "klpsim": [
+        ("-h",), ("--help",), ("help",), ("-V",), ("",), ("con",), ("k.catalog",), ("--help", "console"), ("console", "--help"),
+        ("console", "k.catalog", "-x"), ("console", "k.catalog", "k1.catalog"), ("live",), ("live", "k1.catalog"),
+        ("live", "k1.catalog", "live_two_versions.steps", "x"), ("live", "-h", "x"), (b"\xff",),
+    ],
+    "klpwatch": [(), ("x",), ("x", "y", "z"), ("x", "-y"), ("-x", "y"), ("x", "y", "-V"), ("--", "x"), (b"\xff", "y")],
+    "klppage": [
+        (), ("x",), ("x", "y", "z", "w"), ("x", "-y"), ("x", "--trace"), ("--trace", "y"), ("x", "--trace", "-y"), ("x", "--trace", "y", "z", "w"),
+        ("x", "--trace", "y", "--trace", "y"), ("x", b"\xff"),
+    ],
+    "klplint": [(), ("--json",), ("x", "y", "z"), ("x", "-y"), ("--json", "--json", "x"), ("--json=x", "x"), ("x", "-o", "y"), (b"\xff",)],
+    "klpsee": [
+        (), ("x", "y"), ("x", "-o"), ("x", "-o", "-y"), ("x", "-y"), ("-o", "y"), ("x", "-o", "y", "-o", "z"), ("x", "--json", "--json"),
+        ("x", "-o", "y", "z"), (b"\xff",),
+    ],
+}
+# Words that mean the same, in each line those in front.
+ALIKE = {
+    "klpwatch": [(("k.catalog", "watched.trace"), ("--", "k.catalog", "watched.trace"))],
+    "klppage": [
+        (("pages/capture.catalog", "pages/capture.script", "pages/capture.names"), ("--", "pages/capture.catalog", "pages/capture.script", "pages/capture.names")),
+        (
+            ("pages/kernel.catalog", "--trace", "pages/kernel.trace", "pages/kernel.names"),
+            ("--trace", "pages/kernel.trace", "pages/kernel.catalog", "pages/kernel.names"),
+            ("pages/kernel.catalog", "pages/kernel.names", "--trace=pages/kernel.trace"),
+        ),
+        (("pages/kernel.catalog", "--trace", "pages/kernel.trace"), ("--trace", "pages/kernel.trace", "pages/kernel.catalog")),
+    ],
+    "klplint": [
+        (("--json", "lint/clean.catalog"), ("lint/clean.catalog", "--json")),
+        (("--json", "lint/trace.catalog", "lint/trace.script"), ("lint/trace.catalog", "--json", "lint/trace.script")),
+    ],
+    "klpsee": [(("captures/enable.log", "--json"), ("--json", "captures/enable.log"))],
+}
+# By which path one program is which.
+CALLED = {
+    "klpsim": ("klpsim", "/usr/bin/klpsim", "program", "", "an_klpsee", "klpsee/", "klpsee.old", "klpse"),
+    "klpwatch": ("klpwatch", "./klpwatch", "/a folder/klpwatch"),
+    "klppage": ("klppage", "/klppage"),
+    "klplint": ("klplint", "klpsee/klplint"),
+    "klpsee": ("klpsee", "../klpsee"),
+}
+
+
+def said(name):
+    """What a program says on standard error of words that it refuses."""
+    return f"{name}: usage: {USAGE[name]} (man {name})\n" if name in USAGE else f"{name}: usage\n"
+
+
+def refused(name, words):
+    return fault(run([name, *words]), (2, b"", said(name)))
+
+
+def helped(name, words):
+    """Help is on standard output, and has the usage."""
+    status, out, err = run([name, *words])
+    usage = re.search(r"^Usage: (.*)$", out.decode(), re.M)
+    return fault((status, usage and usage[1], err), (0, USAGE[name], ""))
+
+
+def alike(name, first, *others):
+    """What the first words come to, all others come to as well."""
+    wanted = run([name, *first])
+    wrong = [fault(run([name, *words]), wanted) for words in others]
+    return "; ".join(filter(None, wrong)) or (f"status {wanted[0]}" if wanted[0] not in (0, 3) else None)
+
+
+def in_folder(*words):
+    """The files of a log go to the folder that is named, wherever that is."""
+    with tempfile.TemporaryDirectory(prefix="words-") as room:
+        came = run(["klpsee", *(room if it == "FOLDER" else it for it in words)])
+        with open(f"{room}/run.trace", "rb") as it:
+            return fault(came, (0, read("captures/enable.output"), "")) or (None if it.read() else "no trace")
+
+
+def escaped(name, *words):
+    """A path can't control a terminal."""
+    status, out, err = run([name, *words])
+    is_well = (status, out) == (1, b"") and "\x1b" not in err and "\\u{1b}" in err
+    return None if is_well else f"{status}, {out} and {err!r}"
+
+
+def called(name, path):
+    """The one program is the one that it is called as."""
+    return fault(finish(start([path, "-x"], executable=built_program())), (2, b"", said(name)))
+
+
+def synopsis(name):
+    """The synopsis of a man page, as a terminal shows it."""
+    with open(f"{TOP}/man/{name}.1", encoding="utf-8") as it:
+        lines = re.search(r"^\.SH SYNOPSIS\n(.*?)^\.SH", it.read(), re.M | re.S)[1].splitlines()
+    words = []
+    for line in lines:
+        macro, _, rest = line.partition(" ")
+        rest = re.sub(r"\\f.", "", rest).replace("\\-", "-")
+        words.append("".join(rest.split()) if len(macro) == 3 else rest)
+    return " ".join(words)
+
+
+def documented(name):
+    return fault((synopsis(name),), (USAGE[name],))
+
+
+def cases():
+    made = {f"{name}, the words {words}": (refused, name, words) for name, lists in REFUSED.items() for words in lists}
+    for name in USAGE:
+        made.update({f"{name}, help by {words}": (helped, name, words) for words in (("--help",), ("-h",), ("x", "--help"), ("--help", "x", "y"))})
+        made[f"{name}, the synopsis"] = (documented, name)
+    made.update({f"{name}, the words {words[1:]}": (alike, name, *words) for name, lists in ALIKE.items() for words in lists})
+    made.update({f"a program called {path!r}": (called, name, path) for name, paths in CALLED.items() for path in paths})
+    log = "captures/enable.log"
+    made.update({f"klpsee, the words {words}": (in_folder, *words) for words in ((log, "-o", "FOLDER"), ("-o", "FOLDER", log))})
+    odd = "\x1b[2J"
+    paths = (("klpwatch", odd, "x"), ("klpwatch", "k.catalog", odd), ("klppage", odd, "x"), ("klplint", odd), ("klplint", "k.catalog", odd), ("klpsee", odd))
+    made.update({f"{words[0]}, a path that would control a terminal, {words[1:]!r}": (escaped, *words) for words in paths})
+    return [(name, functools.partial(*call)) for name, call in made.items()]
