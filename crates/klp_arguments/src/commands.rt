@@ -12,7 +12,7 @@ pub(crate) const CATALOG: &str = "CATALOG";
 
 pub(crate) const TRACE: &str = "TRACE";
 
-/// The script of `klppage`, or, behind a trace, the names.
+/// The script of `klppage` or `klplint`. If `klppage` has a trace, the file in this place is the one with the names.
 pub(crate) const SCRIPT: &str = "SCRIPT";
 
 pub(crate) const NAMES: &str = "NAMES";
@@ -23,7 +23,8 @@ pub(crate) const FOLDER: &str = "FOLDER";
 
 pub(crate) const JSON: &str = "JSON";
 
-// Returns the command of a program, without arguments. Its words are those behind the program's name.
+/// Returns the command of a program with the texts of its help, but without arguments. The words that it matches begin
+/// after the program's name.
 fn command_of<'a>(alloc: Global, program: Program) -> Command<'a>
     ensures { app_of result ≡ bare (name_of program) }
 {
@@ -34,28 +35,31 @@ fn command_of<'a>(alloc: Global, program: Program) -> Command<'a>
         .after_help(program.more())
 }
 
-// Returns a file that may be left out.
+/// Returns an argument for a file that may be left out. `id` is the argument's name, and `help` says in the help what
+/// the file is.
 fn file<'a>(alloc: Global, id: &'a str, help: &'a str) -> Arg<'a>
     ensures { IsArg result (new_rule id.now) }
 {
     Arg::new(alloc, id).help(help)
 }
 
-// Returns a file that is needed.
+/// Returns an argument for a file that is needed. `id` is the argument's name, and `help` says in the help what the
+/// file is.
 fn needed<'a>(alloc: Global, id: &'a str, help: &'a str) -> Arg<'a>
     ensures { IsArg result (required id.now) }
 {
     Arg::new(alloc, id).required(true).help(help)
 }
 
-// Returns the catalog, which each program but klpsee needs.
+/// Returns the argument for the catalog's file, which each program but klpsee needs.
 fn catalog<'a>(alloc: Global) -> Arg<'a>
     ensures { IsArg result (required CATALOG.now) }
 {
     needed(alloc, CATALOG, "The file with the catalog")
 }
 
-// Returns the option for a trace in place of a script.
+/// Returns klppage's option `--trace`. Its value is the file with a trace, of which a page is made in place of a
+/// script.
 fn trace<'a>(alloc: Global) -> Arg<'a>
     ensures { IsArg result trace }
 {
@@ -64,7 +68,7 @@ fn trace<'a>(alloc: Global) -> Arg<'a>
         .help("The file with the trace, in place of a script")
 }
 
-// Returns the option for a folder.
+/// Returns klpsee's option `-o`. Its value is the folder into which klpsee writes a catalog, a trace, names and a page.
 fn folder<'a>(alloc: Global) -> Arg<'a>
     ensures { IsArg result folder }
 {
@@ -73,7 +77,7 @@ fn folder<'a>(alloc: Global) -> Arg<'a>
     )
 }
 
-// Returns the option for an answer to programs. It has no value.
+/// Returns the option `--json` of klplint and klpsee, which takes no value. It asks for an answer that programs read.
 fn json<'a>(alloc: Global) -> Arg<'a>
     ensures { IsArg result json }
 {
@@ -83,7 +87,7 @@ fn json<'a>(alloc: Global) -> Arg<'a>
         .help("Answer for programs")
 }
 
-/// Returns the command of klpwatch.
+/// Returns the command of klpwatch: it takes a catalog and a trace.
 pub(crate) fn watch_command<'a>(alloc: Global) -> Result<Command<'a>, AllocError>
     ensures { IfOk result (λ command. IsCommand command watch_app) }
 {
@@ -92,7 +96,7 @@ pub(crate) fn watch_command<'a>(alloc: Global) -> Result<Command<'a>, AllocError
         .arg(needed(alloc, TRACE, "The file with the trace"))
 }
 
-/// Returns the command of klppage.
+/// Returns the command of klppage: it takes a catalog, a script or the option `--trace`, and names if there are any.
 pub(crate) fn page_command<'a>(alloc: Global) -> Result<Command<'a>, AllocError>
     ensures { IfOk result (λ command. IsCommand command page_app) }
 {
@@ -111,7 +115,7 @@ pub(crate) fn page_command<'a>(alloc: Global) -> Result<Command<'a>, AllocError>
         .arg(trace(alloc))
 }
 
-/// Returns the command of klplint.
+/// Returns the command of klplint: it takes a catalog, a script if there is one, and the option `--json`.
 pub(crate) fn lint_command<'a>(alloc: Global) -> Result<Command<'a>, AllocError>
     ensures { IfOk result (λ command. IsCommand command lint_app) }
 {
@@ -121,7 +125,7 @@ pub(crate) fn lint_command<'a>(alloc: Global) -> Result<Command<'a>, AllocError>
         .arg(json(alloc))
 }
 
-/// Returns the command of klpsee.
+/// Returns the command of klpsee: it takes a log, and the options `-o` and `--json`.
 pub(crate) fn see_command<'a>(alloc: Global) -> Result<Command<'a>, AllocError>
     ensures { IfOk result (λ command. IsCommand command see_app) }
 {

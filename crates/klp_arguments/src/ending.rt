@@ -34,7 +34,8 @@ impl From<AllocError> for Ending {
 }
 
 impl Ending {
-    /// Writes the help to `out`, or to `err` why the program doesn't run. Returns the exit status.
+    /// Writes the help to `out`, or to `err` why the program doesn't run. Returns the exit status: 0 for help, 2 for
+    /// refused arguments, and 1 for lack of memory.
     pub(crate) fn report<W: Write, E: Write>(self, program: Program, out: &mut W, err: &mut E) -> u8
         ensures { result ≡ status_of self }
     {

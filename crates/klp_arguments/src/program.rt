@@ -1,5 +1,5 @@
-//! The programs by their names, and how each one is called. The texts have any lifetime, since the borrow checker doesn't
-//! shorten one inside of a command.
+//! The programs by their names, and how each one is called. The texts have any lifetime, since the borrow checker
+//! doesn't shorten one inside of a command.
 ghost use Rattle.std.specs.Prelude.{◌≡◌};
 ghost use Rattle.klp_arguments.specs.Commands.{name_of};
 
@@ -35,7 +35,7 @@ impl Program {
         }
     }
 
-    /// Returns what the program does, for its help.
+    /// Returns the line of the program's help that says what the program does.
     pub(crate) fn about<'a>(self) -> &'a str {
         match self {
             Program::Klpwatch => "Checks a kernel's trace against the consistency model",
@@ -45,7 +45,7 @@ impl Program {
         }
     }
 
-    /// Returns the last line of the help.
+    /// Returns the line that ends the program's help, and names the man page.
     pub(crate) fn more<'a>(self) -> &'a str {
         match self {
             Program::Klpwatch => "More: man klpwatch",

@@ -20,7 +20,8 @@ use std::io::{ErrorKind, Write};
 use std::rt::Env;
 use std::{env, io};
 
-// Returns the arguments of the program. Returns `Err` if an argument isn't text, or if memory runs out.
+/// Returns the arguments that the process was given, without its name. Returns `Err` if an argument isn't text, or if
+/// memory runs out.
 fn words<R: Env + AllocGlobal>(rt: &R) -> io::Result<Vec<String>> {
     let mut given = Vec::new(rt.alloc());
     for word in env::args(rt)?.skip(1) {
@@ -29,8 +30,8 @@ fn words<R: Env + AllocGlobal>(rt: &R) -> io::Result<Vec<String>> {
     Ok(given)
 }
 
-/// Returns the arguments of the program. If an argument isn't text, or if memory runs out, writes a line to `err` and
-/// returns the exit status as `Err`: 2 for a refused argument, and 1 for lack of memory.
+/// Returns the arguments that the program was given. If an argument isn't text, or if memory runs out, writes a line to
+/// `err` and returns the exit status as `Err`: 2 for an argument that isn't text, and 1 for lack of memory.
 pub fn given_words<R: Env + AllocGlobal, W: Write, E: Write>(
     rt: &R,
     program: Program,
@@ -48,7 +49,8 @@ pub fn given_words<R: Env + AllocGlobal, W: Write, E: Write>(
     }
 }
 
-// Matches the arguments with a command.
+/// Matches the arguments that a program was given with its command. If they ask for help, if they are refused, or if
+/// memory runs out, returns as `Err` how the program ends.
 fn matches_in<'a>(command: Command<'a>, given: &'a [String]) -> Result<ArgMatches<'a>, Ending>
     requires walked { is_simple (app_of command) ≡ true }
     requires judged { is_simple_and_free (app_of command) ≡ true }
@@ -67,14 +69,14 @@ fn matches_in<'a>(command: Command<'a>, given: &'a [String]) -> Result<ArgMatche
     }
 }
 
-// Returns the value of an argument.
+/// Returns the value that was given for the argument of this name. Returns `None` if the argument has no value.
 fn value_of<'a>(matches: &ArgMatches<'a>, name: &str) -> Option<&'a str>
     ensures { option_map (λ value. value.now) result ≡ first_of name.now (rows_of (found_of matches.now)) }
 {
     matches.get_str(name)
 }
 
-// Whether an option without a value is given.
+/// Whether an option that takes no value was given. `clap` stores the value `true` for such an option.
 fn is_given(matches: &ArgMatches<'_>, name: &str) -> bool
     ensures { result ≡ is_given (first_of name.now (rows_of (found_of matches.now))) }
 {
@@ -84,7 +86,7 @@ fn is_given(matches: &ArgMatches<'_>, name: &str) -> bool
     }
 }
 
-// Returns the files of klpwatch. Returns `None` if one is missing.
+/// Returns the files of klpwatch from its matched arguments. Returns `None` if one is missing.
 fn watched<'a>(matches: &ArgMatches<'a>) -> Option<WatchWords<'a>>
     ensures { option_map watch_meaning result ≡ watched_in (rows_of (found_of matches.now)) }
 {
@@ -94,7 +96,8 @@ fn watched<'a>(matches: &ArgMatches<'a>) -> Option<WatchWords<'a>>
     }
 }
 
-// Returns what the arguments of klpwatch ask for.
+/// Returns what the arguments of klpwatch ask for. If they ask for help, if they are refused, or if memory runs out,
+/// returns as `Err` how the program ends.
 fn watch_asked<'a>(alloc: Global, given: &'a [String]) -> Result<WatchWords<'a>, Ending>
     ensures { MatchResult result (λ asked. watch_asked (map string_bytes given.now) ≡ Some (watch_meaning asked))
         (λ ending. Ends (fault_of watch_app (map string_bytes given.now)) (watch_asked (map string_bytes given.now)) ending) }
@@ -108,7 +111,9 @@ fn watch_asked<'a>(alloc: Global, given: &'a [String]) -> Result<WatchWords<'a>,
     }
 }
 
-// Returns the files of klppage. Behind a trace, the names are in the place of the script. Returns `None` if one is missing.
+/// Returns the files of klppage from its matched arguments. If there is a trace, there is no script, and the file in
+/// the place of the script is the one with the names. Returns `None` if the catalog, or both trace and script are
+/// missing, or if there is a file too many.
 fn paged<'a>(matches: &ArgMatches<'a>) -> Option<PageWords<'a>>
     ensures { option_map page_meaning result ≡ paged_in (rows_of (found_of matches.now)) }
 {
@@ -135,7 +140,8 @@ fn paged<'a>(matches: &ArgMatches<'a>) -> Option<PageWords<'a>>
     }
 }
 
-// Returns what the arguments of klppage ask for.
+/// Returns what the arguments of klppage ask for. If they ask for help, if they are refused, or if memory runs out,
+/// returns as `Err` how the program ends.
 fn page_asked<'a>(alloc: Global, given: &'a [String]) -> Result<PageWords<'a>, Ending>
     ensures { MatchResult result (λ asked. page_asked (map string_bytes given.now) ≡ Some (page_meaning asked))
         (λ ending. Ends (fault_of page_app (map string_bytes given.now)) (page_asked (map string_bytes given.now)) ending) }
@@ -149,7 +155,8 @@ fn page_asked<'a>(alloc: Global, given: &'a [String]) -> Result<PageWords<'a>, E
     }
 }
 
-// Returns what klplint is to judge, and the form of its answer. Returns `None` if one is missing.
+/// Returns from the matched arguments of klplint which files it is to judge, and the form of its answer. Returns `None`
+/// if the catalog is missing.
 fn linted<'a>(matches: &ArgMatches<'a>) -> Option<LintWords<'a>>
     ensures { option_map lint_meaning result ≡ linted_in (rows_of (found_of matches.now)) }
 {
@@ -163,7 +170,8 @@ fn linted<'a>(matches: &ArgMatches<'a>) -> Option<LintWords<'a>>
     }
 }
 
-// Returns what the arguments of klplint ask for.
+/// Returns what the arguments of klplint ask for. If they ask for help, if they are refused, or if memory runs out,
+/// returns as `Err` how the program ends.
 fn lint_asked<'a>(alloc: Global, given: &'a [String]) -> Result<LintWords<'a>, Ending>
     ensures { MatchResult result (λ asked. lint_asked (map string_bytes given.now) ≡ Some (lint_meaning asked))
         (λ ending. Ends (fault_of lint_app (map string_bytes given.now)) (lint_asked (map string_bytes given.now)) ending) }
@@ -177,7 +185,8 @@ fn lint_asked<'a>(alloc: Global, given: &'a [String]) -> Result<LintWords<'a>, E
     }
 }
 
-// Returns what klpsee is to explain, and where its answer goes. Returns `None` if one is missing.
+/// Returns from the matched arguments of klpsee which log it is to explain, the folder for files if one is given, and
+/// the form of its answer. Returns `None` if the log is missing.
 fn seen<'a>(matches: &ArgMatches<'a>) -> Option<SeeWords<'a>>
     ensures { option_map see_meaning result ≡ seen_in (rows_of (found_of matches.now)) }
 {
@@ -191,7 +200,8 @@ fn seen<'a>(matches: &ArgMatches<'a>) -> Option<SeeWords<'a>>
     }
 }
 
-// Returns what the arguments of klpsee ask for.
+/// Returns what the arguments of klpsee ask for. If they ask for help, if they are refused, or if memory runs out,
+/// returns as `Err` how the program ends.
 fn see_asked<'a>(alloc: Global, given: &'a [String]) -> Result<SeeWords<'a>, Ending>
     ensures { MatchResult result (λ asked. see_asked (map string_bytes given.now) ≡ Some (see_meaning asked))
         (λ ending. Ends (fault_of see_app (map string_bytes given.now)) (see_asked (map string_bytes given.now)) ending) }
@@ -206,7 +216,7 @@ fn see_asked<'a>(alloc: Global, given: &'a [String]) -> Result<SeeWords<'a>, End
 }
 
 /// Reads the arguments of klpwatch. If they ask for help, writes it to `out`. If they are refused, or if memory runs
-/// out, writes a line to `err`. Then returns the exit status as `Err`.
+/// out, writes a line to `err`. In these cases klpwatch doesn't run, and the exit status is returned as `Err`.
 pub fn watch_words<'a, W: Write, E: Write>(
     alloc: Global,
     given: &'a [String],

@@ -16,8 +16,8 @@ use klp_modules::Modules;
 use klp_text::Image;
 use std::alloc::Global;
 
-/// Makes the image of a plan's objects, and the table of their names. The plan has no objects afterwards. Returns `Err`
-/// if no image can be made of the objects, or if memory runs out.
+/// Takes the objects out of a plan, and makes an image and a table of names of these objects. The plan has no objects
+/// afterwards. Returns `Err` if no image can be made of the objects, or if memory runs out.
 pub fn opened(alloc: Global, plan: &mut Plan) -> Result<(Image, Modules), Fault>
     ensures rest { plan.new ≡ record plan.old { objects = [] } }
     ensures sound { OnOk result (image_fault plan.old.handler plan.old.objects ≡ None) }
@@ -36,8 +36,9 @@ pub fn opened(alloc: Global, plan: &mut Plan) -> Result<(Image, Modules), Fault>
 /// a fault of the catalog, then a fault of the manager.
 ///
 /// The caller makes the callbacks: one for each script of the plan, in the order of the text. The check can't follow a
-/// box that a function makes and returns, so the callbacks aren't made in a function of their own. Programs don't call
-/// this function, they call [`over_text`](crate::over_text).
+/// box that a function makes and returns, so the callbacks aren't made in a function of their own. Only a caller that
+/// must own its manager, as threads do, calls this function. All others call [`over_text`](crate::over_text) or
+/// [`over_plan`](crate::over_plan).
 pub fn boot(alloc: Global, mut plan: Plan, callbacks: Vec<Boxed>) -> Result<Manager, Fault>
     requires targets { AreTargetsWithin (length plan.objects) plan.patches }
     requires callbacks { callbacks.items ≡ map never_ran (scripts_of plan.patches) }
@@ -52,6 +53,6 @@ pub fn boot(alloc: Global, mut plan: Plan, callbacks: Vec<Boxed>) -> Result<Mana
     Ok(Manager::boot(alloc, image, modules, catalog)?)
 }
 
-/// Drops a manager. It is costly to prove that a manager may be dropped. So each function that owns a manager calls
-/// this function at its end, and the proof is done only here.
+/// Takes a manager and drops it. It is costly to prove that a manager may be dropped. So each function that owns a
+/// manager calls this function before it returns, and the proof is done only here.
 pub fn close(_manager: Manager) {}

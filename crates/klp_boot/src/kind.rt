@@ -19,8 +19,9 @@ pub(crate) enum CallbackKind {
     Quiet(Box<Quiet>),
 }
 
-// Makes a callback that does what the script says, of the simplest kind that can run the script. Returns `Err` if
-// memory runs out.
+/// Makes a callback that does what the script says, of the simplest kind that can run the script: `Scripted` if the
+/// script has edits, `Refusing` if it only returns a status other than 0, else `Quiet`. Returns `Err` if memory runs
+/// out.
 fn kind_of(alloc: Global, script: &Script) -> Result<CallbackKind, AllocError>
     ensures { IfOk result (λ kind. lent_by kind ≡ never_ran script.now) }
 {
@@ -35,8 +36,9 @@ fn kind_of(alloc: Global, script: &Script) -> Result<CallbackKind, AllocError>
     }
 }
 
-/// Makes a callback for the script with this number, counted in the order of the text. The callback is of the simplest
-/// kind that can run this script. Returns `None` if the plan has no such script.
+/// Makes a callback for the plan's script with this number, counted from 0 in the order of the text. The callback is of
+/// the simplest kind that can run this script. Returns `None` if the plan has no such script, and `Err` if memory runs
+/// out.
 pub(crate) fn callback_of(
     alloc: Global,
     plan: &Plan,

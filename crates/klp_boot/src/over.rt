@@ -13,7 +13,7 @@ use klp_catalog_text::Plan;
 use klp_core::Manager;
 use std::alloc::Global;
 
-// Lends a manager to `user`, and then drops the manager.
+/// Lends a manager that no event was done with to `user`, then drops the manager. Returns what the use returned.
 fn used<U: ManagerUse>(alloc: Global, mut manager: Manager, user: &mut U) -> U::Done
     requires { manager.groups ≡ [] }
     ensures { U.comes_to user.old user.new manager result }
@@ -23,8 +23,8 @@ fn used<U: ManagerUse>(alloc: Global, mut manager: Manager, user: &mut U) -> U::
     done
 }
 
-/// Boots a manager over a plan, lends it to `user`, and closes it. Returns `Err` if no manager can be booted; then
-/// `user` is lent none.
+/// Boots a manager over a plan, lends it to `user`, closes it, and returns what the use returned. Returns `Err` if no
+/// manager can be booted; then `user` is lent none.
 ///
 /// Each script of the plan gets a callback of the simplest kind that can run the script. If a function makes a box and
 /// returns it, what is proved of the box is lost (docs/PROVING.md, "Boxes"). So the boxes are made here, and neither a
@@ -34,6 +34,7 @@ pub fn over_plan<U: ManagerUse>(alloc: Global, plan: Plan, user: &mut U) -> Resu
     ensures { UsesOver U.comes_to plan user.old user.new result }
 {
     let mut callbacks = Vec::new(alloc);
+    // The number of the next script is how many callbacks were made.
     while let Some(kind) = callback_of(alloc, &plan, callbacks.len())? {
         let callback = match kind {
             CallbackKind::Scripted(callback) => Boxed::new(callback),
@@ -46,8 +47,8 @@ pub fn over_plan<U: ManagerUse>(alloc: Global, plan: Plan, user: &mut U) -> Resu
     Ok(used(alloc, manager, user))
 }
 
-/// Reads a catalog's text, boots a manager over its plan, lends it to `user`, and closes it. Returns `Err` if the text
-/// has a fault, or if no manager can be booted; then `user` is lent none.
+/// Reads a catalog's text, boots a manager over its plan, lends it to `user`, closes it, and returns what the use
+/// returned. Returns `Err` if the text has a fault, or if no manager can be booted; then `user` is lent none.
 pub fn over_text<U: ManagerUse>(
     alloc: Global,
     catalog: &[u8],

@@ -1,6 +1,6 @@
 -- What a trace has of a log: for each sample the states of the tasks that it names, and the files of the patches.
 use Rattle.std.specs.Prelude.{◌≡◌, ℕ, ◌-◌, ◌==◌, ◌&&◌, ◌||◌, Bool, true, false, not, nat_eq, nat_le, nat_lt, if◌then◌else◌, List, [], ◌∷◌, ◌++◌, length, take, drop, codes, bytes_eq, Option, Some, None}
-use Rattle.std.specs.List.{starts_with, after_first, find, flat_map, list_any}
+use Rattle.std.specs.List.{starts_with, after_first, find, flat_map}
 use Rattle.std.specs.Fmt.{decimal}
 use Rattle.klp_capture.specs.declared.capture.Capture.{Capture}
 use Rattle.klp_capture.specs.declared.capture.PatchRow.{PatchRow}
@@ -18,12 +18,7 @@ use Rattle.klp_capture.specs.declared.thread.PatchName.{PatchName}
 abbrev pub span_of : {X : Type 0} → Span → List X → List X
 span_of span items = if nat_le span.from span.to && nat_le span.to (length items) then take (span.to - span.from) (drop span.from items) else []
 
--- a patch that is just being made or taken away: both of its files read 0
-abbrev pub is_half_there : PatchRow → Bool
-is_half_there (Patch name enabled moving) = not (enabled || moving)
-is_half_there row = false
-
--- a patch that is there, of this name
+-- a patch that is there, of this name; while its folder is made or taken away, both of its files read 0
 abbrev pub is_there_as : List ℕ → PatchRow → Bool
 is_there_as wanted (Patch name enabled moving) = bytes_eq name.now wanted && (enabled || moving)
 is_there_as wanted row = false
@@ -68,9 +63,9 @@ abbrev pub sample_items : Capture → List PatchName → List Thread → Sample 
 sample_items capture patches threads sample =
     flat_map (task_items threads) (span_of sample.tasks capture.seen.items) ++ flat_map (patch_items (span_of sample.patches capture.rows.items)) patches
 
--- a sample during which nothing changed in the patches
-abbrev pub is_settled : Capture → Sample → Bool
-is_settled capture sample = not (sample.line.is_torn || list_any is_half_there (span_of sample.patches capture.rows.items))
+-- a sample before and after which the files of the patches read the same
+abbrev pub is_settled : Sample → Bool
+is_settled sample = not sample.line.is_torn
 
 -- a line without its time: @SECONDS ITEM
 abbrev pub is_space : ℕ → Bool
@@ -96,11 +91,11 @@ abbrev pub is_before : Option BootTime → Sample → Bool
 is_before None sample = true
 is_before (Some forced) sample = nat_lt sample.line.to.0 forced.0
 
-abbrev pub is_judged : Capture → Option BootTime → Sample → Bool
-is_judged capture forced sample = is_before forced sample && is_settled capture sample
+abbrev pub is_judged : Option BootTime → Sample → Bool
+is_judged forced sample = is_before forced sample && is_settled sample
 
 abbrev pub judged_items : Capture → Option BootTime → List PatchName → List Thread → Sample → List (List ℕ)
-judged_items capture forced patches threads sample = if is_judged capture forced sample then sample_items capture patches threads sample else []
+judged_items capture forced patches threads sample = if is_judged forced sample then sample_items capture patches threads sample else []
 
 -- the lines have each of these samples that is settled and before the force, one behind the other
 pub record ShowSamples (capture : Capture) (forced : Option BootTime) (patches : List PatchName) (threads : List Thread) (samples : List Sample)

@@ -3,7 +3,7 @@ ghost use Rattle.std.specs.Prelude.{◌≡◌};
 ghost use Rattle.klp_capture.specs.Shown.{span_of};
 
 use crate::fault::{CaptureFault, CaptureFaultKind};
-use crate::line::{FrameLine, Line, SampleLine, SymbolLine, TaskLine};
+use crate::line::{Clock, FrameLine, Line, ProcessLine, SampleLine, SymbolLine, TaskLine};
 use crate::time::BootTime;
 use klp_catalog_text::Lines;
 use std::alloc::Global;
@@ -42,7 +42,12 @@ pub enum PatchRow<'a> {
         is_moving: bool,
     },
     /// An object that the patch of an earlier line changes.
-    Object(&'a [u8]),
+    Object {
+        /// The object's name.
+        name: &'a [u8],
+        /// What the object's file `patched` reads. `None` if there is no such file.
+        is_patched: Option<bool>,
+    },
     /// The object that the line before names is loaded.
     Loaded,
     /// A function that the patch changes in the object. Earlier lines name the patch and the object.
@@ -76,6 +81,8 @@ pub struct Sample {
     pub tasks: Span,
     /// The threads that have ended, as a span of [`Capture::gone`].
     pub gone: Span,
+    /// The threads that are there and aren't followed any longer, as a span of [`Capture::left`].
+    pub left: Span,
 }
 
 /// A line of the kernel's own log.
@@ -92,6 +99,12 @@ pub struct LogLine<'a> {
 pub struct Capture<'a> {
     /// The kernel's release, and the machine.
     pub kernel: &'a [u8],
+    /// The machine's name. Empty if the log doesn't have it.
+    pub host: &'a [u8],
+    /// When the log was begun. `None` if the log doesn't say that.
+    pub clock: Option<Clock>,
+    /// The processes of threads that the log names.
+    pub processes: Vec<ProcessLine<'a>>,
     /// The files that the kernel didn't show.
     pub missing: Vec<&'a [u8]>,
     /// The functions for which `klpcap` was told to look, though no patch changes them.
@@ -104,6 +117,8 @@ pub struct Capture<'a> {
     pub frames: Vec<FrameLine<'a>>,
     /// The threads that have ended.
     pub gone: Vec<u64>,
+    /// The threads that are there and aren't followed any longer.
+    pub left: Vec<u64>,
     /// The samples, in the order in which they were taken.
     pub samples: Vec<Sample>,
     /// The lines of the kernel's own log that are about livepatching.
@@ -124,18 +139,35 @@ struct Begun {
     tells_patches: bool,
     tasks: usize,
     gone: usize,
+    left: usize,
+}
+
+/// The newest version of the format.
+const NEWEST: u64 = 2;
+
+/// Whether logs of this version can be read.
+fn are_known(version: u64) -> Result<(), CaptureFaultKind> {
+    match version {
+        0 => Err(CaptureFaultKind::NoHeading),
+        1..=NEWEST => Ok(()),
+        _ => Err(CaptureFaultKind::Newer),
+    }
 }
 
 impl<'a> Capture<'a> {
     fn new(alloc: Global) -> Capture<'a> {
         Capture {
             kernel: b"",
+            host: b"",
+            clock: None,
+            processes: Vec::new(alloc),
             missing: Vec::new(alloc),
             asked: Vec::new(alloc),
             rows: Vec::new(alloc),
             seen: Vec::new(alloc),
             frames: Vec::new(alloc),
             gone: Vec::new(alloc),
+            left: Vec::new(alloc),
             samples: Vec::new(alloc),
             log: Vec::new(alloc),
             symbols: Vec::new(alloc),
@@ -146,6 +178,7 @@ impl<'a> Capture<'a> {
                 tells_patches: false,
                 tasks: 0,
                 gone: 0,
+                left: 0,
             },
         }
     }
@@ -163,7 +196,7 @@ impl<'a> Capture<'a> {
     /// Adds a line about the latest object. It is a fault if no object was named since the latest patch.
     fn add_of_object(&mut self, row: PatchRow<'a>) -> Result<(), CaptureFaultKind> {
         match self.begun.patches.of(&self.rows).last() {
-            Some(PatchRow::Object(_) | PatchRow::Loaded | PatchRow::Function { .. }) => {
+            Some(PatchRow::Object { .. } | PatchRow::Loaded | PatchRow::Function { .. }) => {
                 self.add_row(row)
             }
             _ => Err(CaptureFaultKind::Stray),
@@ -234,16 +267,22 @@ impl<'a> Capture<'a> {
             from: self.begun.gone,
             to: self.gone.len(),
         };
+        let left = Span {
+            from: self.begun.left,
+            to: self.left.len(),
+        };
         self.samples.push(Sample {
             line,
             patches: self.begun.patches,
             tells_patches: self.begun.tells_patches,
             tasks,
             gone,
+            left,
         })?;
         self.begun.tells_patches = false;
         self.begun.tasks = self.seen.len();
         self.begun.gone = self.gone.len();
+        self.begun.left = self.left.len();
         Ok(())
     }
 
@@ -260,11 +299,11 @@ impl<'a> Capture<'a> {
                 is_enabled,
                 is_moving,
             })?,
-            Line::Object(name) => {
+            Line::Object(name, is_patched) => {
                 if self.begun.patches.of(&self.rows).is_empty() {
                     return Err(CaptureFaultKind::Stray);
                 }
-                self.add_row(PatchRow::Object(name))?;
+                self.add_row(PatchRow::Object { name, is_patched })?;
             }
             Line::Loaded(_) => self.add_of_object(PatchRow::Loaded)?,
             Line::Function { name, position } => {
@@ -273,7 +312,9 @@ impl<'a> Capture<'a> {
             Line::Task(task) => self.add_task(task)?,
             Line::Frame(frame) => self.add_frame(frame)?,
             Line::SameFrames => self.keep_frames()?,
+            Line::Process(process) => self.processes.push(process)?,
             Line::Gone(thread) => self.gone.push(thread)?,
+            Line::Left(thread) => self.left.push(thread)?,
             Line::Sample(line) => self.end_sample(line)?,
             _ => return Err(CaptureFaultKind::BadLine),
         }
@@ -285,8 +326,10 @@ impl<'a> Capture<'a> {
             return Err(CaptureFaultKind::Stray);
         }
         match line {
-            Line::Heading => return Err(CaptureFaultKind::Stray),
+            Line::Heading(_) => return Err(CaptureFaultKind::Stray),
             Line::Kernel(name) => self.kernel = name,
+            Line::Host(name) => self.host = name,
+            Line::Clock(clock) => self.clock = Some(clock),
             Line::Missing(file) => self.missing.push(file)?,
             Line::Find(function) => self.asked.push(function)?,
             Line::Log { at, text } => self.log.push(LogLine { at, text })?,
@@ -296,6 +339,12 @@ impl<'a> Capture<'a> {
             seen => self.add_seen(seen)?,
         }
         Ok(())
+    }
+
+    /// Returns the name of a process. Returns `None` if the log doesn't have it.
+    pub fn process_name(&self, process: u64) -> Option<&'a [u8]> {
+        let found = self.processes.iter().rfind(|own| own.process == process)?;
+        Some(found.name)
     }
 
     /// Whether `klpcap` was told to look for functions that no patch changes.
@@ -317,7 +366,7 @@ impl<'a> Capture<'a> {
         while let Some(line) = lines.next() {
             number = number.saturating_add(1);
             let kind = match Line::read(line) {
-                Some(Line::Heading) if number == 1 => Ok(()),
+                Some(Line::Heading(version)) if number == 1 => are_known(version),
                 _ if number == 1 => Err(CaptureFaultKind::NoHeading),
                 Some(line) => capture.add(line),
                 None => Err(CaptureFaultKind::BadLine),

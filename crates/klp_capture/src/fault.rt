@@ -6,8 +6,10 @@ use thiserror::Error;
 /// What is wrong with a line of a log.
 #[derive(Clone, Copy, Debug, PartialEq, Eq)]
 pub enum CaptureFaultKind {
-    /// The first line isn't `klpcap 1`, so the text is no log, or a log of another version.
+    /// The first line isn't `klpcap` with the version of the format, so the text is no log.
     NoHeading,
+    /// The log has a version that isn't known: a newer `klpcap` wrote it.
+    Newer,
     /// The line begins with an unknown word, or its other words have a wrong form.
     BadLine,
     /// The line belongs to an object, a patch or a task, but no earlier line of its sample names one. The fault is also

@@ -15,7 +15,10 @@ mod time;
 
 pub use capture::{Capture, LogLine, PatchRow, Sample, SeenTask, Span};
 pub use fault::{CaptureFault, CaptureFaultKind};
-pub use line::{Activity, FrameLine, PatchedState, SampleLine, SymbolLine, TaskLine};
+pub use line::{
+    Activity, Clock, FrameLine, PatchedState, ProcessLine, SampleLine, SymbolLine, TaskLine,
+    form_of,
+};
 pub use shown::patch_in;
 pub use text::Text;
 pub use thread::{PatchName, Thread};

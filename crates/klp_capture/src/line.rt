@@ -9,6 +9,8 @@ pub enum Activity {
     Running,
     /// The task sleeps, in any way.
     Asleep,
+    /// The task has ended, and waits to be reaped. It never runs again, and is inside of no function.
+    Ended,
 }
 
 /// A task as a sample shows it.
@@ -16,11 +18,15 @@ pub enum Activity {
 pub struct TaskLine<'a> {
     /// The thread's number.
     pub thread: u64,
+    /// The number of the thread's process.
+    pub process: u64,
     /// When the thread began, in ticks since boot. If the thread's number is used again, the new thread began at
     /// another time.
     pub start: u64,
     /// Whether the task ran or slept.
     pub activity: Activity,
+    /// The letter itself, such as `S` for a sleep that a signal ends, or `D` for one that none does.
+    pub letter: u8,
     /// What `patch_state` reads: -1, 0 or 1.
     pub state: PatchedState,
     /// How often the task got a processor.
@@ -69,6 +75,27 @@ pub struct SampleLine {
     pub sleeping: u64,
     /// Whether a patch changed while the sample was taken.
     pub is_torn: bool,
+    /// How many tasks that `klpcap` didn't follow lagged inside of a patched function. `None` if `klpcap` didn't look, and
+    /// counted them among the others.
+    pub inside: Option<u64>,
+}
+
+/// When the log was begun, by two clocks.
+#[derive(Clone, Copy)]
+pub struct Clock {
+    /// The time of day, in seconds since 1970.
+    pub epoch: u64,
+    /// The time since boot.
+    pub uptime: BootTime,
+}
+
+/// A process, of which the log names a thread.
+#[derive(Clone, Copy)]
+pub struct ProcessLine<'a> {
+    /// The process's number.
+    pub process: u64,
+    /// The name of its command.
+    pub name: &'a [u8],
 }
 
 /// A symbol with its address.
@@ -85,8 +112,14 @@ pub struct SymbolLine<'a> {
 /// One line of a log.
 #[derive(Clone, Copy)]
 pub(crate) enum Line<'a> {
-    /// `klpcap 1`
-    Heading,
+    /// `klpcap 2`, or another version.
+    Heading(u64),
+    /// The machine's name.
+    Host(&'a [u8]),
+    Clock(Clock),
+    Process(ProcessLine<'a>),
+    /// A thread that is there, and isn't followed any longer.
+    Left(u64),
     /// The kernel's release, and the machine.
     Kernel(&'a [u8]),
     Missing(&'a [u8]),
@@ -98,7 +131,8 @@ pub(crate) enum Line<'a> {
         is_enabled: bool,
         is_moving: bool,
     },
-    Object(&'a [u8]),
+    /// An object, and what its file `patched` reads. `None` if there is no such file.
+    Object(&'a [u8], Option<bool>),
     Loaded(&'a [u8]),
     Function {
         name: &'a [u8],
@@ -167,6 +201,12 @@ fn patch_line(rest: &[u8]) -> Option<Line<'_>> {
     })
 }
 
+/// Reads `NAME PATCHED`. `PATCHED` is `-` or missing if the object has no file `patched`.
+fn object_line(rest: &[u8]) -> Option<Line<'_>> {
+    let (name, patched) = cut(rest, b' ');
+    Some(Line::Object(named(name)?, flag_of(patched)))
+}
+
 /// Reads `NAME,POSITION`. The name itself may have commas.
 fn function_line(rest: &[u8]) -> Option<Line<'_>> {
     let comma = rest.iter().rposition(|byte| *byte == b',')?;
@@ -175,10 +215,17 @@ fn function_line(rest: &[u8]) -> Option<Line<'_>> {
     Some(Line::Function { name, position })
 }
 
-fn activity_of(word: &[u8]) -> Option<Activity> {
+/// Reads the letter of a task's state in `/proc/<pid>/stat`. Returns what it means, and the letter.
+fn activity_of(word: &[u8]) -> Option<(Activity, u8)> {
     match word {
-        b"R" => Some(Activity::Running),
-        [_letter] => Some(Activity::Asleep),
+        [letter] => Some((
+            match letter {
+                b'R' => Activity::Running,
+                b'Z' | b'X' => Activity::Ended,
+                _ => Activity::Asleep,
+            },
+            *letter,
+        )),
         _ => None,
     }
 }
@@ -199,17 +246,20 @@ fn state_of(word: &[u8]) -> Option<PatchedState> {
 /// blanks.
 fn task_line(rest: &[u8]) -> Option<Line<'_>> {
     let (thread, rest) = cut(rest, b' ');
-    let (_process, rest) = cut(rest, b' ');
+    let (process, rest) = cut(rest, b' ');
     let (start, rest) = cut(rest, b' ');
     let (activity, rest) = cut(rest, b' ');
     let (state, rest) = cut(rest, b' ');
     let (runs, rest) = cut(rest, b' ');
     let (stable, rest) = cut(rest, b' ');
     let (kernel_thread, name) = cut(rest, b' ');
+    let (activity, letter) = activity_of(activity)?;
     Some(Line::Task(TaskLine {
         thread: number64(thread)?,
+        process: number64(process)?,
         start: number64(start)?,
-        activity: activity_of(activity)?,
+        activity,
+        letter,
         state: state_of(state)?,
         runs: number64(runs)?,
         is_stable: flag_of(stable)?,
@@ -232,7 +282,25 @@ fn frame_line(rest: &[u8]) -> Option<Line<'_>> {
     Some(Line::Frame(FrameLine { function, module }))
 }
 
-/// Reads `FROM TO TASKS RUNNING SLEEPING TORN`.
+/// Reads `EPOCH UPTIME`.
+fn clock_line(rest: &[u8]) -> Option<Line<'_>> {
+    let (epoch, uptime) = cut(rest, b' ');
+    Some(Line::Clock(Clock {
+        epoch: number64(epoch)?,
+        uptime: boot_time_of(uptime)?,
+    }))
+}
+
+/// Reads `PID NAME`. The name is the rest of the line, and may have blanks.
+fn process_line(rest: &[u8]) -> Option<Line<'_>> {
+    let (process, name) = cut(rest, b' ');
+    Some(Line::Process(ProcessLine {
+        process: number64(process)?,
+        name,
+    }))
+}
+
+/// Reads `FROM TO TASKS RUNNING SLEEPING TORN INSIDE`. Version 1 has no `INSIDE`.
 fn sample_line(rest: &[u8]) -> Option<Line<'_>> {
     let mut words = LineWords::new(rest, Separators::Spaces);
     let line = SampleLine {
@@ -242,6 +310,10 @@ fn sample_line(rest: &[u8]) -> Option<Line<'_>> {
         running: number64(words.next()?)?,
         sleeping: number64(words.next()?)?,
         is_torn: flag_of(words.next()?)?,
+        inside: match words.next() {
+            Some(word) => Some(number64(word)?),
+            None => None,
+        },
     };
     if words.next().is_some() {
         return None;
@@ -274,18 +346,63 @@ fn symbol_line(rest: &[u8]) -> Option<Line<'_>> {
     }))
 }
 
+/// The forms of lines, each with its first word.
+const FORMS: [(&str, &str); 21] = [
+    ("klpcap", "klpcap VERSION"),
+    ("kernel", "kernel RELEASE MACHINE"),
+    ("host", "host NAME"),
+    ("clock", "clock EPOCH UPTIME"),
+    ("missing", "missing FILE"),
+    ("find", "find FUNC"),
+    ("patches", "patches"),
+    ("patch", "patch NAME ENABLED TRANSITION"),
+    ("object", "object NAME PATCHED"),
+    ("loaded", "loaded NAME"),
+    ("function", "function NAME,POSITION"),
+    ("process", "process PID NAME"),
+    (
+        "task",
+        "task TID PID START STATE PATCH_STATE RUNS STABLE KTHREAD NAME",
+    ),
+    ("frame", "frame FUNC+OFFSET/SIZE [MODULE]"),
+    ("frames", "frames ="),
+    ("gone", "gone TID"),
+    ("left", "left TID"),
+    (
+        "sample",
+        "sample FROM TO TASKS RUNNING SLEEPING TORN INSIDE",
+    ),
+    ("log", "log TIME TEXT"),
+    ("symbol", "symbol ADDRESS TYPE NAME [MODULE]"),
+    ("module", "module NAME"),
+];
+
+/// Returns the form of lines that begin with this word. Returns `None` if no line does.
+pub fn form_of(word: &[u8]) -> Option<&'static str> {
+    for (first, form) in FORMS {
+        if first.as_bytes() == word {
+            return Some(form);
+        }
+    }
+    None
+}
+
 impl<'a> Line<'a> {
     /// Reads a line, without its line feed. Returns `None` if it isn't a line of a log.
     pub(crate) fn read(line: &'a [u8]) -> Option<Line<'a>> {
         let (word, rest) = cut(line, b' ');
         match word {
-            b"klpcap" if rest == b"1".as_slice() => Some(Line::Heading),
+            b"klpcap" => Some(Line::Heading(number64(rest)?)),
+            b"host" => Some(Line::Host(named(rest)?)),
+            b"clock" => clock_line(rest),
+            b"process" => process_line(rest),
+            b"left" => Some(Line::Left(number64(rest)?)),
             b"kernel" => Some(Line::Kernel(named(rest)?)),
             b"missing" => Some(Line::Missing(named(rest)?)),
             b"find" => Some(Line::Find(named(rest)?)),
             b"patches" if rest.is_empty() => Some(Line::Patches),
             b"patch" => patch_line(rest),
-            b"object" => Some(Line::Object(named(cut(rest, b' ').0)?)),
+            b"object" => object_line(rest),
             b"loaded" => Some(Line::Loaded(named(rest)?)),
             b"function" => function_line(rest),
             b"task" => task_line(rest),

@@ -1,9 +1,9 @@
 //! Whether a trace shows the contents of a log. Only the text of the trace is read, so it makes no difference how the
 //! trace was found.
 ghost use Rattle.std.specs.Prelude.{◌≡◌, true, string_bytes, IfOk};
-ghost use Rattle.std.specs.List.{find, flat_map, list_any};
+ghost use Rattle.std.specs.List.{find, flat_map};
 ghost use Rattle.std.specs.Str.Lines.{lines};
-ghost use Rattle.klp_capture.specs.Shown.{span_of, is_there_as, is_half_there, is_settled, is_thread, flag_text, files_text, files_item, state_item, task_items, patch_items, sample_items, is_before, is_judged, judged_items, item_in, StandsIn, StandInOrder, ShowSamples, samples_before};
+ghost use Rattle.klp_capture.specs.Shown.{span_of, is_there_as, is_settled, is_thread, flag_text, files_text, files_item, state_item, task_items, patch_items, sample_items, is_before, is_judged, judged_items, item_in, StandsIn, StandInOrder, ShowSamples, samples_before};
 
 use crate::capture::{Capture, PatchRow, Sample, SeenTask};
 use crate::line::PatchedState;
@@ -13,8 +13,8 @@ use klp_catalog_text::Lines;
 use klp_words::cut;
 use std::alloc::{AllocError, Global};
 
-/// Returns the row of the patch with this name. While the patch's folder is made or removed, both of its files read 0.
-/// Returns `None` if both files read 0, or if there is no such patch.
+/// Returns the row of the patch with this name. Returns `None` if there is no such patch, or if its folder is being made
+/// or removed. Both of its files read 0 then.
 pub fn patch_in<'a>(rows: &[PatchRow<'a>], name: &[u8]) -> Option<PatchRow<'a>>
     ensures { result ≡ find (is_there_as name.now) rows.now }
 {
@@ -39,37 +39,20 @@ fn is_there_as(row: &PatchRow<'_>, wanted: &[u8]) -> bool
     }
 }
 
-fn is_half_there(row: &PatchRow<'_>) -> bool
-    ensures { result ≡ is_half_there row.now }
-{
-    match row {
-        PatchRow::Patch {
-            name: _,
-            is_enabled,
-            is_moving,
-        } => !(*is_enabled || *is_moving),
-        _ => false,
-    }
-}
-
-/// Whether the folder of a patch is being made or removed. If so, both files of the patch read 0.
-fn is_changing(rows: &[PatchRow<'_>]) -> bool
-    ensures { result ≡ list_any is_half_there rows.now }
-{
-    for row in rows {
-        if is_half_there(row) {
-            return true;
-        }
-    }
-    false
-}
-
-impl<'a> Capture<'a> {
-    /// Whether no patch changed during a sample.
-    pub fn is_settled(&self, sample: &Sample) -> bool
-        ensures { result ≡ is_settled self.now sample.now }
+impl Sample {
+    /// Whether the patches' files read the same before and after the sample.
+    pub fn is_settled(&self) -> bool
+        ensures { result ≡ is_settled self.now }
     {
-        !(sample.line.is_torn || is_changing(sample.patches.of(&self.rows)))
+        !self.line.is_torn
+    }
+
+    /// Whether the sample is judged. It is if the patches' files read the same before and after it, and if it had ended
+    /// before a force.
+    pub fn is_judged(&self, forced: Option<BootTime>) -> bool
+        ensures { result ≡ is_judged forced self.now }
+    {
+        is_before(forced, self) && self.is_settled()
     }
 }
 
@@ -236,14 +219,6 @@ impl<'a> Capture<'a> {
         Ok(stand)
     }
 
-    /// Whether a sample is judged. A sample is judged if no patch changed during it, and if it had ended before a
-    /// force.
-    pub fn is_judged(&self, forced: Option<BootTime>, sample: &Sample) -> bool
-        ensures { result ≡ is_judged self.now forced sample.now }
-    {
-        is_before(forced, sample) && self.is_settled(sample)
-    }
-
     fn judged_stands(
         &self,
         alloc: Global,
@@ -256,7 +231,7 @@ impl<'a> Capture<'a> {
         ensures { IfOk result (λ all. all ≡ true
             → StandInOrder (judged_items self.now forced patches.now threads.now sample.now) lines.old lines.new) }
     {
-        if !self.is_judged(forced, sample) {
+        if !sample.is_judged(forced) {
             return Ok(true);
         }
         let stand = self.sample_stands(alloc, lines, patches, threads, sample)?;

@@ -1,13 +1,21 @@
 //! Gathers a report from a log and the run that shows it.
+use crate::groups::{groups_of, process_name};
 use crate::inside::inside_of;
-use crate::refused::refused_of;
+use crate::not_explained::not_explained_of;
+use crate::not_seen::not_seen_of;
 use crate::report::{
-    Becomes, EndReport, HolderReport, HowEnded, LaggingReport, LeftReport, Report, SampleCounts,
-    TaskCounts, TaskReport, TransitionReport, WhyLags,
+    Becomes, BrokenReport, EndReport, HolderReport, HowEnded, KernelHolderReport, KernelLogReport,
+    LaggingReport, LeftReport, Report, SCHEMA, SampleCounts, TaskCounts, TaskReport,
+    TransitionReport, UnplacedReport, VerdictReport, WhyLags,
 };
-use klp_capture::{Capture, Text};
-use klp_capture_catalog::{SeenTransition, TransitionEnding, TransitionStart};
-use klp_capture_run::{Explained, Followed, Holder, HoldingSleep, Run};
+use klp_capture::{BootTime, Capture, Sample, Text};
+use klp_capture_catalog::{
+    SeenTransition, TransitionEnding, TransitionStart, first_forced_in, kernel_holders_in,
+    kernel_log_differs,
+};
+use klp_capture_run::{Explained, Holder};
+use klp_capture_search::{Followed, HoldingSleep, Run};
+use klp_contradictions::{LogVerdict, contradiction_in, verdict_of};
 use klp_core::Lag;
 use klp_types::{Mode, Version};
 use std::alloc::{AllocError, Global};
@@ -22,7 +30,9 @@ fn task_of(alloc: Global, task: &Followed<'_>) -> Result<TaskReport, AllocError>
     Ok(TaskReport {
         name: text_of(alloc, task.name)?,
         thread: task.thread,
+        process: task.process,
         is_kernel_thread: task.is_kernel_thread,
+        state: text_of(alloc, &[task.letter])?,
     })
 }
 
@@ -118,6 +128,76 @@ fn sleep_of(
     }
 }
 
+/// Returns the sleeps of a transition in functions that the log can't place.
+fn unplaced_of(
+    alloc: Global,
+    run: &Run<'_>,
+    transition: usize,
+) -> Result<Vec<UnplacedReport>, AllocError> {
+    let mut unplaced = Vec::new(alloc);
+    for task in &run.tasks {
+        for sleep in &task.unplaced_sleeps {
+            if sleep.transition == transition {
+                unplaced.push(UnplacedReport {
+                    task: task_of(alloc, task)?,
+                    function: text_of(alloc, sleep.function)?,
+                    from_us: sleep.from.0,
+                    to_us: sleep.to.0,
+                })?;
+            }
+        }
+    }
+    Ok(unplaced)
+}
+
+/// Returns the tasks that the kernel couldn't switch by its own log, without those that samples show as holders.
+fn kernel_holders_of(
+    alloc: Global,
+    capture: &Capture<'_>,
+    transitions: &[TransitionReport],
+) -> Result<Vec<KernelHolderReport>, AllocError> {
+    let mut holders = Vec::new(alloc);
+    for holder in &kernel_holders_in(alloc, capture)? {
+        let is_shown = transitions.iter().any(|transition| {
+            transition
+                .holders
+                .iter()
+                .any(|shown| shown.task.thread == holder.thread)
+        });
+        if !is_shown {
+            holders.push(KernelHolderReport {
+                name: text_of(alloc, holder.name)?,
+                thread: holder.thread,
+                function: text_of(alloc, holder.function)?,
+                from_us: holder.from.0,
+                to_us: holder.to.0,
+            })?;
+        }
+    }
+    Ok(holders)
+}
+
+/// Returns the first line of the kernel's own log that a later sample contradicts. A log that was cut off may lack the
+/// kernel's next line, so it contradicts nothing.
+fn kernel_log_of(
+    alloc: Global,
+    capture: &Capture<'_>,
+    forced: Option<BootTime>,
+) -> Result<Option<KernelLogReport>, AllocError> {
+    if !capture.is_whole {
+        return Ok(None);
+    }
+    let Some(differs) = kernel_log_differs(alloc, capture, forced)? else {
+        return Ok(None);
+    };
+    Ok(Some(KernelLogReport {
+        patch: text_of(alloc, differs.patch)?,
+        at_us: differs.at.0,
+        says_complete: differs.says_complete,
+        sample_us: differs.sample.0,
+    }))
+}
+
 /// Returns the tasks that lag in the last sample without holding the transition up.
 fn lagging_of(alloc: Global, run: &Run<'_>) -> Result<Vec<LaggingReport>, AllocError> {
     let mut lagging = Vec::new(alloc);
@@ -137,14 +217,17 @@ fn lagging_of(alloc: Global, run: &Run<'_>) -> Result<Vec<LaggingReport>, AllocE
 /// the tasks that a force would leave asleep in such a function.
 fn left_of(
     alloc: Global,
+    capture: &Capture<'_>,
     run: &Run<'_>,
     holding: &[Holder],
 ) -> Result<Vec<LeftReport>, AllocError> {
     let mut left = Vec::new(alloc);
     for holder in holding {
         if let Some(task) = run.tasks.get(holder.number) {
+            let task = task_of(alloc, task)?;
             left.push(LeftReport {
-                task: task_of(alloc, task)?,
+                process_name: process_name(alloc, capture, &task)?,
+                task,
                 function: function_name(alloc, run, holder.version)?,
             })?;
         }
@@ -176,6 +259,7 @@ fn end_of(found: &Explained<'_>, moved: &SeenTransition, is_last: bool) -> Optio
 
 fn transition_of(
     alloc: Global,
+    capture: &Capture<'_>,
     found: &Explained<'_>,
     number: usize,
     moved: &SeenTransition,
@@ -200,6 +284,7 @@ fn transition_of(
     } else {
         Vec::new(alloc)
     };
+    let holders = holders_of(alloc, run, number, moved, holding)?;
     Ok(TransitionReport {
         patch: patch_name(alloc, run, moved.patch)?,
         becomes,
@@ -208,46 +293,63 @@ fn transition_of(
         first_sample_us: moved.from.0,
         last_sample_us: moved.to.0,
         end,
-        holders: holders_of(alloc, run, number, moved, holding)?,
+        groups: groups_of(alloc, capture, &holders)?,
+        holders,
+        unplaced: unplaced_of(alloc, run, number)?,
         lagging,
     })
 }
 
 fn transitions_of(
     alloc: Global,
+    capture: &Capture<'_>,
     found: &Explained<'_>,
     holding: &[Holder],
 ) -> Result<Vec<TransitionReport>, AllocError> {
     let mut transitions = Vec::new(alloc);
     for (number, moved) in found.run.transitions.iter().enumerate() {
-        transitions.push(transition_of(alloc, found, number, moved, holding)?)?;
+        transitions.push(transition_of(alloc, capture, found, number, moved, holding)?)?;
     }
     Ok(transitions)
 }
 
 /// Counts the tasks that lag but aren't followed.
 fn others_of(capture: &Capture<'_>, run: &Run<'_>) -> TaskCounts {
-    let (tasks, running, sleeping) = match run.last.and_then(|last| capture.samples.get(last)) {
-        Some(sample) => (sample.line.tasks, sample.line.running, sample.line.sleeping),
-        None => (0, 0, 0),
+    let last = run.last.and_then(|last| capture.samples.get(last));
+    let (tasks, running, sleeping, inside) = match last {
+        Some(Sample { line, .. }) => (line.tasks, line.running, line.sleeping, line.inside),
+        None => (0, 0, 0, None),
     };
     TaskCounts {
         tasks,
         running,
         sleeping,
+        inside,
         left_out: run.left_out,
         functions_left_out: run.functions.left_out as u64,
         names_cut: run.functions.cut.len() as u64,
     }
 }
 
-/// The files that the kernel didn't show.
-fn missing_of(alloc: Global, capture: &Capture<'_>) -> Result<Vec<String>, AllocError> {
-    let mut missing = Vec::new(alloc);
-    for file in &capture.missing {
-        missing.push(text_of(alloc, file)?)?;
-    }
-    Ok(missing)
+/// Returns the first sample that contradicts the rules. Nothing is judged that the kernel forced.
+fn broken_of(
+    alloc: Global,
+    capture: &Capture<'_>,
+    found: &Explained<'_>,
+) -> Result<Option<BrokenReport>, AllocError> {
+    let forced = first_forced_in(capture);
+    let Some(it) = contradiction_in(alloc, capture, &found.run.functions, forced)? else {
+        return Ok(None);
+    };
+    let Some(sample) = capture.samples.get(it.sample) else {
+        return Ok(None);
+    };
+    Ok(Some(BrokenReport {
+        from_us: sample.line.from.0,
+        to_us: sample.line.to.0,
+        why: format!(in alloc; "{}", it.what)?,
+        unless_forced: it.what.is_excused_by_a_force(),
+    }))
 }
 
 /// Gathers the findings about a log.
@@ -258,13 +360,30 @@ pub fn report_of(
 ) -> Result<Report, AllocError> {
     let run = &found.run;
     let holding = found.holders(alloc)?;
+    let not_seen = not_seen_of(alloc, capture, found.forced)?;
+    let broken = broken_of(alloc, capture, found)?;
+    let kernel_log_differs = kernel_log_of(alloc, capture, found.forced)?;
+    let is_explained = found.is_explained() && kernel_log_differs.is_none();
+    let verdict = match verdict_of(not_seen.is_empty(), broken.is_some(), is_explained) {
+        LogVerdict::Explained => VerdictReport::Explained,
+        LogVerdict::Broken => VerdictReport::Broken,
+        LogVerdict::NotExplained => VerdictReport::NotExplained,
+        LogVerdict::NotSeen => VerdictReport::NotSeen,
+    };
+    let transitions = transitions_of(alloc, capture, found, &holding)?;
     Ok(Report {
+        schema: SCHEMA,
         kernel: text_of(alloc, capture.kernel)?,
-        missing: missing_of(alloc, capture)?,
+        verdict,
+        not_seen,
+        broken,
+        not_explained: not_explained_of(alloc, capture, found)?,
+        kernel_log_differs,
         is_preflight: !capture.asked.is_empty(),
         inside: inside_of(alloc, capture)?,
-        transitions: transitions_of(alloc, found, &holding)?,
-        left_by_force: left_of(alloc, run, &holding)?,
+        kernel_holders: kernel_holders_of(alloc, capture, &transitions)?,
+        transitions,
+        left_by_force: left_of(alloc, capture, run, &holding)?,
         forced_at_us: match found.forced {
             Some(at) => Some(at.0),
             None => None,
@@ -275,9 +394,10 @@ pub fn report_of(
             left_out: run.torn,
             later: found.later,
         },
+        first_forced_us: match first_forced_in(capture) {
+            Some(at) => Some(at.0),
+            None => None,
+        },
         is_cut_off: !capture.is_whole,
-        is_explained: found.is_explained(),
-        is_refuted: found.is_refuted(),
-        refused: refused_of(alloc, capture, found)?,
     })
 }

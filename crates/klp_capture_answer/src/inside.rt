@@ -83,7 +83,9 @@ pub(crate) fn inside_of(
             task: TaskReport {
                 name: text_of(alloc, task.name)?,
                 thread: task.thread,
+                process: task.process,
                 is_kernel_thread: task.is_kernel_thread,
+                state: text_of(alloc, &[task.letter])?,
             },
             function: text_of(alloc, function)?,
             is_asleep: task.is_stable && task.activity == Activity::Asleep,

@@ -8,8 +8,11 @@
 #![tactic(auto)]
 
 mod gather;
+mod groups;
 mod inside;
-mod refused;
+mod lists;
+mod not_explained;
+mod not_seen;
 mod report;
 mod words;
 

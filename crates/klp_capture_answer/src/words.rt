@@ -1,18 +1,17 @@
 //! A report in words.
+use crate::lists::{SHOWN, print_kernel_holders, print_left, print_more};
 use crate::report::{
-    Becomes, EndReport, HolderReport, HowEnded, InsideReport, LaggingReport, LeftReport,
-    RefusedReport, Report, TaskReport, TransitionReport, WhyLags, seconds,
+    Becomes, BrokenReport, EndReport, GroupReport, HolderReport, HowEnded, InsideReport,
+    KernelLogReport, LaggingReport, NotExplainedReport, NotSeen, Report, TaskReport,
+    TransitionReport, UnplacedReport, VerdictReport, WhyLags, seconds,
 };
 use klp_capture::Elapsed;
 use klp_messages::Escaped;
 use std::io::Write;
 use std::{fmt, io};
 
-/// At most this many tasks of each kind are written.
-const SHOWN: usize = 16;
-
 /// Returns a name without bytes that would control a terminal.
-fn shown(name: &String) -> Escaped<'_> {
+pub(crate) fn shown(name: &String) -> Escaped<'_> {
     Escaped(name.as_bytes())
 }
 
@@ -38,11 +37,14 @@ fn elapsed(from_us: u64, to_us: u64) -> Elapsed {
     Elapsed(seconds(from_us), seconds(to_us))
 }
 
-/// Writes how many tasks a list leaves out, if the list names only the first tasks.
-fn print_more<W: Write>(count: usize, what: &str, out: &mut W) -> io::Result<()> {
-    match count.saturating_sub(SHOWN) {
-        0 => Ok(()),
-        more => writeln!(out, "  and {more} more {what} (--json names them)"),
+/// Returns what can free a sleeper: a signal wakes one in state S, and no signal one in state D or a kernel thread.
+fn way_out(task: &TaskReport) -> &'static str {
+    if task.is_kernel_thread {
+        "kill does nothing to it"
+    } else if task.state.as_str() == "S" {
+        "a signal may free it"
+    } else {
+        "no signal frees it"
     }
 }
 
@@ -56,10 +58,11 @@ fn print_holder<W: Write>(holder: &HolderReport, last_us: u64, out: &mut W) -> i
     };
     let (from, to) = (seconds(holder.from_us), seconds(holder.to_us));
     if holder.holds_still {
-        let time = elapsed(holder.from_us, last_us);
+        let (time, state) = (elapsed(holder.from_us, last_us), &task.state);
+        let way_out = way_out(task);
         writeln!(
             out,
-            "  {task}{kind} holds it up: asleep in {function} since {from} s or before, for {time} s"
+            "  {task}{kind} holds it up: asleep ({state}: {way_out}) in {function} since {from} s or before, for {time} s"
         )
     } else {
         writeln!(
@@ -69,27 +72,93 @@ fn print_holder<W: Write>(holder: &HolderReport, last_us: u64, out: &mut W) -> i
     }
 }
 
+/// Writes how many threads of a process hold the transition up, or held it up, in one function.
+fn print_group<W: Write>(
+    group: &GroupReport,
+    holder: &HolderReport,
+    last_us: u64,
+    out: &mut W,
+) -> io::Result<()> {
+    let (name, process, threads) = (shown(&group.process_name), group.process, group.threads);
+    let function = shown(&holder.function);
+    let (from, to) = (seconds(group.from_us), seconds(group.to_us));
+    if holder.holds_still {
+        let (time, state) = (elapsed(group.from_us, last_us), &holder.task.state);
+        let way_out = way_out(&holder.task);
+        writeln!(
+            out,
+            "  {name}[{process}]: {threads} threads hold it up: asleep ({state}: {way_out}) in {function}, \
+            the first since {from} s or before, for {time} s"
+        )
+    } else {
+        writeln!(
+            out,
+            "  {name}[{process}]: {threads} threads held it up, asleep in {function}, between {from} s and {to} s"
+        )
+    }
+}
+
+/// Writes who holds the transition up, or held it up. Threads of one process that sleep in one function share a line.
 fn print_holders<W: Write>(
     transition: &TransitionReport,
     hold_still: bool,
     out: &mut W,
 ) -> io::Result<()> {
-    let mut count: usize = 0;
-    for holder in &transition.holders {
+    let (mut lines, mut more): (usize, u64) = (0, 0);
+    for group in &transition.groups {
+        let Some(holder) = transition.holders.get(group.first_holder) else {
+            continue;
+        };
         if holder.holds_still != hold_still {
             continue;
         }
-        if count < SHOWN {
-            print_holder(holder, transition.last_sample_us, out)?;
+        if lines >= SHOWN {
+            more = more.saturating_add(group.threads);
+        } else if group.threads > 1 {
+            print_group(group, holder, transition.last_sample_us, out)?;
+        } else {
+            print_sleeps(transition, group, holder, out)?;
         }
-        count = count.saturating_add(1);
+        lines = lines.saturating_add(1);
     }
     let what = if hold_still {
         "hold it up"
     } else {
         "held it up"
     };
-    print_more(count, what, out)
+    match more {
+        0 => Ok(()),
+        more => writeln!(out, "  and {more} more {what} (--json names them)"),
+    }
+}
+
+/// Writes each sleep of the only thread of a group.
+fn print_sleeps<W: Write>(
+    transition: &TransitionReport,
+    group: &GroupReport,
+    first: &HolderReport,
+    out: &mut W,
+) -> io::Result<()> {
+    for holder in transition.holders.iter().skip(group.first_holder) {
+        if holder.task.thread == first.task.thread
+            && holder.function == first.function
+            && holder.holds_still == first.holds_still
+        {
+            print_holder(holder, transition.last_sample_us, out)?;
+        }
+    }
+    Ok(())
+}
+
+/// Writes which task slept in a function that the log can't place.
+fn print_unplaced<W: Write>(unplaced: &UnplacedReport, out: &mut W) -> io::Result<()> {
+    let (task, function) = (&unplaced.task, shown(&unplaced.function));
+    let (from, to) = (seconds(unplaced.from_us), seconds(unplaced.to_us));
+    writeln!(
+        out,
+        "  {task} may have held it up: asleep from {from} s to {to} s in {function} of a patch's module, \
+        which the log can't place"
+    )
 }
 
 /// Writes which task lags without holding the transition up.
@@ -151,22 +220,14 @@ fn print_transition<W: Write>(transition: &TransitionReport, out: &mut W) -> io:
     }
     print_holders(transition, false, out)?;
     print_holders(transition, true, out)?;
+    for unplaced in transition.unplaced.iter().take(SHOWN) {
+        print_unplaced(unplaced, out)?;
+    }
+    print_more(transition.unplaced.len(), "may hold it up", out)?;
     for lagging in transition.lagging.iter().take(SHOWN) {
         print_lagging(lagging, out)?;
     }
     print_more(transition.lagging.len(), "lag", out)
-}
-
-/// Writes which tasks a force left asleep, or would leave asleep.
-fn print_left<W: Write>(left: &[LeftReport], front: &str, out: &mut W) -> io::Result<()> {
-    for left in left.iter().take(SHOWN) {
-        let (task, function) = (&left.task, shown(&left.function));
-        writeln!(
-            out,
-            "  {front}{task} asleep in {function}, which no task calls any more"
-        )?;
-    }
-    print_more(left.len(), "sleep in such functions", out)
 }
 
 impl Report {
@@ -178,21 +239,56 @@ impl Report {
         }
     }
 
+    /// Whether the last transition is held up, and by no task that the log names or counts.
+    fn no_task_lags(&self) -> bool {
+        match self.transitions.last() {
+            Some(last) if self.verdict == VerdictReport::Explained => {
+                !last.holders.iter().any(|holder| holder.holds_still)
+                    && last.lagging.is_empty()
+                    && last.unplaced.is_empty()
+                    && self.others.left_out == 0
+            }
+            _ => false,
+        }
+    }
+
     /// Writes how many tasks lag without being followed.
     fn print_others<W: Write>(&self, out: &mut W) -> io::Result<()> {
         let others = self.others;
-        if others.running > 0 || others.sleeping > 0 {
-            let (tasks, running, sleeping) = (others.tasks, others.running, others.sleeping);
+        let inside = others.inside.unwrap_or(0);
+        if inside > 0 {
             writeln!(
                 out,
-                "  of {tasks} tasks {running} more lag and run, and {sleeping} more lag asleep elsewhere"
+                "  {inside} more are unswitched inside of patched functions: the log counts them without a line of their own, \
+                and its lines of the kernel may name them"
+            )?;
+        }
+        if others.running > 0 || others.sleeping > 0 {
+            let (tasks, running, sleeping) = (others.tasks, others.running, others.sleeping);
+            let place = match others.inside {
+                Some(_) => " elsewhere",
+                None => ": the log doesn't say where, so they may hold it up",
+            };
+            writeln!(
+                out,
+                "  of {tasks} tasks {running} more lag and run, and {sleeping} more lag asleep{place}"
+            )?;
+        } else if inside == 0 && self.no_task_lags() {
+            writeln!(
+                out,
+                "  no task that the log names or counts lags: an idle task may hold it up, which /proc doesn't show"
             )?;
         }
         if others.left_out > 0 {
             let left_out = others.left_out;
+            let tasks = if left_out == 1 {
+                "task is"
+            } else {
+                "tasks are"
+            };
             writeln!(
                 out,
-                "  {left_out} followed tasks were left out: at most 64 are told"
+                "  {left_out} more {tasks} named by the log and not judged: only 63 can be"
             )?;
         }
         Ok(())
@@ -220,6 +316,7 @@ impl Report {
         for transition in &self.transitions {
             print_transition(transition, out)?;
         }
+        print_kernel_holders(&self.kernel_holders, out)?;
         match self.transitions.last() {
             None if self.samples.left_out > 0 || self.samples.later > 0 => writeln!(
                 out,
@@ -228,9 +325,12 @@ impl Report {
             None => writeln!(out, "no patch was in transition"),
             Some(last) if last.end.is_none() => {
                 self.print_others(out)?;
-                match self.refused {
-                    None => print_left(&self.left_by_force, "forced now, it would leave ", out),
-                    Some(_) => Ok(()),
+                match self.verdict {
+                    VerdictReport::Explained => {
+                        print_left(&self.left_by_force, "forced now, it would leave ", out)?;
+                        self.print_unlisted_left(out)
+                    }
+                    _ => Ok(()),
                 }
             }
             Some(last)
@@ -243,6 +343,17 @@ impl Report {
                 ) => { print_left(&self.left_by_force, "the force left ", out) }
             Some(_) => Ok(()),
         }
+    }
+
+    /// Writes that a force may leave tasks asleep that the report doesn't list.
+    fn print_unlisted_left<W: Write>(&self, out: &mut W) -> io::Result<()> {
+        if self.others.inside.unwrap_or(0) > 0 || self.others.left_out > 0 {
+            writeln!(
+                out,
+                "  forced now, it may leave tasks asleep, too, that have no line here"
+            )?;
+        }
+        Ok(())
     }
 
     /// Writes the tasks that are inside of functions for which `klpcap` was told to look.
@@ -275,21 +386,25 @@ impl Report {
                 "the log was cut off: what is told is as of its last whole sample"
             )?;
         }
-        let (shown, left_out) = (self.samples.shown, self.samples.left_out);
-        match &self.refused {
-            Some(refused) => return print_refused(refused, out),
-            None if shown == 0 => return writeln!(out, "the log has no sample to explain"),
-            None if self.is_refuted => {
-                return writeln!(out, "no run of the rules shows the samples");
-            }
-            None if !self.is_explained => {
-                return writeln!(
-                    out,
-                    "it isn't known whether a run of the rules shows the samples"
-                );
-            }
-            None => write!(out, "a run of the rules shows each of {shown} samples")?,
+        if let Some(broken) = &self.broken {
+            return print_broken(broken, out);
         }
+        if self.verdict == VerdictReport::Explained {
+            return self.print_explained(out);
+        }
+        if let Some(differs) = &self.kernel_log_differs {
+            print_kernel_log(differs, out)?;
+        }
+        match &self.not_explained {
+            Some(lacking) => self.print_not_explained(lacking, out),
+            None => Ok(()),
+        }
+    }
+
+    /// Writes that a run of the rules shows the samples, and what that means.
+    fn print_explained<W: Write>(&self, out: &mut W) -> io::Result<()> {
+        let (shown, left_out) = (self.samples.shown, self.samples.left_out);
+        write!(out, "a run of the rules shows each of {shown} samples")?;
         match left_out {
             0 => writeln!(out)?,
             _ => writeln!(
@@ -309,6 +424,117 @@ impl Report {
             ),
         }
     }
+
+    /// Writes the sample to which no tried run leads, with the states of the log and of the first of these runs.
+    fn print_not_explained<W: Write>(
+        &self,
+        lacking: &NotExplainedReport,
+        out: &mut W,
+    ) -> io::Result<()> {
+        let (from, to) = (seconds(lacking.from_us), seconds(lacking.to_us));
+        writeln!(
+            out,
+            "not explained: no run was found that shows the sample from {from} s to {to} s"
+        )?;
+        if let Some(log) = &lacking.log {
+            writeln!(out, "  the log has {}", shown(log))?;
+        }
+        if let Some(rules) = &lacking.rules {
+            writeln!(out, "  in the run that was tried first, {}", shown(rules))?;
+        }
+        if let Some(at) = self.first_forced_us {
+            let at = seconds(at);
+            writeln!(
+                out,
+                "  a transition was forced at {at} s, which would explain it"
+            )?;
+        }
+        if self.is_cut_off {
+            writeln!(
+                out,
+                "  the log may lack the kernel's line of a force, which would explain it"
+            )?;
+        }
+        writeln!(
+            out,
+            "this accuses nobody: the kernel may have done between two samples what the search doesn't try. \
+            Samples in shorter time (klpcap -i 0.05) leave less to guess"
+        )
+    }
+
+    /// Writes what couldn't be read, and what to do.
+    fn print_not_seen<W: Write>(&self, out: &mut W) -> io::Result<()> {
+        for lacking in &self.not_seen {
+            match lacking {
+                NotSeen::File(file) => writeln!(
+                    out,
+                    "the kernel doesn't show {}: is this root, and is it configured?",
+                    shown(file)
+                )?,
+                NotSeen::Function(function) => writeln!(
+                    out,
+                    "the kernel has no function {}: it may be misspelled, inlined, or there under a longer name \
+                    (grep it in /proc/kallsyms)",
+                    shown(function)
+                )?,
+                NotSeen::Sample => writeln!(
+                    out,
+                    "the log has no sample to explain: each was taken while a patch changed, or after a force"
+                )?,
+            }
+        }
+        writeln!(
+            out,
+            "so it isn't known who holds a transition up, or would: record again"
+        )
+    }
+}
+
+/// Writes the line of the kernel's own log that a later sample contradicts.
+fn print_kernel_log<W: Write>(differs: &KernelLogReport, out: &mut W) -> io::Result<()> {
+    let (patch, at, sample) = (
+        shown(&differs.patch),
+        seconds(differs.at_us),
+        seconds(differs.sample_us),
+    );
+    let (said, shows) = if differs.says_complete {
+        ("was complete", "is under way")
+    } else {
+        ("had started", "isn't under way")
+    };
+    writeln!(
+        out,
+        "not explained: by the kernel's log the transition of {patch} {said} at {at} s, and in the sample at \
+        {sample} s it {shows}"
+    )
+}
+
+/// Writes a sample that contradicts the rules.
+fn print_broken<W: Write>(broken: &BrokenReport, out: &mut W) -> io::Result<()> {
+    let (from, to, why) = (
+        seconds(broken.from_us),
+        seconds(broken.to_us),
+        shown(&broken.why),
+    );
+    let unless = if broken.unless_forced {
+        "unless a transition was forced before it"
+    } else {
+        "whatever came before it"
+    };
+    writeln!(
+        out,
+        "broken: no run of the rules shows the sample from {from} s to {to} s, {unless}"
+    )?;
+    writeln!(out, "  {why}")?;
+    let or_forced = if broken.unless_forced {
+        ", or the kernel's own log has lost the line of a force"
+    } else {
+        ""
+    };
+    writeln!(
+        out,
+        "either the kernel or the patch broke the rules, or the log isn't what the kernel did{or_forced}"
+    )
 }
 
 /// Writes a task that is inside of a function for which `klpcap` was told to look.
@@ -328,38 +554,15 @@ fn print_inside<W: Write>(inside: &InsideReport, out: &mut W) -> io::Result<()> 
     }
 }
 
-/// Writes the sample that none of the tried runs shows, with the states of the log and of the rules at this sample.
-fn print_refused<W: Write>(refused: &RefusedReport, out: &mut W) -> io::Result<()> {
-    let (from, to) = (seconds(refused.from_us), seconds(refused.to_us));
-    writeln!(
-        out,
-        "no run of the rules shows the sample from {from} s to {to} s:"
-    )?;
-    if let Some(log) = &refused.log {
-        writeln!(out, "  the log has {}", shown(log))?;
-    }
-    if let Some(rules) = &refused.rules {
-        writeln!(out, "  {}", shown(rules))?;
-    }
-    writeln!(
-        out,
-        "either the kernel or the patch broke the rules, or the log isn't what the kernel did, or the search missed a run"
-    )
-}
-
 /// Writes which patch is in transition and since when, which tasks hold the transition up, and whether the rules
 /// explain the log.
 pub fn print_report<W: Write>(report: &Report, out: &mut W) -> io::Result<()> {
-    for file in &report.missing {
-        let file = shown(file);
-        writeln!(
-            out,
-            "the kernel doesn't show {file}: is this root, and is it configured?"
-        )?;
+    if report.verdict == VerdictReport::NotSeen {
+        return report.print_not_seen(out);
     }
     if report.is_preflight {
         report.print_inside(out)?;
-        if report.transitions.is_empty() {
+        if report.transitions.is_empty() && report.verdict == VerdictReport::Explained {
             return Ok(());
         }
     }

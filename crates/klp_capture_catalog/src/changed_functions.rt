@@ -83,7 +83,7 @@ pub(crate) fn found_in<'a>(
     for row in rows {
         match row {
             PatchRow::Patch { name, .. } => patch = patches.iter().position(|own| own == name),
-            PatchRow::Object(name) => object = index_of(objects, *name, MAX_OBJECTS)?,
+            PatchRow::Object { name, .. } => object = index_of(objects, *name, MAX_OBJECTS)?,
             PatchRow::Loaded => {}
             PatchRow::Function { name, position } => {
                 if let (Some(patch), Some(object)) = (patch, object) {
@@ -100,18 +100,20 @@ pub(crate) fn found_in<'a>(
     Ok(found)
 }
 
-/// Whether older patches were gone when the transition of this patch completed.
-fn has_replaced(capture: &Capture<'_>, patch: &[u8]) -> bool {
+/// Whether older patches were gone when the transition of this patch completed. With `guesses`, it is enough that they
+/// were gone in the first sample that shows the patch enabled. They may have been disabled before, too.
+pub(crate) fn has_replaced(capture: &Capture<'_>, patch: &[u8], guesses: bool) -> bool {
     let mut last: Option<usize> = None;
     for (number, sample) in capture.samples.iter().enumerate() {
         let after = sample.patches.of(&capture.rows);
-        if !capture.is_settled(sample) {
+        if !sample.is_settled() {
             continue;
         }
         if let Some(sample) = last.and_then(|last| capture.samples.get(last)) {
             let before = sample.patches.of(&capture.rows);
-            let completes = files_in(before, patch) == Some((true, true))
-                && files_in(after, patch) == Some((true, false));
+            let was_moving = files_in(before, patch) == Some((true, true))
+                || (guesses && files_in(before, patch) != Some((true, false)));
+            let completes = was_moving && files_in(after, patch) == Some((true, false));
             if completes && has_lost_another(before, after, patch) {
                 return true;
             }
@@ -171,5 +173,5 @@ pub(crate) fn is_cumulative(
     patch: usize,
     name: &[u8],
 ) -> bool {
-    has_replaced(capture, name) || gives_back(capture, found, patch, name)
+    has_replaced(capture, name, false) || gives_back(capture, found, patch, name)
 }

@@ -12,12 +12,16 @@
 
 mod catalog;
 mod changed_functions;
+mod kernel_holders;
 mod kernel_log;
 mod named;
 mod patch_lines;
 mod transition;
 
-pub use kernel_log::{TransitionStart, forced_in, since_when};
+pub use kernel_holders::{KernelHolder, kernel_holders_in};
+pub use kernel_log::{
+    KernelLogDiffers, TransitionStart, first_forced_in, forced_in, kernel_log_differs, since_when,
+};
 pub use named::{Functions, SeenFunction, SeenPatch, SeenVersion, files_in, moving_in};
-pub use patch_lines::{Files, PatchLines, completes, starts};
+pub use patch_lines::{Files, PatchLines};
 pub use transition::{SeenTransition, TransitionEnd, TransitionEnding};

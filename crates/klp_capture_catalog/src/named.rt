@@ -1,6 +1,6 @@
 //! The names in a log: its patches, the functions that they change, and the versions of these functions that tasks are
 //! inside of.
-use crate::changed_functions::{FoundFunction, found_in, is_cumulative, is_shared};
+use crate::changed_functions::{FoundFunction, found_in, has_replaced, is_cumulative, is_shared};
 use crate::patch_lines::Files;
 use klp_capture::{Capture, FrameLine, PatchName, PatchRow, Span, SymbolLine, patch_in};
 use klp_types::{MAX_PATCHES, MAX_SITES, MAX_SYMBOL_NAME};
@@ -190,10 +190,14 @@ fn patches_of<'a>(alloc: Global, capture: &Capture<'a>) -> Result<Vec<&'a [u8]>,
     Ok(names)
 }
 
-/// Returns the patch that is in transition in the last sample.
-fn last_moving<'a>(capture: &Capture<'a>) -> Option<&'a [u8]> {
-    let (name, _target) = moving_in(capture.samples.last()?.patches.of(&capture.rows))?;
-    Some(name)
+/// Whether a patch may be cumulative, though the log doesn't show it: it is in transition in the last sample, or older
+/// patches went before it was first seen enabled.
+fn may_be_cumulative(capture: &Capture<'_>, patch: &[u8]) -> bool {
+    let last = capture.samples.last();
+    let is_last_moving = last
+        .and_then(|last| moving_in(last.patches.of(&capture.rows)))
+        .is_some_and(|(name, _target)| name == patch);
+    is_last_moving || has_replaced(capture, patch, true)
 }
 
 /// Whether the symbols of a patch's module are known. A log that was cut off may lack the symbols.
@@ -224,8 +228,8 @@ pub(crate) fn new_symbol_of<'a>(
 }
 
 impl<'a> Functions<'a> {
-    /// Returns the names in a log. If a log was cut off, it doesn't show whether the last patch in transition is
-    /// cumulative. With `guesses`, this patch counts as cumulative.
+    /// Returns the names in a log. With `guesses`, a patch counts as cumulative if it may be, though the log doesn't show
+    /// that it is.
     pub fn of(
         alloc: Global,
         capture: &Capture<'a>,
@@ -248,7 +252,7 @@ impl<'a> Functions<'a> {
         for name in &names {
             let patch = functions.patches.len();
             let is_cumulative = is_cumulative(capture, &found.functions, patch, name)
-                || (guesses && last_moving(capture) == Some(*name));
+                || (guesses && may_be_cumulative(capture, *name));
             functions.patches.push(SeenPatch {
                 name: *name,
                 is_cumulative,
@@ -405,6 +409,53 @@ impl<'a> Functions<'a> {
         })
     }
 
+    /// Returns the innermost of these frames that is in a patch's module, if none of them is a new function of that
+    /// patch that the log shows. So the task is inside of a function of the patch, and it isn't known of which.
+    pub fn unplaced_in(&self, frames: &[FrameLine<'a>]) -> Option<FrameLine<'a>> {
+        let unplaced = frames.iter().find(|frame| {
+            let is_of_a_patch = self
+                .patches
+                .iter()
+                .any(|patch| frame.module == Some(patch.name));
+            is_of_a_patch
+                && !frames.iter().any(|other| {
+                    other.module == frame.module
+                        && self
+                            .seen_version(*other)
+                            .is_some_and(|version| version.is_new)
+                })
+        })?;
+        Some(*unplaced)
+    }
+
+    /// Whether one of these frames is in a function that a patch of the log changes, or in a patch's module.
+    pub fn is_inside(&self, frames: &[FrameLine<'a>]) -> bool {
+        frames
+            .iter()
+            .any(|frame| self.seen_version(*frame).is_some())
+            || self.unplaced_in(frames).is_some()
+    }
+
+    /// Whether an object is loaded by these rows. Returns `None` if no patch has the object there.
+    pub fn is_loaded_in(&self, rows: &[PatchRow<'a>], object: usize) -> Option<bool> {
+        let wanted = self.objects.get(object)?;
+        let mut is_loaded = None;
+        let mut is_wanted = false;
+        for row in rows {
+            match row {
+                PatchRow::Object { name, .. } => {
+                    is_wanted = name == wanted;
+                    if is_wanted && is_loaded.is_none() {
+                        is_loaded = Some(false);
+                    }
+                }
+                PatchRow::Loaded if is_wanted => is_loaded = Some(true),
+                _ => {}
+            }
+        }
+        is_loaded
+    }
+
     /// Returns the name of the symbol at a site of the catalog. Sites are numbered over all objects, in the order of
     /// their symbols.
     pub fn name_at(&self, site: usize) -> &'a [u8] {
@@ -439,6 +490,12 @@ impl<'a> Functions<'a> {
                 function.name,
             )),
         }
+    }
+
+    /// Returns the module that has the original of a function. `None` if it is in the kernel itself.
+    pub fn module_of(&self, function: &SeenFunction<'a>) -> Option<&'a [u8]> {
+        let object = self.objects.get(function.object).copied()?;
+        if object == KERNEL { None } else { Some(object) }
     }
 
     /// Whether a frame is in the original of this function.

@@ -1,6 +1,6 @@
 //! Explains a log in three steps: makes a catalog of what the log names, looks for a run of the rules that shows the
 //! log, and checks that run.
-ghost use Rattle.std.specs.Prelude.{◌≡◌, ◌≤◌, ◌<◌, ◌↔◌, true, false, length, string_bytes, None, is_some, Ok, IfOk};
+ghost use Rattle.std.specs.Prelude.{◌≡◌, ◌≤◌, ◌<◌, ◌↔◌, true, length, string_bytes, None, is_some, Ok, IfOk};
 ghost use Rattle.std.specs.Prelude.{IfSome};
 ghost use Rattle.std.specs.Str.Lines.{lines};
 ghost use Rattle.klp_program.specs.Watches.{Watches};
@@ -9,10 +9,10 @@ ghost use Rattle.klp_capture_run.specs.Explained.{is_honest};
 ghost use Rattle.klp_capture_run.specs.Holders.{LagOver, holders_in};
 
 use crate::holders::{Holder, Lags, holders_of, lags_over};
-use crate::run::Run;
 use klp_boot::{Fault, ManagerUse, over_text};
 use klp_capture::{BootTime, Capture, PatchName, Sample, Text, Thread};
 use klp_capture_catalog::{Functions, forced_in};
+use klp_capture_search::{OTHERS, Run};
 use klp_core::Manager;
 use klp_program::{Verdict, watch_over_text};
 use std::alloc::{AllocError, Global};
@@ -48,33 +48,23 @@ pub struct Explained<'a> {
 }
 
 impl<'a> Explained<'a> {
-    /// Whether a run of the rules shows what was recorded. This is so if four things are true: the trace shows some
-    /// sample, `failed` and `unshown` are `None`, the trace is honest, and it is known which tasks lag at its end.
+    /// Whether a run of the rules shows what was recorded. This is so if five things are true: the trace shows some
+    /// sample, `failed`, `unjudged` and `unshown` are `None`, the trace is honest, and it is known which tasks lag at its
+    /// end.
     pub fn is_explained(&self) -> bool
         ensures { (result ≡ true) ↔
-            ((is_honest self.now.verdict ≡ true) × (self.now.failed ≡ None) × (self.now.unshown ≡ None)
-            × (0 < self.now.run.shown) × (is_some self.now.lags ≡ true)) }
+            ((is_honest self.now.verdict ≡ true) × (self.now.failed ≡ None) × (self.now.unjudged ≡ None)
+            × (self.now.unshown ≡ None) × (0 < self.now.run.shown) × (is_some self.now.lags ≡ true)) }
     {
         match self.verdict {
             Verdict::Honest(_) => {
                 self.failed.is_none()
+                    && self.unjudged.is_none()
                     && self.unshown.is_none()
                     && self.run.shown > 0
                     && self.lags.is_some()
             }
             _ => false,
-        }
-    }
-
-    /// Whether none of the tried runs shows what was recorded. A log without any sample to show is neither explained
-    /// nor refuted.
-    pub fn is_refuted(&self) -> bool
-        ensures { (result ≡ false) ↔
-            ((is_honest self.now.verdict ≡ true) × (self.now.failed ≡ None) × (self.now.unshown ≡ None)) }
-    {
-        match self.verdict {
-            Verdict::Honest(_) => self.failed.is_some() || self.unshown.is_some(),
-            _ => true,
         }
     }
 
@@ -87,7 +77,7 @@ impl<'a> Explained<'a> {
 }
 
 impl<'a> Explained<'a> {
-    /// Returns the tasks that hold the transition up at the end of the trace, which is the last settled sample. The
+    /// Returns the tasks that hold the transition up at the end of the trace, which is the last sample that it shows. The
     /// list is empty if no transition is under way at the end.
     pub fn holders(&self, alloc: Global) -> Result<Vec<Holder>, AllocError>
         ensures { IfOk result (λ list. list.items ≡ holders_in self.now.lags) }
@@ -103,6 +93,7 @@ impl<'a> Explained<'a> {
             let thread = task.thread;
             writeln!(text, "task {number} {name}[{thread}]")?;
         }
+        writeln!(text, "task {OTHERS} others")?;
         Ok(text)
     }
 }
@@ -145,7 +136,7 @@ fn explored<'a>(
     let functions = Functions::of(alloc, capture, guesses)?;
     let catalog = functions.catalog(alloc)?;
     let mut search = Search {
-        run: Run::new(alloc, functions)?,
+        run: Run::new(alloc, capture, functions)?,
         capture,
         forced,
     };
@@ -157,34 +148,22 @@ fn explored<'a>(
     })
 }
 
-/// Returns the first sample to which a run doesn't lead. Returns `None` if the run leads to all samples.
-fn reached(
+/// Looks for a run, first with what the log says of each patch, and if that run stops, with a guess at which patches are
+/// cumulative. A log shows that only by the symbols at its end, or where older patches go with a transition. Returns the
+/// run that leads further, or the first one.
+fn best_explored<'a>(
     alloc: Global,
-    capture: &Capture<'_>,
+    capture: &Capture<'a>,
     forced: Option<BootTime>,
-    guesses: bool,
-) -> Result<Option<usize>, Fault> {
-    let found = explored(alloc, capture, forced, guesses)?;
-    Ok(found.stopped)
-}
-
-/// Whether a run leads further if the last patch in transition counts as cumulative. The log shows whether the patch is
-/// cumulative only when the transition is complete, or by the symbols at the log's end. A log that was cut off may lack
-/// both.
-fn is_better_guessed(
-    alloc: Global,
-    capture: &Capture<'_>,
-    forced: Option<BootTime>,
-) -> Result<bool, Fault> {
-    if capture.is_whole {
-        return Ok(false);
-    }
-    let Some(stopped) = reached(alloc, capture, forced, false)? else {
-        return Ok(false);
+) -> Result<Exploration<'a>, Fault> {
+    let first = explored(alloc, capture, forced, false)?;
+    let Some(stopped) = first.stopped else {
+        return Ok(first);
     };
-    match reached(alloc, capture, forced, true)? {
-        Some(later) => Ok(later > stopped),
-        None => Ok(true),
+    let guessed = explored(alloc, capture, forced, true)?;
+    match guessed.stopped {
+        Some(later) if later <= stopped => Ok(first),
+        _ => Ok(guessed),
     }
 }
 
@@ -197,11 +176,12 @@ fn samples_before(number: Option<usize>, samples: &[Sample]) -> &[Sample]
         None => samples,
     }
 }
+
 /// Explains a log: makes a catalog of what the log names, and looks for a run of the rules that shows each sample. The
-/// verdict is the verdict of `klpwatch` on the trace that was found, with that catalog. The trace shows each settled
-/// sample that is before a force and before the first sample to which nothing leads. For each such sample, it shows the
-/// states of the tasks that the sample names, and the files of the patches. The rules, and the state at the end of the
-/// trace, decide which tasks lag there.
+/// verdict is the verdict of `klpwatch` on the trace that was found, with that catalog. The trace shows each sample that
+/// isn't torn, is before a force, and is before the first sample to which nothing leads. For each such sample, it shows
+/// the states of the tasks that the sample names, and the files of the patches. The rules, and the state at the end of
+/// the trace, decide which tasks lag there.
 pub fn explain<'a>(alloc: Global, capture: &Capture<'a>) -> Result<Explained<'a>, Fault>
     ensures judged { IfOk result
         (λ found. Watches (string_bytes found.catalog) (string_bytes found.run.trace) (Ok found.verdict)) }
@@ -215,12 +195,11 @@ pub fn explain<'a>(alloc: Global, capture: &Capture<'a>) -> Result<Explained<'a>
         (λ lags. LagOver (string_bytes found.catalog) (string_bytes found.run.trace) lags)) }
 {
     let forced = forced_in(capture);
-    let guesses = is_better_guessed(alloc, capture, forced)?;
     let Exploration {
         run,
         catalog,
         stopped,
-    } = explored(alloc, capture, forced, guesses)?;
+    } = best_explored(alloc, capture, forced)?;
     let verdict = watch_over_text(alloc, catalog.as_bytes(), run.trace.as_bytes())?;
     let lags = lags_over(alloc, catalog.as_bytes(), run.trace.as_bytes())?;
     let names = run.functions.names(alloc)?;
@@ -230,9 +209,9 @@ pub fn explain<'a>(alloc: Global, capture: &Capture<'a>) -> Result<Explained<'a>
     let reached = samples_before(failed, samples_before(unjudged, &capture.samples));
     let trace = run.trace.as_bytes();
     let unshown = capture.first_not_shown(alloc, trace, forced, &names, &threads, reached)?;
-    let seen = run.shown.saturating_add(run.torn);
+    let shown_or_torn = run.shown.saturating_add(run.torn);
     Ok(Explained {
-        later: (capture.samples.len() as u64).saturating_sub(seen),
+        later: (capture.samples.len() as u64).saturating_sub(shown_or_torn),
         run,
         names,
         threads,

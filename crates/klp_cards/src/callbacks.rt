@@ -17,7 +17,7 @@ pub(crate) struct Callbacks {
 }
 
 impl Callbacks {
-    /// Returns the state in which no callback is known yet. Allocates nothing.
+    /// Returns the state before a manager is booted: no callback is known, and nothing is watched. Allocates nothing.
     pub(crate) fn new(alloc: Global) -> Callbacks {
         Callbacks {
             calls: Calls::new(alloc),
@@ -30,30 +30,31 @@ impl Callbacks {
         self.watched.add_scripts(plan)
     }
 
-    /// Notes the callbacks and system states of the manager's catalog. `Err` if memory runs out.
+    /// Adds the callbacks of the manager's catalog, and begins to watch its system states. `Err` if memory runs out.
     pub(crate) fn open(&mut self, manager: &Manager) -> Result<(), AllocError> {
         self.calls.open(manager)?;
         self.watched.open(manager)
     }
 
-    /// Reads the watched shadow variables that an event without callbacks changed. If they weren't read now, a later
-    /// event would seem to have changed them. Does nothing if the catalog has no callback. `Err` if memory runs out.
-    pub(crate) fn hear(
+    /// Reads the watched shadow variables that an event changed by itself, without a callback. If they weren't read
+    /// now, a later event would seem to have changed them. Does nothing if the catalog has no callback, or if the line
+    /// did no event. `Err` if memory runs out.
+    pub(crate) fn read_own(
         &mut self,
         manager: &Manager,
         outcome: &LineOutcome,
     ) -> Result<(), AllocError> {
         match outcome {
             LineOutcome::Answered(event, Ok(_)) if !self.calls.is_empty() => {
-                self.watched.hear(manager, event)
+                self.watched.read_own(manager, event)
             }
             _ => Ok(()),
         }
     }
 
-    /// If callbacks ran in an event, adds a card that lists them and what they changed, and returns true. Otherwise
-    /// adds nothing, and returns false. `installed` are the patches that were installed before the event, oldest first.
-    /// `Err` if memory runs out.
+    /// If callbacks ran in an event, adds a card with the callbacks and with what they changed, and returns true.
+    /// Otherwise adds nothing and returns false. `installed` are the patches that were installed before the event,
+    /// oldest first. `Err` if memory runs out.
     pub(crate) fn describe(
         &mut self,
         sheet: &mut Sheet,
@@ -63,8 +64,9 @@ impl Callbacks {
         if self.calls.is_empty() {
             return Ok(false);
         }
-        self.watched.look(manager);
-        if !self.calls.look(manager, installed)? {
+        // The values are read even if no callback ran, since a rewind changes them too.
+        self.watched.read_all(manager);
+        if !self.calls.find_ran(manager, installed)? {
             return Ok(false);
         }
         sheet.markup("<div class=card><b>callbacks</b>, in their order:<ol>");

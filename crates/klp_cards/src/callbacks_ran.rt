@@ -9,11 +9,11 @@ use std::alloc::{AllocError, Global};
 /// The kinds of callbacks, in the order in which a patch runs those of one object.
 const KINDS: [Which; 4] = [Which::Pre, Which::Post, Which::PreUn, Which::PostUn];
 
-/// How many values `turn_of` can return. The callbacks of applied patches have one value for each installed patch and
-/// one for a new patch. The callbacks of removed patches have as many further values.
+/// How many values [`turn_of`] can return: for callbacks of applied patches one for each installed patch and one for a
+/// new patch, and as many for callbacks of removed patches.
 const TURNS: usize = 2 * (MAX_PATCHES + 1);
 
-/// A callback of the catalog, and how often it had run after the last event.
+/// A callback of the catalog, and how often it had run when the counts were read last.
 #[derive(Clone, Copy)]
 struct Call {
     patch: PatchId,
@@ -38,19 +38,20 @@ pub(crate) struct Calls {
     ran: Vec<Ran>,
 }
 
-/// Whether callbacks of this kind run when an object is patched. Callbacks of the other two kinds run when an object is
-/// unpatched. If one event both patches and unpatches objects, the callbacks of the patched objects run first.
-fn comes(which: Which) -> bool {
+/// Whether callbacks of this kind run when an object is patched: before it or after it. The other two kinds run when an
+/// object is unpatched.
+fn runs_when_patched(which: Which) -> bool {
     matches!(which, Which::Pre | Which::Post)
 }
 
-/// Returns the turn of a callback among the callbacks of one event. Callbacks of applied patches run before callbacks
-/// of removed patches. In each of the two groups, the callbacks of an older patch run before those of a newer patch.
-/// `installed` are the patches that were installed before the event, oldest first.
+/// Returns the turn of a callback among the callbacks that one event runs. All callbacks of applied patches run before
+/// those of removed patches. In each of these groups, an older patch comes before a newer one. `installed` are the
+/// patches that were installed before the event, oldest first.
 fn turn_of(call: &Call, installed: &[PatchId]) -> usize {
     let place = installed.iter().position(|patch| *patch == call.patch);
+    // A patch that wasn't installed is new, so it is newer than all others.
     let place = place.unwrap_or(MAX_PATCHES).min(MAX_PATCHES);
-    if comes(call.which) {
+    if runs_when_patched(call.which) {
         place
     } else {
         MAX_PATCHES + 1 + place
@@ -88,7 +89,7 @@ impl Calls {
         }
     }
 
-    /// Adds the callbacks of one object of a patch. `Err` if memory runs out.
+    /// Adds the callbacks that a patch has for one object, with their present counts of runs. `Err` if memory runs out.
     fn open_object(
         &mut self,
         manager: &Manager,
@@ -108,7 +109,7 @@ impl Calls {
         Ok(())
     }
 
-    /// Adds all callbacks of the manager's catalog. `Err` if memory runs out.
+    /// Adds all callbacks of the manager's catalog, with their present counts of runs. `Err` if memory runs out.
     pub(crate) fn open(&mut self, manager: &Manager) -> Result<(), AllocError> {
         let catalog = manager.catalog();
         for number in 0..catalog.patches() {
@@ -127,10 +128,10 @@ impl Calls {
         self.calls.is_empty()
     }
 
-    /// Finds the callbacks that ran in an event. A callback ran if its count of runs has changed. Returns whether any
-    /// callback ran. `installed` are the patches that were installed before the event, oldest first. `Err` if memory
-    /// runs out.
-    pub(crate) fn look(
+    /// Finds the callbacks that ran in an event: their counts of runs have changed since they were read last. Returns
+    /// whether any callback ran. `installed` are the patches that were installed before the event, oldest first. `Err`
+    /// if memory runs out.
+    pub(crate) fn find_ran(
         &mut self,
         manager: &Manager,
         installed: &[PatchId],
@@ -148,7 +149,7 @@ impl Calls {
         Ok(!self.ran.is_empty())
     }
 
-    /// Adds the callbacks that ran, in the order in which they ran.
+    /// Adds a list item for each callback that ran in the event, in the order in which they ran.
     pub(crate) fn add_ran(&self, sheet: &mut Sheet, manager: &Manager) {
         for turn in 0..TURNS {
             for ran in &self.ran {

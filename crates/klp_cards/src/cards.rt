@@ -7,7 +7,7 @@ use klp_names::Names;
 use klp_timeline::{Fact, View, lagging};
 use klp_types::{Mode, PatchId};
 
-/// Adds a card of a patch or a module. The card has the name and the text `what`.
+/// Adds a card of a patch or a module: its name, and the words `what`.
 fn add_card(sheet: &mut Sheet, class: &'static str, name: &[u8], what: &'static str) {
     sheet.fill(
         "<div class={}><b>{}</b> {}</div>",
@@ -15,7 +15,8 @@ fn add_card(sheet: &mut Sheet, class: &'static str, name: &[u8], what: &'static 
     );
 }
 
-/// Adds a card of the effect of a line. Adds nothing if the cards of patches and tasks show the effect.
+/// Adds a card of what a line did, if the view doesn't show it: a module was loaded or unloaded, a pre-patch callback
+/// failed, or a transition was forced. Adds nothing for any other line.
 pub(crate) fn add_act(sheet: &mut Sheet, manager: &Manager, act: &Option<Fact>) {
     let (catalog, modules) = (manager.catalog(), manager.modules());
     let (name, what) = match *act {
@@ -34,13 +35,14 @@ pub(crate) fn add_act(sheet: &mut Sheet, manager: &Manager, act: &Option<Fact>) 
     add_card(sheet, "card", name, what);
 }
 
-/// Whether a line installed a patch, removed one, or changed the transition.
+/// Whether the views before and after a line differ in the transition or in the installed patches.
 pub(crate) fn are_patches_changed(before: &View, after: &View) -> bool {
     before.moving != after.moving || before.installed.as_slice() != after.installed.as_slice()
 }
 
-/// Returns the CSS class of an installed patch's card, and what the card says of the patch.
-fn standing(manager: &Manager, view: &View, patch: PatchId) -> (&'static str, &'static str) {
+/// Returns the CSS class of an installed patch's card, and the words that say whether the patch is enabled, moves in or
+/// moves out.
+fn class_and_words(manager: &Manager, view: &View, patch: PatchId) -> (&'static str, &'static str) {
     match view.moving {
         Some(moving) if moving.patch != patch => ("card", "is enabled"),
         Some(moving) if !moving.target => ("\"card moves\"", "moves out"),
@@ -52,8 +54,7 @@ fn standing(manager: &Manager, view: &View, patch: PatchId) -> (&'static str, &'
     }
 }
 
-/// Returns the words for tasks that lag in this mode. The words say where the tasks are, and when each task will
-/// switch. If `count` is 1, the words are in the singular.
+/// Returns the words for `count` tasks that lag in this mode: where they are, and when they will switch.
 fn switching(mode: Mode, count: usize) -> &'static str {
     match mode {
         Mode::User => plural(
@@ -74,8 +75,8 @@ fn switching(mode: Mode, count: usize) -> &'static str {
     }
 }
 
-/// Adds a list item for those tasks in this mode that lag without holding the transition up. Adds nothing if there are
-/// no such tasks.
+/// Adds a list item with the tasks in this mode that lag without holding the transition up. Adds nothing if there is no
+/// such task.
 fn add_waiting(sheet: &mut Sheet, names: &Names, view: &View, mode: Mode) {
     let laggards = lagging(mode, &view.waits);
     let tasks = laggards.as_slice();
@@ -86,7 +87,7 @@ fn add_waiting(sheet: &mut Sheet, names: &Names, view: &View, mode: Mode) {
     }
 }
 
-/// Adds a card of the tasks that lag without holding the transition up. Adds nothing if there are no such tasks.
+/// Adds a card of the tasks that lag without holding the transition up. Adds nothing if there is no such task.
 fn add_lagging(sheet: &mut Sheet, names: &Names, view: &View) {
     if view.waits.iter().all(|waits| waits.is_none()) {
         return;
@@ -98,8 +99,8 @@ fn add_lagging(sheet: &mut Sheet, names: &Names, view: &View) {
     sheet.markup("</ul></div>");
 }
 
-/// Adds a card for each patch that is installed after a line, and for each patch that the line removed. Also adds a
-/// card for the tasks that lag.
+/// Adds a card for each patch that is installed after a line, one for each patch that the line removed, and one for the
+/// tasks that lag without holding the transition up. `before` and `after` are the views before and after the line.
 pub(crate) fn add_patches(
     sheet: &mut Sheet,
     names: &Names,
@@ -109,7 +110,7 @@ pub(crate) fn add_patches(
 ) {
     let catalog = manager.catalog();
     for patch in &after.installed {
-        let (class, what) = standing(manager, after, *patch);
+        let (class, what) = class_and_words(manager, after, *patch);
         add_card(sheet, class, patch_name(catalog, *patch), what);
     }
     for patch in &before.installed {

@@ -4,7 +4,7 @@ use crate::callbacks::Callbacks;
 use crate::cards::{add_act, add_patches, are_patches_changed};
 use crate::reach::{Reach, reach_of};
 use crate::shot::{
-    TaskShot, did_something, has_other_state, is_holding, stands_as_before, task_shot,
+    TaskShot, did_something, has_other_state, is_holding, is_task_as_before, task_shot,
 };
 use crate::sites::add_site_card;
 use crate::tasks::{Actor, add_ended_card, add_task_card, add_uncarded};
@@ -18,7 +18,7 @@ use klp_timeline::{Moment, View};
 use klp_types::{Entry, MAX_PATCHES, MAX_TASKS, Site, TaskId};
 use std::alloc::{AllocError, Global};
 
-/// The largest number of tasks that have a card at one line.
+/// How many tasks have a card at one line, at most. The others are counted.
 const MAX_CARDS: u64 = 12;
 
 /// What a line changed, and the cards that show it.
@@ -48,7 +48,8 @@ struct Changes {
     callbacks: bool,
 }
 
-/// The tasks, function stacks and callbacks as they were after the last line. The next line is compared with these.
+/// The tasks, function stacks and callbacks as they were after the previous line. They are compared with those after
+/// the next line.
 #[derive(Drop)]
 pub struct Chronicle<'a> {
     /// The names of tasks.
@@ -58,9 +59,8 @@ pub struct Chronicle<'a> {
     callbacks: Callbacks,
 }
 
-/// The changes of tasks at one line. Says whether a task changed, and whether a task began to hold the transition up or
-/// stopped holding it up. Also has the number of tasks with a card, and the number of tasks for which there was no
-/// room.
+/// The changes of tasks at one line: whether a task changed, whether a task began to hold the transition up or stopped
+/// holding it up, how many tasks have a card, and for how many there was no room.
 #[derive(Clone, Copy)]
 struct Crowd {
     is_changed: bool,
@@ -70,7 +70,7 @@ struct Crowd {
 }
 
 impl<'a> Chronicle<'a> {
-    /// Returns the chronicle of a run before its first line. Its cards show the names of tasks from `names`. Allocates
+    /// Returns the chronicle of a run before its first line. Cards have the names of tasks from `names`. Allocates
     /// nothing.
     pub fn new(alloc: Global, names: &'a Names) -> Chronicle<'a> {
         Chronicle {
@@ -81,8 +81,8 @@ impl<'a> Chronicle<'a> {
         }
     }
 
-    /// Begins to watch the shadow variables that the scripts of a plan change. The manager must be booted over the same
-    /// plan later. `Err` if memory runs out.
+    /// Begins to watch the shadow variables that the scripts of a plan change. Call this before a manager is booted
+    /// over the plan, since a manager doesn't show its scripts. `Err` if memory runs out.
     pub fn watch(&mut self, plan: &Plan) -> Result<(), AllocError> {
         self.callbacks.watch(plan)
     }
@@ -96,8 +96,9 @@ impl<'a> Chronicle<'a> {
         self.callbacks.open(manager)
     }
 
-    /// Returns the changes that a line made, and the line's cards. Other lines than those that did or undid an event
-    /// change nothing, so call this only for lines that did. `Err` if memory runs out.
+    /// Returns what a line changed, with the line's cards. `before` is the view before the line, and `moment` has the
+    /// view after it. Call this for each line that did or undid an event. No other line changes anything. `Err` if
+    /// memory runs out.
     pub fn describe(
         &mut self,
         alloc: Global,
@@ -118,7 +119,8 @@ impl<'a> Chronicle<'a> {
         })
     }
 
-    /// Adds the cards of a line, and returns what the line changed. `Err` if memory runs out.
+    /// Adds the cards of a line to `sheet`, and returns what the line changed. `before` is the view before the line.
+    /// `Err` if memory runs out.
     fn describe_to(
         &mut self,
         sheet: &mut Sheet,
@@ -145,7 +147,8 @@ impl<'a> Chronicle<'a> {
         })
     }
 
-    /// Adds a card of the callbacks that ran. Returns whether a callback ran. `Err` if memory runs out.
+    /// Adds a card of the callbacks that a line ran, and returns whether it ran any. `before` is the view before the
+    /// line. `Err` if memory runs out.
     fn describe_callbacks(
         &mut self,
         sheet: &mut Sheet,
@@ -157,11 +160,13 @@ impl<'a> Chronicle<'a> {
             let installed = before.installed.as_slice();
             return self.callbacks.describe(sheet, manager, installed);
         }
-        self.callbacks.hear(manager, outcome)?;
+        // No callback ran, but the line may have changed a shadow variable itself.
+        self.callbacks.read_own(manager, outcome)?;
         Ok(false)
     }
 
-    /// Adds the cards of the tasks that did something. Returns the changes of all these tasks together.
+    /// Adds a card for each task that did something in a line, up to [`MAX_CARDS`], and the number of the others.
+    /// Returns the changes of all tasks together. `view` is the state after the line.
     fn describe_tasks(
         &mut self,
         sheet: &mut Sheet,
@@ -181,7 +186,7 @@ impl<'a> Chronicle<'a> {
             Reach::Tasks => {
                 for number in 0..MAX_TASKS {
                     let task = TaskId(number as u8);
-                    if !self.is_as_seen(manager, view, task) {
+                    if !self.is_unchanged(manager, view, task) {
                         self.describe_task(sheet, manager, view, task, &mut crowd);
                     }
                 }
@@ -197,16 +202,19 @@ impl<'a> Chronicle<'a> {
         crowd
     }
 
-    /// Whether a task is as it was after the last line. The functions that it sleeps in aren't compared.
-    fn is_as_seen(&self, manager: &Manager, view: &View, task: TaskId) -> bool {
+    /// Whether a task is as it was after the previous line. The functions that it sleeps in aren't compared: this is
+    /// only asked after a poll that leaves the transition under way, and such a poll changes no frames. A task number
+    /// out of range counts as unchanged, since it has no task.
+    fn is_unchanged(&self, manager: &Manager, view: &View, task: TaskId) -> bool {
         let number = usize::from(task.0);
         if number >= self.tasks.len() || number >= MAX_TASKS {
             return true;
         }
-        stands_as_before(manager, task, &view.stays[number], &self.tasks[number])
+        is_task_as_before(manager, task, &view.stays[number], &self.tasks[number])
     }
 
-    /// Adds a card of a task if the task did something. Notes the task's present state for the next line.
+    /// Adds a card of a task if it did something in a line, or counts it if there are [`MAX_CARDS`] already. Stores the
+    /// task as it is now for the comparison after the next line. `view` is the state after the line.
     fn describe_task(
         &mut self,
         sheet: &mut Sheet,
@@ -217,6 +225,7 @@ impl<'a> Chronicle<'a> {
     ) {
         let number = usize::from(task.0);
         if number >= self.tasks.len() || number >= MAX_TASKS {
+            // No task has such a number.
             return;
         }
         let stay = &view.stays[number];
@@ -234,6 +243,7 @@ impl<'a> Chronicle<'a> {
             return;
         }
         crowd.cards = crowd.cards.saturating_add(1);
+        // A task that did something and isn't there now has ended.
         let Some(shot) = &after else {
             add_ended_card(sheet, self.names, task);
             return;
@@ -247,7 +257,7 @@ impl<'a> Chronicle<'a> {
         add_task_card(sheet, self.names, manager, &actor);
     }
 
-    /// Adds a card for each site whose function stack changed. Returns whether there is such a site.
+    /// Adds a card for each site whose function stack a line changed. Returns whether there is such a site.
     fn describe_sites(
         &mut self,
         sheet: &mut Sheet,
@@ -259,6 +269,7 @@ impl<'a> Chronicle<'a> {
         }
         let mut is_changed = false;
         for (number, stack) in self.stacks.iter_mut().enumerate() {
+            // A site's number has 16 bits, so `min` changes nothing.
             let site = Site(number.min(65_535) as u16);
             let entries = manager.stack(site);
             if entries.as_slice() != stack.as_slice() {

@@ -17,7 +17,7 @@ pub(crate) enum Reach {
     All,
 }
 
-/// Returns what an event with this reply can have changed.
+/// Returns what an event that was accepted with this reply can have changed.
 fn reach_of_event(event: &Event, reply: &Reply) -> Reach {
     match event {
         Event::NewTask(task)
@@ -31,12 +31,14 @@ fn reach_of_event(event: &Event, reply: &Reply) -> Reach {
         | Event::ShadowGetOrAlloc(_, _)
         | Event::ShadowFree(_)
         | Event::ShadowFreeAll(_) => Reach::Nothing,
+        // The transition goes on, so only tasks were switched.
         Event::Poll if matches!(reply, Reply::Pending(_)) => Reach::Tasks,
         _ => Reach::All,
     }
 }
 
-/// Returns what a line with this outcome can have changed.
+/// Returns what a line with this outcome can have changed. A line that was refused, or that only asked, changed
+/// nothing.
 pub(crate) fn reach_of(outcome: &LineOutcome) -> Reach {
     match outcome {
         LineOutcome::Answered(event, Ok(reply)) => reach_of_event(event, reply),

@@ -1,4 +1,4 @@
-//! What is noted of a task after a line. After the next line, the task is compared with what was noted.
+//! What is stored of a task after a line, for comparison with the task after a later line.
 
 use klp_core::Manager;
 use klp_timeline::Stay;
@@ -17,7 +17,7 @@ pub(crate) struct TaskShot {
     pub frames: Frames,
 }
 
-/// Returns what is to be noted of a task now. Returns `None` if there is no such task.
+/// Returns what a task is like now. `stay` is the stay that it is in, if any. Returns `None` if there is no such task.
 pub(crate) fn task_shot(manager: &Manager, task: TaskId, stay: &Option<Stay>) -> Option<TaskShot> {
     let mode = manager.mode(task)?;
     let state = manager.patch_state(task)?;
@@ -30,15 +30,16 @@ pub(crate) fn task_shot(manager: &Manager, task: TaskId, stay: &Option<Stay>) ->
     })
 }
 
-/// Whether a task is as it was before. The functions that it sleeps in aren't compared. This costs less than
-/// `task_shot`.
-pub(crate) fn stands_as_before(
+/// Whether a task is like `before`. `stay` is the stay that it is in now, if any. The functions that it sleeps in
+/// aren't compared, so this costs less than [`task_shot`], and is only for lines that can't change them.
+pub(crate) fn is_task_as_before(
     manager: &Manager,
     task: TaskId,
     stay: &Option<Stay>,
     before: &Option<TaskShot>,
 ) -> bool {
     let Some(before) = before else {
+        // There was no such task before.
         return manager.mode(task).is_none();
     };
     manager.mode(task) == Some(before.mode)
@@ -47,19 +48,21 @@ pub(crate) fn stands_as_before(
         && before.is_outdated == matches!(stay, Some(Stay::Outdated(_)))
 }
 
-/// Whether a task switched. The beginning or end of a transition changes the patch state too, but isn't a switch.
+/// Whether a task was switched: it went from patch state 0 to 1 or back. The beginning or end of a transition changes
+/// the patch state from or to -1, which is no switch.
 fn has_switched(before: &TaskShot, after: &TaskShot) -> bool {
     before.state != after.state && before.state >= 0 && after.state >= 0
 }
 
-/// Whether a task sleeps in the same functions as before. Only the used places of the frames are compared.
+/// Whether a task sleeps in the same functions as before.
 fn are_frames_same(before: &TaskShot, after: &TaskShot) -> bool {
+    // The unused places of the frames may differ.
     before.frames.as_slice() == after.frames.as_slice()
 }
 
-/// Whether a task did something. A task did something if it began or ended, if its mode or its functions changed, or if
-/// it switched. It also did something if a stay of the task began or ended. The beginning or end of a transition
-/// doesn't count.
+/// Whether a task did something, so that it has a card: it began or ended, its mode or the functions that it sleeps in
+/// changed, it was switched, or a stay of it began or ended. That its patch state changes by the beginning or end of a
+/// transition isn't enough.
 pub(crate) fn did_something(before: &Option<TaskShot>, after: &Option<TaskShot>) -> bool {
     match (before, after) {
         (Some(before), Some(after)) => {
@@ -74,7 +77,8 @@ pub(crate) fn did_something(before: &Option<TaskShot>, after: &Option<TaskShot>)
     }
 }
 
-/// Whether the patch state of a task changed. A change by the beginning or end of a transition counts too.
+/// Whether the patch state of a task changed, also by the beginning or end of a transition. False for a task that began
+/// or ended.
 pub(crate) fn has_other_state(before: &Option<TaskShot>, after: &Option<TaskShot>) -> bool {
     match (before, after) {
         (Some(before), Some(after)) => before.state != after.state,

@@ -6,7 +6,8 @@ use klp_markup::{Sheet, add_symbol, function_name, patch_name};
 use klp_text::entry_bytes;
 use klp_types::{ENTRY_SITE_LEN, Entry, Site};
 
-/// Adds the bytes of an entry site. If the site's object isn't loaded, adds words that say so instead.
+/// Adds the bytes of a site's entry site. If the site's object isn't loaded, adds words that say so instead. Adds
+/// nothing if there is no such site.
 fn add_bytes(sheet: &mut Sheet, manager: &Manager, site: Site) {
     let Some((object, _, _)) = manager.modules().symbol(site) else {
         return;
@@ -15,6 +16,7 @@ fn add_bytes(sheet: &mut Sheet, manager: &Manager, site: Site) {
         sheet.markup("<p>its object isn't loaded</p>");
         return;
     };
+    // The sites of an object have successive numbers.
     let place = usize::from(site.0).saturating_sub(manager.first_site(object));
     let Some((_, _, body)) = text.get(place as u16) else {
         return;
@@ -27,7 +29,7 @@ fn add_bytes(sheet: &mut Sheet, manager: &Manager, site: Site) {
     }
 }
 
-/// Adds an entry of a function stack: `PATCH NEWNAME`, or `PATCH nop`.
+/// Adds a list item for an entry of a function stack: `PATCH NEWNAME`, or `PATCH nop`.
 fn add_entry(sheet: &mut Sheet, manager: &Manager, entry: &Entry) {
     let catalog = manager.catalog();
     let function = match entry.func {
@@ -38,7 +40,8 @@ fn add_entry(sheet: &mut Sheet, manager: &Manager, entry: &Entry) {
     sheet.fill("<li>{} {}", &[Words(patch), Words(function)]);
 }
 
-/// Adds the card of a site: its entries, newest first, and its bytes.
+/// Adds the card of a site: its symbol, its function stack, and the bytes of its entry site, or words that say that its
+/// object isn't loaded. `entries` is the function stack, and must be newest first.
 pub(crate) fn add_site_card(sheet: &mut Sheet, manager: &Manager, site: Site, entries: &[Entry]) {
     sheet.markup("<div class=card><b class=m>");
     add_symbol(sheet, manager.modules(), site);

@@ -18,7 +18,7 @@ pub(crate) struct Actor<'a> {
     pub moving: &'a Option<Transition>,
 }
 
-/// Returns the CSS class of a task's card.
+/// Returns the CSS class of a task's card: for its patch state, and for a task that holds the transition up.
 fn class_of(shot: &TaskShot) -> &'static str {
     match (shot.state, shot.is_holding) {
         (1, true) => "\"card new hold\"",
@@ -38,10 +38,9 @@ fn mode_text(mode: Mode) -> &'static str {
     }
 }
 
-/// Returns the words that say whether a task is at the target of the transition under way. If the task isn't at the
-/// target, the words say when it will switch, or that it holds the transition up. Without a transition, returns no
-/// words.
-fn progress(actor: &Actor<'_>) -> &'static str {
+/// Returns how far a task is in the transition under way: it is at the target, it holds the transition up, or it lags,
+/// with the words that say when it will switch. Returns no words if there is no transition.
+fn progress_text(actor: &Actor<'_>) -> &'static str {
     let Some(moving) = actor.moving else {
         return "";
     };
@@ -58,13 +57,14 @@ fn progress(actor: &Actor<'_>) -> &'static str {
     }
 }
 
-/// Returns the words that say why it matters that a task sleeps in this version. Returns no words if the version
-/// doesn't matter. If the task is at the target, no version blocks the transition.
+/// Returns why it matters that a task sleeps in this version, one of its frames: its calls wouldn't run the version
+/// now, or the version blocks the transition. Returns no words for any other version.
 fn why_it_matters(manager: &Manager, actor: &Actor<'_>, version: Version) -> &'static str {
     match *actor.stay {
         Some(Stay::Outdated(outdated)) if outdated == version => {
             "not called now: what has it mustn't be unloaded"
         }
+        // A task at the target isn't in such a stay, since no version blocks the transition for it.
         Some(Stay::Holds(moving, _)) if manager.blocks(version) => {
             if moving.target {
                 "blocks: the patch changes it"
@@ -76,7 +76,8 @@ fn why_it_matters(manager: &Manager, actor: &Actor<'_>, version: Version) -> &'s
     }
 }
 
-/// Adds a list item for a function that a task sleeps in. `why` says why the function matters, or is empty.
+/// Adds a list item for a version that a task sleeps in. `why` says why the version matters, and is empty if it
+/// doesn't.
 fn add_frame(sheet: &mut Sheet, manager: &Manager, version: Version, why: &'static str) {
     let (catalog, modules) = (manager.catalog(), manager.modules());
     if why.is_empty() {
@@ -89,7 +90,8 @@ fn add_frame(sheet: &mut Sheet, manager: &Manager, version: Version, why: &'stat
     }
 }
 
-/// Adds the card of a task that did something. It lists the functions that the task sleeps in, outermost first.
+/// Adds the card of a task that did something: its mode, the versions that it sleeps in, outermost first, and how far
+/// it is in the transition.
 pub(crate) fn add_task_card(
     sheet: &mut Sheet,
     names: &Names,
@@ -109,7 +111,7 @@ pub(crate) fn add_task_card(
         }
         sheet.markup("</ul>");
     }
-    sheet.markup(progress(actor));
+    sheet.markup(progress_text(actor));
     sheet.markup("</div>");
 }
 
@@ -120,7 +122,8 @@ pub(crate) fn add_ended_card(sheet: &mut Sheet, names: &Names, task: TaskId) {
     sheet.markup("</b> has ended</div>");
 }
 
-/// Adds a card with the number of tasks for which there was no room. Adds nothing if there was room for all tasks.
+/// Adds a card with the number of tasks for which there was no room. Adds nothing if there was room for all tasks, so
+/// that `count` is 0.
 pub(crate) fn add_uncarded(sheet: &mut Sheet, count: u64) {
     match count {
         0 => {}

@@ -8,14 +8,15 @@ use klp_model::Event;
 use klp_types::{Edit, MAX_PATCHES, MAX_TARGETS, MAX_VALUE_BYTES, PatchId, ShadowKey, ShadowValue};
 use std::alloc::{AllocError, Global};
 
-/// The largest number of scripts in a catalog. Each patch may have a script for each of its objects and each kind of
-/// callback.
+/// The largest number of scripts in a catalog. Each patch may have a script for each of its objects and for each of the
+/// four kinds of callbacks.
 const MAX_SCRIPTS: usize = 4 * MAX_TARGETS * MAX_PATCHES;
 
 /// The largest number of shadow variables that are watched. A manager never has so many at one time.
 const MAX_WATCHED: usize = 1_024;
 
-/// A shadow variable, with its value before the last event and its value after it.
+/// A shadow variable, with its value before and after the event that was read last. A value is `None` if there is no
+/// such variable.
 #[derive(Clone, Copy)]
 struct Variable {
     key: ShadowKey,
@@ -23,7 +24,8 @@ struct Variable {
     value: Option<ShadowValue>,
 }
 
-/// A system state of a patch, with its value before the last event and its value after it.
+/// A system state of a patch, with its value before and after the event that was read last. A value is `None` if the
+/// patch isn't installed.
 #[derive(Clone, Copy)]
 struct State {
     patch: PatchId,
@@ -32,7 +34,7 @@ struct State {
     value: Option<u64>,
 }
 
-/// All that callbacks can change, with the values before and after the last event.
+/// All that callbacks can change, with the values before and after the event that was read last.
 #[derive(Drop)]
 pub(crate) struct Watched {
     variables: Vec<Variable>,
@@ -43,8 +45,8 @@ pub(crate) struct Watched {
     is_full: bool,
 }
 
-/// Adds the value of a shadow variable, spelled as in a script. A value of eight bytes is spelled as a number. Any
-/// other value is spelled as `x` and its bytes in hexadecimal.
+/// Adds the value of a shadow variable, spelled as in a script: a value of eight bytes as a number, any other as `x`
+/// and its bytes in hexadecimal. Adds `none` if there is no such variable.
 fn add_value(sheet: &mut Sheet, value: &Option<ShadowValue>) {
     let Some(value) = value else {
         sheet.markup("none");
@@ -56,19 +58,20 @@ fn add_value(sheet: &mut Sheet, value: &Option<ShadowValue>) {
     }
     let mut digits = [0; 2 * MAX_VALUE_BYTES];
     let bytes = value.bytes();
+    // No value has more than `MAX_VALUE_BYTES` bytes, so `min` changes nothing.
     let count = bytes.len().min(MAX_VALUE_BYTES);
     let _ = hex::encode_to_slice(&bytes[..count], &mut digits[..2 * count]);
     sheet.fill("x{}", &[Text(&digits[..2 * count])]);
 }
 
 impl Variable {
-    /// Reads the variable's value after an event. The value that was stored becomes the value before the event.
-    fn look(&mut self, manager: &Manager) {
+    /// Reads the variable's value after an event. The value that was read before becomes the value before the event.
+    fn read(&mut self, manager: &Manager) {
         self.was = self.value;
         self.value = manager.shadow_get(self.key);
     }
 
-    /// Adds a list item with both values of this variable.
+    /// Adds a list item with the variable's values before and after the event: `was` and `value`.
     fn add(&self, sheet: &mut Sheet) {
         sheet.fill(
             "<li>shadow variable ({}, {}): ",
@@ -81,15 +84,15 @@ impl Variable {
 }
 
 impl State {
-    /// Reads the state's value after an event. The value that was stored becomes the value before the event.
-    fn look(&mut self, manager: &Manager) {
+    /// Reads the state's value after an event. The value that was read before becomes the value before the event.
+    fn read(&mut self, manager: &Manager) {
         self.was = self.value;
         self.value = manager.state_of(self.patch, self.id);
     }
 
-    /// If a callback changed the state, returns its values before and after the event. For a patch that was just
-    /// installed, the value before is 0. Returns `None` if the value is the same as before. Also returns `None` if the
-    /// patch was removed, since it then has no value.
+    /// Returns the state's values before and after the event if a callback changed it. A patch that the event installed
+    /// counts as if its state was 0 before. Returns `None` if the value is the same. Also returns `None` if the event
+    /// removed the patch, which then has no value.
     fn change(&self) -> Option<(u64, u64)> {
         let value = self.value?;
         let was = self.was.unwrap_or(0);
@@ -99,7 +102,7 @@ impl State {
         Some((was, value))
     }
 
-    /// Adds a list item with both values of this state.
+    /// Adds a list item with the state's values before and after the event, as [`State::change`] returned them.
     fn add(&self, sheet: &mut Sheet, manager: &Manager, was: u64, value: u64) {
         sheet.fill(
             "<li>state {} of '{}': {} {} {}",
@@ -135,8 +138,9 @@ impl Watched {
         false
     }
 
-    /// Begins to watch a shadow variable. Does nothing if the variable is watched already. If [`MAX_WATCHED`] other
-    /// variables are watched, only notes that some variable isn't watched. `Err` if memory runs out.
+    /// Begins to watch a shadow variable, whose value isn't read yet. Does nothing if it is watched already. If
+    /// [`MAX_WATCHED`] others are watched, sets only `is_full`, which says that a variable is missing. `Err` if memory
+    /// runs out.
     fn add_variable(&mut self, key: ShadowKey) -> Result<(), AllocError> {
         if self.is_watched(key) {
             return Ok(());
@@ -153,17 +157,19 @@ impl Watched {
         Ok(())
     }
 
-    /// Begins to watch what an edit of a script changes. `Err` if memory runs out.
+    /// Begins to watch the shadow variable that an edit of a script adds or removes. If the edit removes all variables
+    /// with an id, adds the id to `freed`. `Err` if memory runs out.
     fn add_edit(&mut self, edit: &Edit) -> Result<(), AllocError> {
         match *edit {
             Edit::Alloc(key, _) | Edit::Free(key) => self.add_variable(key)?,
             Edit::FreeAll(id) if !self.freed.contains(&id) => self.freed.push(id)?,
+            // The id is listed already, or the edit sets a system state: all of them are watched.
             _ => {}
         }
         Ok(())
     }
 
-    /// Begins to watch what the scripts of a plan change. `Err` if memory runs out.
+    /// Begins to watch the shadow variables that the scripts of a plan change. `Err` if memory runs out.
     pub(crate) fn add_scripts(&mut self, plan: &Plan) -> Result<(), AllocError> {
         for number in 0..MAX_SCRIPTS {
             let Some(script) = plan.script(number) else {
@@ -176,7 +182,8 @@ impl Watched {
         Ok(())
     }
 
-    /// Begins to watch all system states that the patches of the manager's catalog name. `Err` if memory runs out.
+    /// Begins to watch all system states that the patches of the manager's catalog name. Their values aren't read yet.
+    /// `Err` if memory runs out.
     pub(crate) fn open(&mut self, manager: &Manager) -> Result<(), AllocError> {
         let catalog = manager.catalog();
         for number in 0..catalog.patches() {
@@ -193,9 +200,9 @@ impl Watched {
         Ok(())
     }
 
-    /// Begins to watch the shadow variable that an event adds, if some script removes all variables with the same id.
-    /// `Err` if memory runs out.
-    fn add_named(&mut self, event: &Event) -> Result<(), AllocError> {
+    /// If an event adds a shadow variable with an id for which a script removes all variables, begins to watch this
+    /// variable. `Err` if memory runs out.
+    fn watch_freed(&mut self, event: &Event) -> Result<(), AllocError> {
         match *event {
             Event::ShadowAlloc(key, _) | Event::ShadowGetOrAlloc(key, _)
                 if self.freed.contains(&key.id) => { self.add_variable(key) }
@@ -203,10 +210,11 @@ impl Watched {
         }
     }
 
-    /// Reads the shadow variables that an event of the run changed by itself, without a callback. `Err` if memory runs
-    /// out.
-    pub(crate) fn hear(&mut self, manager: &Manager, event: &Event) -> Result<(), AllocError> {
-        self.add_named(event)?;
+    /// Reads the watched shadow variables that an event changed by itself, without a callback. It must be read now, so
+    /// that a later event doesn't seem to have changed them. `Err` if memory runs out.
+    pub(crate) fn read_own(&mut self, manager: &Manager, event: &Event) -> Result<(), AllocError> {
+        self.watch_freed(event)?;
+        // `own` is the key of the one variable that may have changed, `all` the id of all variables that may have.
         let (own, all) = match *event {
             Event::ShadowAlloc(key, _) | Event::ShadowGetOrAlloc(key, _) | Event::ShadowFree(key) =>
                 (Some(key), None),
@@ -215,23 +223,24 @@ impl Watched {
         };
         for variable in &mut self.variables {
             if own == Some(variable.key) || all == Some(variable.key.id) {
-                variable.look(manager);
+                variable.read(manager);
             }
         }
         Ok(())
     }
 
-    /// Reads all watched values after an event.
-    pub(crate) fn look(&mut self, manager: &Manager) {
+    /// Reads all watched values after an event that may have run callbacks.
+    pub(crate) fn read_all(&mut self, manager: &Manager) {
         for variable in &mut self.variables {
-            variable.look(manager);
+            variable.read(manager);
         }
         for state in &mut self.states {
-            state.look(manager);
+            state.read(manager);
         }
     }
 
-    /// Adds a list item for each value that the last event changed. Returns whether there is such a value.
+    /// Adds a list item for each value that the event changed. Returns whether there is such a value. If some variable
+    /// isn't watched, a further item says so.
     pub(crate) fn add_changes(&self, sheet: &mut Sheet, manager: &Manager) -> bool {
         let mut is_changed = false;
         for variable in &self.variables {

@@ -34,8 +34,8 @@ impl<'a> Call<'a> {
 }
 
 impl<'a> Calls<'a> {
-    /// Adds the call that a line makes. If the line is a return, removes the last open call of its task. `Err` if
-    /// memory runs out.
+    /// Follows one line of a trace: adds its call, or for a return removes the newest open call of its task. Does
+    /// nothing for other lines. Returns `Err` if memory runs out.
     fn add(&mut self, item: Option<Item<'a>>) -> Result<(), AllocError> {
         match item {
             Some(Item::Call(task, symbol)) => self.open.push(Call { task, symbol })?,
@@ -50,7 +50,8 @@ impl<'a> Calls<'a> {
     }
 
     /// Returns the calls that are open after the first `lines_before` lines of a trace. These lines must be honest
-    /// items. If they weren't, a task might have ended without returning from its calls. `Err` if memory runs out.
+    /// items. If they weren't, a task might have ended without returning from its calls. Returns `Err` if memory runs
+    /// out.
     pub(crate) fn behind(
         alloc: Global,
         trace: &'a [u8],
@@ -78,6 +79,7 @@ impl<'a> Calls<'a> {
     pub(crate) fn first_in(&self, module: &[u8]) -> Option<(u64, &'a [u8])> {
         let mut first: Option<Call<'a>> = None;
         for call in &self.open {
+            // Of the calls of one task, the newest is taken.
             let is_first = match first {
                 Some(other) => call.task <= other.task,
                 None => true,

@@ -18,7 +18,7 @@ pub struct Sides {
     pub rules: RulesHave,
 }
 
-/// Returns why the rules give an answer to an event.
+/// Returns why the rules give this answer to an event. `manager` is in the state after the event.
 fn reason_of(
     alloc: Global,
     manager: &Manager,
@@ -35,8 +35,13 @@ fn reason_of(
     })
 }
 
-/// Does an event that the kernel answered, and returns the rules' answer to it.
-fn answered(alloc: Global, manager: &mut Manager, event: &Event) -> Result<RulesHave, AllocError>
+/// Does an event on the manager, and returns the answer that the rules give to it, and why. Returns `Err` if memory
+/// runs out.
+fn rules_answer(
+    alloc: Global,
+    manager: &mut Manager,
+    event: &Event,
+) -> Result<RulesHave, AllocError>
     requires { IsWellFormed manager.old }
 {
     manager.make_room();
@@ -47,8 +52,9 @@ fn answered(alloc: Global, manager: &mut Manager, event: &Event) -> Result<Rules
     })
 }
 
-/// Returns both sides at the first of these items. If the item has neither an answer nor a sight, the rules can't
-/// differ from it, and the result is `None`. `Err` if memory runs out.
+/// Returns what the kernel and the rules have at the first of these items. The manager must have done all earlier
+/// items. If the item has neither an answer nor a sight, the rules can't differ from it, and the result is `None`.
+/// Returns `Err` if memory runs out.
 fn sides_of(
     alloc: Global,
     manager: &mut Manager,
@@ -59,7 +65,7 @@ fn sides_of(
     match items.first() {
         Some(Observed::Answered(event, _)) => Ok(Some(Sides {
             kernel: None,
-            rules: answered(alloc, manager, event)?,
+            rules: rules_answer(alloc, manager, event)?,
         })),
         Some(Observed::Saw(sight)) => Ok(Some(Sides {
             kernel: Some(NamedSight::of(alloc, manager, sight)?),
@@ -69,8 +75,8 @@ fn sides_of(
     }
 }
 
-/// Returns both sides at a line. The manager must have done all earlier lines. Returns `None` if the rules can't differ
-/// from this line, or if memory runs out.
+/// Returns what the kernel and the rules have at a line of a trace. The manager must have done all earlier lines.
+/// Returns `None` if the rules can't differ from this line, if the line has no item, or if memory runs out.
 pub(crate) fn sides_at(alloc: Global, manager: &mut Manager, line: &[u8]) -> Option<Sides>
     requires { IsWellFormed manager.old }
 {

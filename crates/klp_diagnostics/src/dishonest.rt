@@ -6,6 +6,7 @@ use klp_messages::Escaped;
 use klp_watch::Cause;
 use std::fmt;
 
+/// What is said of an item that isn't honest.
 #[derive(Clone, Copy)]
 pub(crate) enum Act<'a> {
     /// The fault isn't an act of a task.
@@ -16,6 +17,7 @@ pub(crate) enum Act<'a> {
     Going(&'a [u8], u64, &'a [u8]),
 }
 
+/// Writes the act as the end of a message about an item that isn't honest.
 impl<'a> fmt::Display for Act<'a> {
     fn fmt<W: fmt::Write>(&self, f: &mut fmt::Formatter<W>) -> fmt::Result {
         match *self {
@@ -34,8 +36,9 @@ impl<'a> fmt::Display for Act<'a> {
     }
 }
 
-/// Returns the fault of a task's return: the task is inside of no function, or it sleeps.
-fn returns<'a>(task: u64, calls: &Calls<'a>) -> Act<'a> {
+/// Returns the act of a task that returns where it can't: it is inside of no function, or else it sleeps. `calls` are
+/// the calls that are open before the item.
+fn return_act<'a>(task: u64, calls: &Calls<'a>) -> Act<'a> {
     match calls.last_of(task) {
         None => Act::Inside(task, "returns, and is", None),
         inside => Act::Inside(task, "returns while it sleeps", inside),
@@ -43,28 +46,29 @@ fn returns<'a>(task: u64, calls: &Calls<'a>) -> Act<'a> {
 }
 
 /// Returns the act of a module that is unloaded while a task is inside of it. The act names the lowest-numbered such
-/// task, and the symbol of the module that this task called last. Returns `None` if no task is inside of the module.
-fn goes<'a>(module: &'a [u8], calls: &Calls<'a>) -> Option<Act<'a>> {
+/// task, and the module's symbol that this task called last. Returns `None` if by the calls no task is inside of the
+/// module.
+fn going_act<'a>(module: &'a [u8], calls: &Calls<'a>) -> Option<Act<'a>> {
     let (task, symbol) = calls.first_in(module)?;
     Some(Act::Going(module, task, symbol))
 }
 
-/// Returns what a task does in an item, or which task keeps a module from being unloaded. `calls` are the calls that
-/// are open before the item. Returns `None` if no task is at fault.
+/// Returns what a task does in an item that breaks the premise `cause`, or which task keeps a module from being
+/// unloaded. `calls` are the calls that are open before the item. Returns `None` if no task is at fault.
 fn act_in<'a>(cause: Cause, item: Item<'a>, calls: &Calls<'a>) -> Option<Act<'a>> {
     let (task, does) = match (cause, item) {
         (Cause::FramesLeft, Item::Exit(task)) => (task, "leaves the kernel"),
         (Cause::FramesLeft, Item::End(task)) => (task, "ends"),
         (Cause::Deep, Item::Call(task, _)) => (task, "calls one function too many, and is"),
-        (Cause::NoReturn, Item::Return(task)) => return Some(returns(task, calls)),
-        (Cause::ModuleInUse, Item::Going(module)) => return goes(module, calls),
+        (Cause::NoReturn, Item::Return(task)) => return Some(return_act(task, calls)),
+        (Cause::ModuleInUse, Item::Going(module)) => return going_act(module, calls),
         _ => return None,
     };
     Some(Act::Inside(task, does, calls.last_of(task)))
 }
 
-/// Returns the words about an item that breaks the premise `cause`. `calls` are the calls that are open before the
-/// item.
+/// Returns what is said of an item that breaks the premise `cause`. `item` is `None` if the item isn't about a task or
+/// a module that is unloaded. `calls` are the calls that are open before the item.
 pub(crate) fn act_of<'a>(cause: Cause, item: Option<Item<'a>>, calls: &Calls<'a>) -> Act<'a> {
     let act = match item {
         Some(item) => act_in(cause, item, calls),

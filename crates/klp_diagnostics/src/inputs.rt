@@ -52,8 +52,8 @@ pub struct Inputs<'a> {
     pub kind: FileKind,
 }
 
-/// Returns the bytes of a program's file. If the file can't be read, says so in a line to `err`, and returns the exit
-/// status, 1.
+/// Returns the bytes of a file that a program was given. If the file can't be read, or if memory runs out, writes so to
+/// `err` as a line of the program, and returns the exit status, 1, as `Err`.
 pub fn file_in<R: Files + AllocGlobal, E: Write>(
     rt: &R,
     program: &str,
@@ -72,8 +72,8 @@ pub fn file_in<R: Files + AllocGlobal, E: Write>(
     }
 }
 
-/// Returns what is wrong with a line of a trace that isn't an item. `plan` and `catalog` are the plan and the text of
-/// the same catalog.
+/// Returns what is wrong with a line of a trace that has no item. `plan` and `catalog` are the plan and the text of the
+/// same catalog.
 fn wrong_item<'a>(mut plan: Plan, line: &'a [u8], catalog: &'a [u8]) -> Wrong<'a> {
     let objects = plan.take_objects();
     let patches = plan.into_patches();
@@ -85,32 +85,33 @@ fn wrong_item<'a>(mut plan: Plan, line: &'a [u8], catalog: &'a [u8]) -> Wrong<'a
 }
 
 impl<'a> FileText<'a> {
-    /// Returns the name of the file, as a terminal may show it.
-    fn shown(&self) -> Escaped<'a> {
+    /// Returns the name of the file in a form that no longer has bytes that control a terminal.
+    fn escaped_name(&self) -> Escaped<'a> {
         Escaped(self.name.as_bytes())
     }
 
-    /// Writes the program, the file and the number of a line of a trace. If the line has a time, writes the time too.
+    /// Begins a message about a line of a trace: writes the program, the file and the line's number. If the line has a
+    /// valid time, writes the time too.
     fn write_item_place<E: Write>(&self, program: &str, line: u64, err: &mut E) -> io::Result<()> {
         match LineParts::of(line_at(self.bytes, line)).time {
             Some(time) if microseconds(time).is_some() => {
-                let (name, time) = (self.shown(), Escaped(time));
+                let (name, time) = (self.escaped_name(), Escaped(time));
                 write!(err, "{program}: {name}: line {line} ({time} s): ")
             }
             _ => self.write_place(program, line, err),
         }
     }
 
-    /// Writes the program, the file and the number of a line.
+    /// Begins a message about a line: writes the program, the file and the line's number.
     fn write_place<E: Write>(&self, program: &str, line: u64, err: &mut E) -> io::Result<()> {
-        write!(err, "{program}: {}: line {line}: ", self.shown())
+        write!(err, "{program}: {}: line {line}: ", self.escaped_name())
     }
 }
 
 impl<'a> Inputs<'a> {
-    /// Writes hints to `err`. One hint points at a function of the catalog whose symbol can't be picked. The other
-    /// hints point into the file beside the catalog. For each [`Stray`] that isn't part of such a file, a hint points
-    /// at the first line that has the stray. If the files are swapped, the fault says enough, and no hint is written.
+    /// Writes hints to `err`: one about the first function of the catalog that picks no symbol, and one for each
+    /// [`Stray`] in the second file, about the first line that has the stray. If the two files are swapped, writes no
+    /// hint, since the fault says enough.
     pub fn hint<E: Write>(&self, err: &mut E) {
         if self.are_swapped() {
             return;
@@ -121,8 +122,9 @@ impl<'a> Inputs<'a> {
         }
     }
 
-    /// Writes a hint to `err` at the first line of a script that may be misspelled. The line may be meant to be refused
-    /// by the console, so the message is only a hint.
+    /// Writes a hint to `err` about the first line of the script that may be misspelled. The line may be meant to be
+    /// refused by the console, so the message is only a hint. Writes nothing if the script is a catalog or UTF-16,
+    /// since another message says so, or if the catalog can't be read.
     pub fn hint_line<E: Write>(&self, alloc: Global, err: &mut E) {
         let text = self.second.bytes;
         if begins_as_catalog(text) || begins_as_utf16(text) {
@@ -133,18 +135,19 @@ impl<'a> Inputs<'a> {
         }
     }
 
-    /// Writes to `err` the reason for a verdict. If the trace isn't honest, names the task, and the function that the
-    /// task is inside of. If the kernel differs from the rules, says what the rules have at that line, and why. For any
-    /// other verdict, hints at the events that are refused, if there are any.
+    /// Writes to `err` the reason for a verdict on the trace. If the trace isn't honest, names the task, and the
+    /// function that the task is inside of. If the kernel differs from the rules, says what the rules have at that
+    /// line, and why. If the trace is honest, hints at the events that are refused, if there are any.
     pub fn print_verdict<E: Write>(&self, alloc: Global, verdict: Verdict, err: &mut E) {
         let _ = match verdict {
             Verdict::Honest(counts) => self.write_refused(counts, err),
-            Verdict::Dishonest(fault) => self.write_item(alloc, fault, err),
+            Verdict::Dishonest(fault) => self.write_dishonest(alloc, fault, err),
             Verdict::Differs(differs) => self.write_difference(alloc, differs, err),
         };
     }
 
-    /// Writes to `err` where a fault is, and what is wanted there. Returns the exit status of a fault, 1.
+    /// Writes to `err` in which file and line a fault is, and what is wanted there. Returns the exit status of a fault,
+    /// 1.
     pub fn print_fault<E: Write>(&self, alloc: Global, fault: Fault, err: &mut E) -> u8
         ensures { result ≡ 1 }
     {
@@ -152,8 +155,8 @@ impl<'a> Inputs<'a> {
         FAULT
     }
 
-    /// Hints at the first function of the catalog whose symbol can't be picked. Writes nothing if there is no such
-    /// function, or if it isn't worth a hint.
+    /// Writes a hint about the first function of the catalog that picks no symbol and is worth a hint. Writes nothing
+    /// if there is no such function.
     fn write_unloadable<E: Write>(&self, err: &mut E) -> io::Result<()> {
         match first_unloadable(self.catalog.bytes, self.second.bytes) {
             Some(found) => {
@@ -165,7 +168,8 @@ impl<'a> Inputs<'a> {
         }
     }
 
-    /// Hints at the first line of a script that may be misspelled. Takes the names from the catalog's plan.
+    /// Writes a hint about the first line of the script that may be misspelled. Takes the names that lines may have
+    /// from the catalog's plan.
     fn write_misspelled<E: Write>(&self, mut plan: Plan, err: &mut E) -> io::Result<()> {
         let objects = plan.take_objects();
         let patches = plan.into_patches();
@@ -176,7 +180,8 @@ impl<'a> Inputs<'a> {
         self.write_first_misspelled(&names, err)
     }
 
-    /// Hints at the first line of a script that may be misspelled. `names` are the names of the catalog.
+    /// Writes a hint about the first line of the script that may be misspelled. `names` are the names of the catalog.
+    /// Writes nothing if no line seems misspelled.
     fn write_first_misspelled<E: Write>(
         &self,
         names: &CatalogNames<'_>,
@@ -193,8 +198,9 @@ impl<'a> Inputs<'a> {
         Ok(())
     }
 
-    /// Hints at the first line of the second file that has this stray. If the file is UTF-16, its bytes aren't the ones
-    /// that were meant, so only the hint about UTF-16 is written.
+    /// Writes a hint about the first line of the second file that has this stray. Writes nothing if no line has it, or
+    /// if a file of this kind may have it. If the file is UTF-16, its bytes aren't the ones that were meant, so only
+    /// the hint about UTF-16 is written.
     fn write_stray<E: Write>(&self, stray: Stray, err: &mut E) -> io::Result<()> {
         let text = self.second.bytes;
         let is_reported = matches!(stray, Stray::Utf16) || !begins_as_utf16(text);
@@ -207,8 +213,8 @@ impl<'a> Inputs<'a> {
         }
     }
 
-    /// Hints at the first event of an honest trace that is refused, and says how many events are refused. Writes
-    /// nothing if no event is refused.
+    /// Writes a hint about the first event of an honest trace that the rules refuse, and how many events they refuse.
+    /// Writes nothing if no event is refused.
     fn write_refused<E: Write>(&self, counts: Counts, err: &mut E) -> io::Result<()> {
         let Some(first) = counts.refused.first else {
             return Ok(());
@@ -223,18 +229,25 @@ impl<'a> Inputs<'a> {
         )
     }
 
-    /// Writes about the line that breaks a premise: the cause, and which task does what in the line.
-    fn write_item<E: Write>(&self, alloc: Global, fault: NotHonest, err: &mut E) -> io::Result<()> {
+    /// Writes a message about the line that breaks a premise: the cause, and which task does what in the line.
+    fn write_dishonest<E: Write>(
+        &self,
+        alloc: Global,
+        fault: NotHonest,
+        err: &mut E,
+    ) -> io::Result<()> {
         let (line, trace) = (fault.item as u64, self.second.bytes);
         self.second.write_item_place(self.program, line, err)?;
         write!(err, "{}: ", fault.cause)?;
+        // The line is 0, which no line precedes, if the run couldn't begin.
         match Calls::behind(alloc, trace, line.saturating_sub(1)) {
             Ok(calls) => self.write_act(alloc, fault, &calls, err),
             Err(_) => writeln!(err, "there is no memory to find the task"),
         }
     }
 
-    /// Writes about the line at which the kernel differs from the rules: what was seen, what the rules have, and why.
+    /// Writes a message about the line at which the kernel differs from the rules: the line, what the rules have in its
+    /// place, and why.
     fn write_difference<E: Write>(
         &self,
         alloc: Global,
@@ -257,8 +270,8 @@ impl<'a> Inputs<'a> {
         }
     }
 
-    /// Ends a line of `err` by saying which task does what in the line of the trace that breaks a premise. `calls` are
-    /// the calls that are open before that line.
+    /// Ends the message about the line of the trace that breaks a premise: writes which task does what in the line.
+    /// `calls` are the calls that are open before the line.
     fn write_act<E: Write>(
         &self,
         alloc: Global,
@@ -281,7 +294,10 @@ impl<'a> Inputs<'a> {
         }
     }
 
-    /// Ends a line of `err` with the versions that a task is inside of after the first `lines` lines of the trace.
+    /// Ends a message with the versions that a task is inside of after the first `lines` lines of the trace.
+    ///
+    /// Reads the catalog again for the names of the patches, since booting consumed the plan. The catalog had no fault
+    /// when the trace was judged, so only memory can be lacking.
     fn write_versions<E: Write>(
         &self,
         alloc: Global,
@@ -299,10 +315,11 @@ impl<'a> Inputs<'a> {
         }
     }
 
-    /// Writes a fault in the form of its kind.
+    /// Writes a message about any fault: the file and the line of the fault, and what is wanted there, if its kind
+    /// points at a place. Otherwise writes the program and the fault's name.
     fn write_fault<E: Write>(&self, alloc: Global, fault: Fault, err: &mut E) -> io::Result<()> {
         match fault {
-            Fault::Text(fault) => self.write_line(alloc, fault, err),
+            Fault::Text(fault) => self.write_text_fault(alloc, fault, err),
             Fault::Image(_) | Fault::Assemble(AssembleFault::SameSite) => {
                 self.write_whole(alloc, fault, err)
             }
@@ -312,13 +329,19 @@ impl<'a> Inputs<'a> {
         }
     }
 
-    /// Whether the two files are swapped. They are if the second begins as a catalog and the first doesn't.
+    /// Whether the two files seem to be swapped: the second begins as a catalog, and the first doesn't.
     fn are_swapped(&self) -> bool {
         begins_as_catalog(self.second.bytes) && !begins_as_catalog(self.catalog.bytes)
     }
 
-    /// Writes about a faulty line of the catalog: the word at fault, and what is wanted in its place.
-    fn write_line<E: Write>(&self, alloc: Global, fault: TextFault, err: &mut E) -> io::Result<()> {
+    /// Writes a message about a faulty line of the catalog: the word at fault, and what is wanted in its place. If the
+    /// two files are swapped, says that instead.
+    fn write_text_fault<E: Write>(
+        &self,
+        alloc: Global,
+        fault: TextFault,
+        err: &mut E,
+    ) -> io::Result<()> {
         let wrong = if self.are_swapped() {
             Wrong::Swapped(self.second.name)
         } else {
@@ -328,7 +351,8 @@ impl<'a> Inputs<'a> {
         writeln!(err, "{}: {wrong}", fault.kind)
     }
 
-    /// Writes about a fault that the catalog has as a whole. None of its lines is faulty by itself.
+    /// Writes a message about a fault that the catalog has as a whole, so none of its lines is faulty by itself. Reads
+    /// the catalog again to find the symbols or functions at fault, since booting consumed the plan.
     fn write_whole<E: Write>(&self, alloc: Global, fault: Fault, err: &mut E) -> io::Result<()> {
         match Catalog::read(alloc, self.catalog.bytes) {
             Ok(plan) => self.write_in_plan(plan, fault, err),
@@ -336,8 +360,8 @@ impl<'a> Inputs<'a> {
         }
     }
 
-    /// Writes about a fault that the catalog has as a whole, with the symbols or functions at fault. The function finds
-    /// them in the catalog's plan.
+    /// Writes a message about a fault that the catalog has as a whole. Finds the symbols or functions at fault in the
+    /// catalog's plan.
     fn write_in_plan<E: Write>(&self, mut plan: Plan, fault: Fault, err: &mut E) -> io::Result<()> {
         let (objects, handler) = (plan.take_objects(), plan.handler());
         let patches = plan.into_patches();
@@ -348,21 +372,22 @@ impl<'a> Inputs<'a> {
         self.write_catalog_fault(fault, wrong, err)
     }
 
-    /// Writes about a fault that the catalog has as a whole. `wrong` is what is wrong, if it is known.
+    /// Writes a message about a fault that the catalog has as a whole. `wrong` is what is wrong, if it is known.
     fn write_catalog_fault<E: Write>(
         &self,
         fault: Fault,
         wrong: Option<Wrong<'_>>,
         err: &mut E,
     ) -> io::Result<()> {
-        let (program, name) = (self.program, self.catalog.shown());
+        let (program, name) = (self.program, self.catalog.escaped_name());
         match wrong {
             Some(wrong) => writeln!(err, "{program}: {name}: {fault}: {wrong}"),
             None => writeln!(err, "{program}: {name}: {fault}"),
         }
     }
 
-    /// Writes about a faulty line of the trace: the word at fault, and what is wanted in its place.
+    /// Writes a message about a faulty line of the trace: the word at fault and what is wanted in its place, or that
+    /// the line's time is too early.
     fn write_trace_fault<E: Write>(
         &self,
         alloc: Global,
@@ -383,7 +408,8 @@ impl<'a> Inputs<'a> {
         }
     }
 
-    /// Ends a line of `err` with what is wrong in a line of the trace that is no item.
+    /// Ends the message about a line of the trace that has no item with what is wrong in the line. Writes only the
+    /// fault's name if there is no memory to read the catalog again.
     fn write_no_item<E: Write>(&self, alloc: Global, line: &[u8], err: &mut E) -> io::Result<()> {
         match Catalog::read(alloc, self.catalog.bytes) {
             Ok(plan) => writeln!(
@@ -395,7 +421,8 @@ impl<'a> Inputs<'a> {
         }
     }
 
-    /// Writes about the first line of the script that is too long.
+    /// Writes a message about the first line of the script that is too long for the console. If no line is, writes only
+    /// the program and the fault's name.
     fn write_long_line<E: Write>(&self, err: &mut E) -> io::Result<()> {
         let bytes = self.second.bytes;
         let mut lines = bytes.split(|b| *b == b'\n');

@@ -11,10 +11,15 @@ use std::io::Write;
 /// The text that is written if there is no memory to find out which of the two reasons is the right one.
 const EITHER: &str = "and isn't running in the kernel, or its object isn't loaded";
 
-/// Copies the lines of a trace to `text`, up to the line with this number. In front of the last line, adds three lines
-/// that bring the task into the kernel from any state. A line that doesn't apply to the task's state is refused. `Err`
-/// if memory runs out.
-fn load_line(text: &mut Vec<u8>, trace: &[u8], line: u64, task: u64) -> io::Result<()> {
+/// Copies to `text` the lines of a trace before the line with this number, then three lines that bring the task into
+/// the kernel from any state, then the line itself. Those of the three lines that don't apply to the task's state are
+/// refused. Returns `Err` if memory runs out.
+fn write_with_task_in_kernel(
+    text: &mut Vec<u8>,
+    trace: &[u8],
+    line: u64,
+    task: u64,
+) -> io::Result<()> {
     let mut lines = Lines::new(trace);
     for _ in 1..line {
         text.write_all(lines.next().unwrap_or(&[]))?;
@@ -24,12 +29,13 @@ fn load_line(text: &mut Vec<u8>, trace: &[u8], line: u64, task: u64) -> io::Resu
     text.write_all(lines.next().unwrap_or(&[]))
 }
 
-/// Returns the reason why the call in this line is impossible. The line is the first that isn't honest. The trace is
-/// judged once more, with the task brought into the kernel before the call. If the call is still impossible, its object
-/// isn't loaded.
+/// Returns the words for why the call in this line of the trace is impossible: the task isn't running in the kernel, or
+/// the function's object isn't loaded. Judges the lines up to the call once more, with the task brought into the kernel
+/// before the call. If the call is still impossible, its object isn't loaded. The line must be the first that isn't
+/// honest.
 pub(crate) fn lack_of(alloc: Global, inputs: &Inputs<'_>, line: u64, task: u64) -> &'static str {
     let mut text = Vec::new(alloc);
-    if load_line(&mut text, inputs.second.bytes, line, task).is_err() {
+    if write_with_task_in_kernel(&mut text, inputs.second.bytes, line, task).is_err() {
         return EITHER;
     }
     match watch_over_text(alloc, inputs.catalog.bytes, &text) {

@@ -8,8 +8,8 @@
 //! again (`replay.rt`). If a kernel differs from the rules, it does so too, up to that line.
 //!
 //! What a kernel and the rules have at a line are values ([`Sides`]), with the names of patches and functions and the
-//! numbers of tasks (`differing.rt`, `rules.rt`, `named.rt`). A program writes them as sentences (`sentences.rt`), in which
-//! tasks have the program's own names ([`TaskNames`]).
+//! numbers of tasks (`differing.rt`, `rules.rt`, `named.rt`). A program writes them as sentences (`sentences.rt`), in
+//! which tasks have the program's own names ([`TaskNames`]).
 //!
 //! The messages are for people, and have no contract. No bytes of a file can control a terminal through a message. Each
 //! call works with any files.

@@ -45,17 +45,19 @@ pub enum NamedSight {
     Text,
 }
 
-/// Returns the name of a patch. A manager knows the names of all its patches.
+/// Returns a copy of the name of a patch, which outlives the manager. Returns `Err` if memory runs out.
 pub(crate) fn patch_name(
     alloc: Global,
     manager: &Manager,
     patch: PatchId,
 ) -> Result<String, AllocError> {
+    // The catalog has the names of all its patches, so no other words are written for a patch of the manager.
     let name = manager.catalog().patch_name(patch).unwrap_or("a patch");
     String::from_str(alloc, name)
 }
 
-/// Returns the original of a site, with its names.
+/// Returns the original of a site, with copies of its names. If there is no such site, the names are empty. Returns
+/// `Err` if memory runs out.
 fn original(alloc: Global, manager: &Manager, site: Site) -> Result<NamedVersion, AllocError> {
     let modules = manager.modules();
     let Some((object, symbol, position)) = modules.symbol(site) else {
@@ -72,7 +74,8 @@ fn original(alloc: Global, manager: &Manager, site: Site) -> Result<NamedVersion
     })
 }
 
-/// Returns a new function of a patch, with its names.
+/// Returns a new function of a patch, with copies of the patch's name and of its own name, if the patch has such a
+/// function. Returns `Err` if memory runs out.
 fn new_function(
     alloc: Global,
     manager: &Manager,
@@ -91,7 +94,7 @@ fn new_function(
 }
 
 impl NamedVersion {
-    /// Returns a version, with its names. `Err` if memory runs out.
+    /// Returns a version of a manager, with copies of its names. Returns `Err` if memory runs out.
     pub(crate) fn of(
         alloc: Global,
         manager: &Manager,
@@ -103,7 +106,7 @@ impl NamedVersion {
         }
     }
 
-    /// Returns the version as a line of a trace names it.
+    /// Returns the version in a form that prints it as a line of a trace spells it: a symbol, or `PATCH:INDEX`.
     pub fn spelled(&self) -> SpelledVersion<'_> {
         SpelledVersion(self)
     }
@@ -145,7 +148,7 @@ impl fmt::Display for NamedVersion {
 }
 
 impl NamedSight {
-    /// Returns what a kernel showed, with the names of what it is about. `Err` if memory runs out.
+    /// Returns what a kernel showed, with copies of the names of what it is about. Returns `Err` if memory runs out.
     pub(crate) fn of(
         alloc: Global,
         manager: &Manager,

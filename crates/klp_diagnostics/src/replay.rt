@@ -39,6 +39,7 @@ pub(crate) struct EnteredVersions {
 /// Returns the function with this number, counted from 0 over all targets of a patch. Returns `None` if the patch has
 /// no function with this number.
 fn function_at(patch: &PlanPatch, number: u16) -> Option<&PlanFunction> {
+    // The function's index in the next target, if that target has so many functions.
     let mut left = usize::from(number);
     for target in &patch.targets {
         if let Some(function) = target.functions.get(left) {
@@ -49,7 +50,7 @@ fn function_at(patch: &PlanPatch, number: u16) -> Option<&PlanFunction> {
     None
 }
 
-/// Returns the symbol that a line calls. It is spelled as in the line, but without its position.
+/// Returns the symbol that a `call` line of a trace calls, as the line spells it, but without its position.
 fn symbol_in(line: &[u8]) -> &[u8] {
     let words = LineWords::new(LineParts::of(line).item, Separators::Spaces);
     let (symbol, _) = cut(word_at(words, 3), b',');
@@ -57,7 +58,8 @@ fn symbol_in(line: &[u8]) -> &[u8] {
 }
 
 impl Entered {
-    /// Writes a blank and the version, as a console line names it. If the version is a new function, adds its name.
+    /// Writes a space and the version, as a console line spells it. If the version is a new function, adds its name.
+    /// `trace` and `patches` are the trace and the catalog's patches, which have the names.
     fn write<E: Write>(&self, trace: &[u8], patches: &[PlanPatch], err: &mut E) -> io::Result<()> {
         match self.version {
             Version::Original(_) => {
@@ -72,7 +74,7 @@ impl Entered {
     }
 }
 
-/// Writes a blank and a new function of a patch, by its index. Adds its name if the patch has such a function.
+/// Writes a space and a new function of a patch as `PATCH:INDEX`. Adds its name if the patch has such a function.
 fn write_new<E: Write>(patch: &PlanPatch, number: u16, err: &mut E) -> io::Result<()> {
     write!(err, " {}:{number}", patch.name)?;
     match function_at(patch, number) {
@@ -83,7 +85,7 @@ fn write_new<E: Write>(patch: &PlanPatch, number: u16, err: &mut E) -> io::Resul
 
 /// Returns the version that a task gets if it calls a symbol now, and the symbol's position. Returns `None` if the task
 /// can't call the symbol.
-fn called(manager: &Manager, task: u64, symbol: &[u8]) -> Option<(Version, u32)> {
+fn version_called(manager: &Manager, task: u64, symbol: &[u8]) -> Option<(Version, u32)> {
     let number = u8::try_from(task).ok()?;
     let site = site_of(symbol, manager)?;
     let target = manager.pick(TaskId(number), site)?;
@@ -93,8 +95,9 @@ fn called(manager: &Manager, task: u64, symbol: &[u8]) -> Option<(Version, u32)>
     }
 }
 
-/// Does the event that a line asks for. A line that asks for no event is skipped.
-fn take(manager: &mut Manager, text: &[u8])
+/// Does the event that a line of a trace asks for, whatever the kernel answered. Does nothing for a line that asks for
+/// no event.
+fn do_event_in(manager: &mut Manager, text: &[u8])
     requires { IsWellFormed manager.old }
     ensures { IsWellFormed manager.new }
 {
@@ -104,23 +107,24 @@ fn take(manager: &mut Manager, text: &[u8])
     }
 }
 
-/// Does the events of the first `lines` lines of a trace.
-fn take_all(manager: &mut Manager, trace: &[u8], lines: u64)
+/// Does the events of the first `lines` lines of a trace, or of all its lines if there are fewer.
+fn do_first_events(manager: &mut Manager, trace: &[u8], lines: u64)
     requires { IsWellFormed manager.old }
 {
     let mut rest = Lines::new(trace);
     for _ in 0..lines {
+        // For the proof only: the contract of mark says that the manager is well-formed.
         let _for_its_clause = manager.mark();
         let Some(text) = rest.next() else {
             break;
         };
-        take(manager, text);
+        do_event_in(manager, text);
     }
 }
 
 impl EnteredVersions {
-    /// Notes the version that a task enters by calling a symbol in this line. If the task can't call the symbol, notes
-    /// nothing. `Err` if memory runs out.
+    /// Adds the version that a task enters when it calls a symbol in this line. Adds nothing if the task can't call the
+    /// symbol. Returns `Err` if memory runs out.
     fn enter(
         &mut self,
         manager: &Manager,
@@ -128,7 +132,7 @@ impl EnteredVersions {
         task: u64,
         symbol: &[u8],
     ) -> Result<(), AllocError> {
-        if let Some((version, position)) = called(manager, task, symbol) {
+        if let Some((version, position)) = version_called(manager, task, symbol) {
             self.open.push(Entered {
                 task,
                 line,
@@ -139,37 +143,50 @@ impl EnteredVersions {
         Ok(())
     }
 
-    /// Notes that a task leaves the version that it entered last.
+    /// Removes the version that a task entered last, when the task returns from it. Does nothing if there is none.
     fn leave(&mut self, task: u64) {
         if let Some(place) = self.open.iter().rposition(|own| own.task == task) {
             self.open.remove(place);
         }
     }
 
-    /// Does one line of a trace. `Err` if memory runs out.
-    fn see(&mut self, manager: &mut Manager, line: u64, text: &[u8]) -> Result<(), AllocError>
+    /// Follows one line of a trace: does its event on the manager, or adds or removes the version of its call or
+    /// return. Returns `Err` if memory runs out.
+    fn follow_line(
+        &mut self,
+        manager: &mut Manager,
+        line: u64,
+        text: &[u8],
+    ) -> Result<(), AllocError>
         requires { IsWellFormed manager.old }
         ensures { IsWellFormed manager.new }
     {
         match Item::read(text) {
             Some(Item::Call(task, symbol)) => self.enter(manager, line, task, symbol)?,
             Some(Item::Return(task)) => self.leave(task),
-            _ => take(manager, text),
+            _ => do_event_in(manager, text),
         }
         Ok(())
     }
 
-    /// Does the first `lines` lines of a trace. `Err` if memory runs out.
-    fn see_all(&mut self, manager: &mut Manager, trace: &[u8], lines: u64) -> Result<(), AllocError>
+    /// Follows the first `lines` lines of a trace, or all its lines if there are fewer. Returns `Err` if memory runs
+    /// out.
+    fn follow_lines(
+        &mut self,
+        manager: &mut Manager,
+        trace: &[u8],
+        lines: u64,
+    ) -> Result<(), AllocError>
         requires { IsWellFormed manager.old }
     {
         let mut rest = Lines::new(trace);
         for number in 0..lines {
+            // For the proof only: the contract of mark says that the manager is well-formed.
             let _for_its_clause = manager.mark();
             let Some(text) = rest.next() else {
                 break;
             };
-            self.see(manager, number.saturating_add(1), text)?;
+            self.follow_line(manager, number.saturating_add(1), text)?;
         }
         Ok(())
     }
@@ -198,7 +215,7 @@ impl EnteredVersions {
     }
 }
 
-/// The first lines of a trace, as many as `lines`. They are done to find out which versions tasks are then inside of.
+/// The first `lines` lines of a trace. A manager does them, which shows which versions tasks are then inside of.
 #[derive(Drop)]
 struct FirstLines<'a> {
     trace: &'a [u8],
@@ -211,19 +228,22 @@ impl ManagerUse for FirstLines<'_> {
 
     ghost comes_to = { λ _ _ _ _. Unit {0} };
 
+    /// Does the lines on the manager, and returns the versions that tasks are inside of afterwards. Returns `None` if
+    /// memory runs out.
     fn run(&mut self, alloc: Global, manager: &mut Manager) -> Option<EnteredVersions> {
         let mut entered = EnteredVersions {
             open: Vec::new(alloc),
         };
+        // For the proof only: the contract of mark says that the manager is well-formed.
         let _for_its_clause = manager.mark();
-        match entered.see_all(manager, self.trace, self.lines) {
+        match entered.follow_lines(manager, self.trace, self.lines) {
             Ok(()) => Some(entered),
             Err(_) => None,
         }
     }
 }
 
-/// A line of a trace, by its number from 1. The lines before it are done to find out what the rules have at it.
+/// A line of a trace, by its number from 1. A manager does the lines before it, which shows what the rules have at it.
 #[derive(Drop)]
 struct LineInTrace<'a> {
     trace: &'a [u8],
@@ -236,16 +256,21 @@ impl ManagerUse for LineInTrace<'_> {
 
     ghost comes_to = { λ _ _ _ _. Unit {0} };
 
+    /// Does the events of all earlier lines on the manager, and returns what the kernel and the rules have at the line.
+    /// Returns `None` if the rules can't differ from the line, or if memory runs out.
     fn run(&mut self, alloc: Global, manager: &mut Manager) -> Option<Sides> {
+        // For the proof only: the contract of mark says that the manager is well-formed.
         let _for_its_clause = manager.mark();
-        take_all(manager, self.trace, self.line.saturating_sub(1));
+        do_first_events(manager, self.trace, self.line.saturating_sub(1));
+        // For the proof only: the contract of mark says that the manager is well-formed.
         let _for_its_clause = manager.mark();
         sides_at(alloc, manager, line_at(self.trace, self.line))
     }
 }
 
-/// Returns the versions that tasks are inside of after the first `lines` lines of a trace over a catalog. Returns
-/// `None` if there is no memory to find them out.
+/// Returns the versions that tasks are inside of after the first `lines` lines of a trace over a catalog's text. A
+/// manager must have been booted with this text before, so that it has no fault. Then `None` only means that memory ran
+/// out.
 pub(crate) fn versions_after(
     alloc: Global,
     catalog: &[u8],
@@ -255,8 +280,9 @@ pub(crate) fn versions_after(
     over_text(alloc, catalog, &mut FirstLines { trace, lines }).ok()?
 }
 
-/// Returns what the kernel and the rules have at the line with this number, counted from 1. At this line, the kernel
-/// differs from the rules. Returns `None` if there is no memory to find out.
+/// Returns what the kernel and the rules have at the line of a trace with this number, counted from 1, at which the
+/// kernel differs from the rules. A manager must have been booted with the catalog's text before, so that it has no
+/// fault. Then `None` only means that memory ran out.
 pub fn sides_in(alloc: Global, catalog: &[u8], trace: &[u8], line: u64) -> Option<Sides> {
     over_text(alloc, catalog, &mut LineInTrace { trace, line }).ok()?
 }

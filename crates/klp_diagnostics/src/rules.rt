@@ -121,7 +121,7 @@ pub enum RulesHave {
     Hooked(Vec<String>),
 }
 
-/// Returns the name of the patch in transition. Returns `None` if no patch is.
+/// Returns the name of the patch in transition. Returns `None` if no patch is, and `Err` if memory runs out.
 pub(crate) fn moving_name(alloc: Global, manager: &Manager) -> Result<Option<String>, AllocError> {
     match manager.moving() {
         Some(moving) => Ok(Some(patch_name(alloc, manager, moving.patch)?)),
@@ -137,7 +137,8 @@ fn is_moving(manager: &Manager, patch: PatchId) -> bool {
     }
 }
 
-/// Returns why a task isn't at the target of the transition of `patch`.
+/// Returns why a task isn't at the target of the transition, with the names that a sentence needs. `lag` is the
+/// manager's reason, and `patch` the name of the patch in transition.
 fn lag_reason(
     alloc: Global,
     manager: &Manager,
@@ -157,7 +158,7 @@ fn lag_reason(
 }
 
 impl LaggingTask {
-    /// Returns a task with the reason why it isn't at the target of the transition.
+    /// Returns a task with the reason why it isn't at the target of the transition. `lag` is the manager's reason.
     fn of(
         alloc: Global,
         manager: &Manager,
@@ -166,6 +167,7 @@ impl LaggingTask {
     ) -> Result<LaggingTask, AllocError> {
         let patch = match moving_name(alloc, manager)? {
             Some(patch) => patch,
+            // Not reached, since a task lags only during a transition.
             None => String::from_str(alloc, "a patch")?,
         };
         let reason = lag_reason(alloc, manager, lag, patch)?;
@@ -174,7 +176,7 @@ impl LaggingTask {
 }
 
 impl LaggingTasks {
-    /// No tasks.
+    /// Returns the value without any task.
     fn none(alloc: Global) -> LaggingTasks {
         LaggingTasks {
             first: Vec::new(alloc),
@@ -182,7 +184,8 @@ impl LaggingTasks {
         }
     }
 
-    /// Adds a task behind the others.
+    /// Adds a task after the others, with the reason why it isn't at the target. If [`NAMED`] tasks are there already,
+    /// only counts it.
     fn add(
         &mut self,
         alloc: Global,
@@ -199,7 +202,8 @@ impl LaggingTasks {
         Ok(())
     }
 
-    /// Adds the lagging tasks that block the transition, or those that don't.
+    /// Adds the tasks that aren't at the target of the transition and block it, or, if `are_blocked` is false, those
+    /// that don't block it.
     fn add_all(
         &mut self,
         alloc: Global,
@@ -217,7 +221,8 @@ impl LaggingTasks {
         Ok(())
     }
 
-    /// Returns the tasks that aren't at the target of the transition.
+    /// Returns the tasks that aren't at the target of the transition, first those that block it. Returns `Err` if
+    /// memory runs out.
     pub(crate) fn of(alloc: Global, manager: &Manager) -> Result<LaggingTasks, AllocError> {
         let mut tasks = LaggingTasks::none(alloc);
         tasks.add_all(alloc, manager, true)?;
@@ -226,11 +231,12 @@ impl LaggingTasks {
     }
 }
 
-/// Returns the patch state of a task, and why the task has this state.
+/// Returns the patch state that a task has by the rules, and why. Returns `NoTask` if there is no such task.
 fn state_of(alloc: Global, manager: &Manager, task: TaskId) -> Result<RulesHave, AllocError> {
     let Some(state) = manager.patch_state(task) else {
         return Ok(RulesHave::NoTask(task));
     };
+    // No element stands for a number that no task can have.
     let lag = manager
         .holders()
         .get(usize::from(task.0))
@@ -244,8 +250,9 @@ fn state_of(alloc: Global, manager: &Manager, task: TaskId) -> Result<RulesHave,
     Ok(RulesHave::State { state, reason })
 }
 
-/// Returns what the rules have in the files of a patch. If by the rules the patch is in transition, and the kernel
-/// didn't show a transition, also returns which tasks aren't at the target.
+/// Returns the values that a patch's files have by the rules. `seen` are the values that the kernel showed. If by the
+/// rules the patch is in transition, and the kernel didn't show that, also returns which tasks aren't at the target.
+/// Returns `NoFiles` if the patch isn't installed.
 fn files_of(
     alloc: Global,
     manager: &Manager,
@@ -272,7 +279,8 @@ fn files_of(
     Ok(RulesHave::Files { files, lagging })
 }
 
-/// Returns a task's patch state and the patch in transition. Returns `None` if no patch is.
+/// Returns a task's patch state and the patch in transition. Returns `None` if no patch is in transition, or if there
+/// is no such task.
 fn in_transition(
     alloc: Global,
     manager: &Manager,
@@ -284,7 +292,8 @@ fn in_transition(
     }
 }
 
-/// Returns which version a task gets if it calls a site now.
+/// Returns the version that a task runs by the rules if it calls a site now, and the transition on which that depends.
+/// If the task can't call the site, returns why.
 fn version_of(
     alloc: Global,
     manager: &Manager,
@@ -303,7 +312,7 @@ fn version_of(
     })
 }
 
-/// Returns the patches that hook a site, newest first.
+/// Returns the names of the patches that have an entry on a site, newest entry first.
 fn hooks_of(alloc: Global, manager: &Manager, site: Site) -> Result<Vec<String>, AllocError> {
     let mut patches = Vec::new(alloc);
     let entries = manager.stack(site);
@@ -313,13 +322,15 @@ fn hooks_of(alloc: Global, manager: &Manager, site: Site) -> Result<Vec<String>,
     Ok(patches)
 }
 
-/// Returns whether a site is hooked, and which patches hook it.
+/// Returns whether a site is hooked or plain by the rules, and which patches hook it. If the site has no text, since
+/// its object isn't loaded or there is no such site, returns that.
 fn text_of(alloc: Global, manager: &Manager, site: Site) -> Result<RulesHave, AllocError> {
     let modules = manager.modules();
     let Some((object, _, _)) = modules.symbol(site) else {
         return Ok(RulesHave::NoText);
     };
     if !modules.is_loaded(object) {
+        // The name table has the names of all objects, so no other words are written.
         let name = modules.object_name(object).unwrap_or("its object");
         return Ok(RulesHave::NotLoaded(String::from_str(alloc, name)?));
     }
@@ -331,7 +342,8 @@ fn text_of(alloc: Global, manager: &Manager, site: Site) -> Result<RulesHave, Al
 }
 
 impl RulesHave {
-    /// Returns what the rules have in place of a sight, and why. `Err` if memory runs out.
+    /// Returns what the manager's state has in place of a sight that a kernel showed, and why. Returns `Err` if memory
+    /// runs out.
     pub(crate) fn in_place_of(
         alloc: Global,
         manager: &Manager,

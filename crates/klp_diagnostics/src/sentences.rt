@@ -16,12 +16,13 @@ pub struct InWords<'a, N> {
 }
 
 impl RulesHave {
-    /// Returns what the rules have as a sentence, in which tasks have these names.
+    /// Returns what the rules have in a form that prints it as a sentence, in which tasks have these names.
     pub fn in_words<'a, N: TaskNames>(&'a self, names: &'a N) -> InWords<'a, N> {
         InWords { rules: self, names }
     }
 }
 
+/// Writes what the rules have in place of an answer or a sight, and why, as a sentence without its full stop.
 impl<N: TaskNames> fmt::Display for InWords<'_, N> {
     fn fmt<W: fmt::Write>(&self, f: &mut fmt::Formatter<W>) -> fmt::Result {
         let names = self.names;
@@ -68,7 +69,7 @@ impl<N: TaskNames> fmt::Display for InWords<'_, N> {
     }
 }
 
-/// Writes why the rules give an answer. Writes nothing if the answer tells it itself.
+/// Writes a colon and why the rules give an answer to an event. Writes nothing if the answer says it itself.
 fn write_answer_reason<N: TaskNames, W: fmt::Write>(
     f: &mut fmt::Formatter<W>,
     names: &N,
@@ -82,7 +83,7 @@ fn write_answer_reason<N: TaskNames, W: fmt::Write>(
     }
 }
 
-/// Writes why a task has its patch state.
+/// Writes why a task has its patch state by the rules.
 fn write_state_reason<N: TaskNames, W: fmt::Write>(
     f: &mut fmt::Formatter<W>,
     names: &N,
@@ -95,7 +96,7 @@ fn write_state_reason<N: TaskNames, W: fmt::Write>(
     }
 }
 
-/// Writes a task that isn't at the target of the transition, and why.
+/// Writes the name of a task that isn't at the target of the transition, and why it isn't.
 fn write_lagging_task<N: TaskNames, W: fmt::Write>(
     f: &mut fmt::Formatter<W>,
     names: &N,
@@ -127,8 +128,8 @@ fn write_lagging_task<N: TaskNames, W: fmt::Write>(
     }
 }
 
-/// Writes a colon and the tasks that aren't at the target of the transition, and the reason for each. Writes nothing if
-/// there are no such tasks.
+/// Writes a colon, the tasks that aren't at the target of the transition with the reason for each, and how many more
+/// there are. Writes nothing if there are no such tasks.
 fn write_lagging<N: TaskNames, W: fmt::Write>(
     f: &mut fmt::Formatter<W>,
     names: &N,
@@ -152,7 +153,8 @@ fn write_no_call<W: fmt::Write>(f: &mut fmt::Formatter<W>, reason: NoCallReason)
     })
 }
 
-/// Writes which patch is in transition, and the state of the task that calls.
+/// Writes why the rules pick a version: the patch state of the task that calls, and the patch in transition. If
+/// `caller` is `None`, writes that no patch is in transition.
 fn write_caller<N: TaskNames, W: fmt::Write>(
     f: &mut fmt::Formatter<W>,
     names: &N,

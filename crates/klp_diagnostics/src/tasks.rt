@@ -3,7 +3,7 @@
 use klp_types::TaskId;
 use std::fmt;
 
-/// The names by which a program tells of tasks.
+/// The names that tasks have in a program's messages.
 pub trait TaskNames {
     /// Writes the name of a task.
     fn write_name<W: fmt::Write>(&self, task: TaskId, f: &mut fmt::Formatter<W>) -> fmt::Result;

@@ -18,15 +18,16 @@ use std::alloc::{AllocError, Global};
 #[derive(Drop)]
 pub(crate) struct Axis<'a> {
     names: &'a Names,
-    /// For each place, whether it is covered by a number or by the gap behind a number.
+    /// For each place, whether it is covered by a number or by the gap after a number.
     taken: Vec<bool>,
     lines: Vec<u64>,
 }
 
 impl<'a> Axis<'a> {
-    /// Returns an axis without numbers. `Err` if memory runs out.
+    /// Returns an axis without numbers, as wide as the drawing. `Err` if memory runs out.
     fn new(alloc: Global, names: &'a Names, scale: &Scale) -> Result<Axis<'a>, AllocError> {
         let mut taken = Vec::new(alloc);
+        // A number may extend up to 64 points beyond the right end of the run.
         taken.resize(scale.end().saturating_add(64) as usize, false)?;
         Ok(Axis {
             names,
@@ -35,18 +36,19 @@ impl<'a> Axis<'a> {
         })
     }
 
-    /// Returns the width in points of a line's number. In a drawing to scale by time, returns the width of the line's
-    /// time.
+    /// Returns the width in points of what a line has on the axis: its number, or in a drawing to scale by time the
+    /// seconds since the first time.
     fn width_at(&self, scale: &Scale, line: u64) -> u64 {
         if !scale.is_timed() {
             return number_width(line);
         }
         let seconds = self.names.since_start(line).unwrap_or(0) / 1_000_000;
+        // A point and the tenths follow the seconds.
         number_width(seconds).saturating_add(2 * LETTER)
     }
 
-    /// Puts the number of this line on the axis. Does nothing if another number is in the way. `Err` if memory runs
-    /// out.
+    /// Puts a line on the axis, unless another number is in the way or there is no room up to the right end. `Err` if
+    /// memory runs out.
     fn offer(&mut self, scale: &Scale, line: u64) -> Result<(), AllocError> {
         let from = scale.x(line) as usize;
         let width = self.width_at(scale, line).saturating_add(LETTER);
@@ -59,8 +61,8 @@ impl<'a> Axis<'a> {
         Ok(())
     }
 
-    /// Offers the lines where a sentence begins and ends. In a drawing to scale by time, the duration of a stay is
-    /// counted up to the line after its last line, so the stay ends at that line. `Err` if memory runs out.
+    /// Offers the first and the last line of a sentence. In a drawing to scale by time, a stay ends at the time of the
+    /// line after its last line, so this line is offered instead. `Err` if memory runs out.
     fn offer_sentence(&mut self, scale: &Scale, sentence: &Sentence) -> Result<(), AllocError> {
         self.offer(scale, sentence.line)?;
         match &sentence.said {
@@ -73,15 +75,16 @@ impl<'a> Axis<'a> {
         }
     }
 
-    /// Adds the number of this line. In a drawing to scale by time, adds the line's time.
+    /// Adds what a line has on the axis: its number, or in a drawing to scale by time the seconds since the first time,
+    /// if the line has a time.
     fn add_number(&self, sheet: &mut Sheet, scale: &Scale, line: u64) {
         match self.names.since_start(line) {
-            Some(time) if scale.is_timed() => add_tenths(sheet, time),
+            Some(time) if scale.is_timed() => add_plain_seconds(sheet, time),
             _ => sheet.number(line),
         }
     }
 
-    /// Adds all numbers of the axis, at the height `y`.
+    /// Adds all numbers of the axis. `y` is the lower end of their digits, in points.
     pub(crate) fn add_numbers(&self, sheet: &mut Sheet, scale: &Scale, y: u64) {
         for line in &self.lines {
             add_text_start(sheet, "soft", scale.x(*line), y);
@@ -91,13 +94,13 @@ impl<'a> Axis<'a> {
     }
 }
 
-/// Adds a time in microseconds, as seconds with one decimal.
-fn add_tenths(sheet: &mut Sheet, time: u64) {
+/// Adds a time in microseconds, written as seconds with one decimal, rounded down: `15.1`.
+fn add_plain_seconds(sheet: &mut Sheet, time: u64) {
     let (seconds, tenths) = (time / 1_000_000, time / 100_000 % 10);
     sheet.fill("{}.{}", &[Number(seconds), Number(tenths)]);
 }
 
-/// Returns the axis of a run with these bars and sentences. `Err` if memory runs out.
+/// Returns the axis of a run with these bars and sentences. [`Axis`] says which lines it has. `Err` if memory runs out.
 pub(crate) fn axis_of<'a>(
     alloc: Global,
     names: &'a Names,

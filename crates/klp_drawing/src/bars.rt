@@ -72,10 +72,11 @@ impl Lane {
         }
     }
 
-    /// If the lane has an unfinished bar, ends the bar at this line. Begins a bar with this look. If `look` is `None`,
-    /// begins no bar, so the lane is empty from this line on. `Err` if memory runs out.
-    fn begin(&mut self, line: u64, look: Option<Look>) -> Result<(), AllocError> {
+    /// Ends the lane's unfinished bar at `line`, if there is one, and begins a bar with this look. If `look` is `None`,
+    /// begins no bar: the lane is empty from this line on. `Err` if memory runs out.
+    fn begin_bar(&mut self, line: u64, look: Option<Look>) -> Result<(), AllocError> {
         self.role = match look {
+            // The look of an installed patch has the mode of a task in the kernel, so such a patch acts.
             Some(look) if look.mode != Mode::User => Role::Acts,
             Some(_) if self.role == Role::Absent => Role::Idle,
             _ => self.role,
@@ -116,7 +117,8 @@ impl Bars {
         Ok(())
     }
 
-    /// Returns what the patch or task of this lane has done so far.
+    /// Returns what the patch or task of this lane has done so far. [`Bars::open`] makes the lanes, so before that it
+    /// is absent.
     fn role(&self, number: usize) -> Role {
         match self.lanes.get(number) {
             Some(lane) => lane.role,
@@ -124,18 +126,18 @@ impl Bars {
         }
     }
 
-    /// Whether the lane is drawn. The lane of a patch is drawn if the patch was ever installed, and the lane of a task
-    /// if the task ever entered the kernel.
+    /// Whether this lane is drawn: its patch was installed after some line, or its task was in the kernel or asleep
+    /// after some line.
     pub(crate) fn acts(&self, number: usize) -> bool {
         self.role(number) == Role::Acts
     }
 
-    /// Whether the lane's task existed, but never entered the kernel. Such tasks are listed below the lanes.
+    /// Whether this lane's task existed, but was in user space after each line. Such tasks are listed below the lanes.
     pub(crate) fn is_idle(&self, number: usize) -> bool {
         self.role(number) == Role::Idle
     }
 
-    /// Returns the finished bars of a lane, in the order of their lines.
+    /// Returns the finished bars of a lane, in the order of their lines. After [`Bars::close`] all bars are finished.
     pub(crate) fn bars_of(&self, number: usize) -> &[Bar] {
         match self.lanes.get(number) {
             Some(lane) => lane.bars.as_slice(),
@@ -143,71 +145,76 @@ impl Bars {
         }
     }
 
-    /// Gives a lane this look, beginning with this line. Returns whether the lane had another look before.
-    fn turn(&mut self, number: usize, line: u64, look: Option<Look>) -> bool {
+    /// Gives a lane this look from this line on. Returns whether it had another look before. If memory runs out, notes
+    /// that for [`Bars::close`].
+    fn set_look(&mut self, number: usize, line: u64, look: Option<Look>) -> bool {
         let Some(lane) = self.lanes.get_mut(number) else {
             return false;
         };
         if lane.look == look {
             return false;
         }
-        let is_short = lane.begin(line, look).is_err();
+        let is_short = lane.begin_bar(line, look).is_err();
         self.is_short |= is_short;
         true
     }
 
-    /// Adds a mark at this line for a change of the transition, and returns true. If `sign` is `None`, the transition
-    /// wasn't changed: adds no mark, and returns false.
+    /// If a line changed the transition, adds a mark and returns true. `sign` says what the line did to the transition.
+    /// If it is `None`, adds nothing and returns false. If memory runs out, notes that for [`Bars::close`].
     fn mark(&mut self, line: u64, sign: Option<Sign>) -> bool {
         let Some(sign) = sign else {
             return false;
         };
+        // The transition counts as forced until its next mark.
         self.is_forced = sign == Sign::Forced;
         self.is_short |= self.marks.push(Mark { line, sign }).is_err();
         true
     }
 
-    /// Gives each patch the look that it has after this line. Returns whether a look changed.
-    fn turn_patches(&mut self, line: u64, view: &View) -> bool {
+    /// Gives each patch the look that it has after this line. `view` is the state after the line. Returns whether a
+    /// look changed.
+    fn update_patches(&mut self, line: u64, view: &View) -> bool {
         let mut is_changed = false;
         for number in 0..MAX_PATCHES {
             let was_there = self.role(number) != Role::Absent;
             let look = look_of_patch(view, PatchId(number as u8), self.is_forced, was_there);
-            is_changed |= self.turn(number, line, look);
+            is_changed |= self.set_look(number, line, look);
         }
         is_changed
     }
 
-    /// Gives each task the look that it has after this line. Returns whether a look changed.
-    fn turn_tasks(&mut self, line: u64, view: &View, manager: &Manager) -> bool {
+    /// Gives each task the look that it has after this line. `view` is the state after the line. Returns whether a look
+    /// changed.
+    fn update_tasks(&mut self, line: u64, view: &View, manager: &Manager) -> bool {
         let mut is_changed = false;
         for number in 0..MAX_TASKS {
             let look = look_of_task(manager, TaskId(number as u8), &view.stays[number]);
-            is_changed |= self.turn(MAX_PATCHES + number, line, look);
+            is_changed |= self.set_look(MAX_PATCHES + number, line, look);
         }
         is_changed
     }
 
-    /// Updates the bars with the state after a line. Call this for each line that did or undid an event. No other line
-    /// changes a bar.
+    /// Updates the bars with the state after a line, which is `moment`. `before` is the state before the line. Call
+    /// this for each line that did or undid an event, in order. No other line changes a bar.
     pub fn see(&mut self, line: u64, before: &View, moment: &Moment, manager: &Manager) {
         let view = &moment.view;
         let mut is_changed = self.mark(line, sign_of(before, moment));
+        // The look of a patch depends on nothing else.
         if is_changed || before.installed.as_slice() != view.installed.as_slice() {
-            is_changed |= self.turn_patches(line, view);
+            is_changed |= self.update_patches(line, view);
         }
-        is_changed |= self.turn_tasks(line, view, manager);
+        is_changed |= self.update_tasks(line, view, manager);
         if is_changed {
             self.is_short |= self.changed.push(line).is_err();
         }
     }
 
-    /// Ends all bars behind the last line, and computes where each line is drawn. If each line that changes something
-    /// has a time, the drawing is to scale by time. Otherwise lines are placed by their numbers. `Err` if memory runs
-    /// out, or ran out before.
+    /// Ends all bars after the run's last line, whose number is `lines`, and computes where each line is drawn. If each
+    /// line that changes something has a time, the drawing is to scale by time. Otherwise lines are placed by their
+    /// numbers. `Err` if memory runs out, or ran out before.
     pub fn close(&mut self, lines: u64, names: &Names) -> Result<(), AllocError> {
         for number in 0..LANES {
-            self.turn(number, lines.saturating_add(1), None);
+            self.set_look(number, lines.saturating_add(1), None);
         }
         if self.is_short {
             return Err(AllocError);

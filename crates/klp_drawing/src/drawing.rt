@@ -19,7 +19,7 @@ use klp_timeline::Sentence;
 use klp_types::{MAX_PATCHES, PatchId, TaskId};
 use std::alloc::{AllocError, Global};
 
-/// The width of a sign and of the gap behind it, in points.
+/// The width of a sign and of the gap after it, in points.
 const SIGN: u64 = 12;
 
 /// The data that the parts of the drawing need: what is drawn and where it is drawn.
@@ -35,8 +35,8 @@ struct Board<'a> {
     width: u64,
 }
 
-/// Returns the places of the marks that are drawn, from left to right. A mark is left out if its sign would cover the
-/// sign of the mark before. `Err` if memory runs out.
+/// Returns the places of the marks that are drawn, from left to right. Leaves out each mark whose sign would cover the
+/// sign of the mark drawn before. `Err` if memory runs out.
 fn places_of_marks(alloc: Global, bars: &Bars) -> Result<Vec<u64>, AllocError> {
     let mut places = Vec::new(alloc);
     let mut free = 0;
@@ -50,8 +50,8 @@ fn places_of_marks(alloc: Global, bars: &Bars) -> Result<Vec<u64>, AllocError> {
     Ok(places)
 }
 
-/// Adds the signs of the marks, except for those that would cover the sign before. The number of a mark's line is added
-/// beside the sign if there is room up to the next sign. If the drawing is to scale by time, no number is added.
+/// Adds the signs of the marks. Leaves out each sign that would cover the sign drawn before. If there is room up to the
+/// next mark, the number of the mark's line follows the sign. In a drawing to scale by time, no number does.
 fn add_signs(sheet: &mut Sheet, bars: &Bars) {
     let mut free = 0;
     for (number, mark) in bars.marks.iter().enumerate() {
@@ -60,6 +60,7 @@ fn add_signs(sheet: &mut Sheet, bars: &Bars) {
             continue;
         }
         free = x.saturating_add(SIGN);
+        // A sign is about 8 points wide, so this puts its middle over the mark.
         add_text_start(sheet, "sign", x.saturating_sub(4), 13);
         sheet.markup(sign_text(mark.sign));
         let next = match bars.marks.get(number.saturating_add(1)) {
@@ -74,8 +75,8 @@ fn add_signs(sheet: &mut Sheet, bars: &Bars) {
     }
 }
 
-/// Adds the definition of the marks, which all lanes share. Each mark is a dotted line at one of these places, as high
-/// as a lane.
+/// Adds the definition of the marks, which each lane uses. A mark is a dotted line as high as a lane, 26 points, at one
+/// of these places.
 fn add_marks(sheet: &mut Sheet, places: &[u64]) {
     sheet.markup("<g id=marks><path class=mark d=\"M0 0");
     for x in places {
@@ -84,7 +85,8 @@ fn add_marks(sheet: &mut Sheet, places: &[u64]) {
     sheet.markup("\"/></g>");
 }
 
-/// Adds the definition of the cuts, which all lanes share. A cut is a gap between two zigzags.
+/// Adds the definition of the cuts, which each lane uses. A cut is a gap between two zigzags, as high as a lane, 26
+/// points.
 fn add_cuts(sheet: &mut Sheet, bars: &Bars) {
     sheet.markup("<g id=cuts>");
     for x in &bars.scale.cuts {
@@ -96,7 +98,8 @@ fn add_cuts(sheet: &mut Sheet, bars: &Bars) {
     sheet.markup("</g>");
 }
 
-/// Begins the table. The head of the table has the signs, the axis, and the definitions that all lanes share.
+/// Begins the table, and adds its head: the signs, the axis, and the definitions that each lane uses. `marks` are the
+/// places of the marks.
 fn add_head(sheet: &mut Sheet, board: &Board<'_>, marks: &[u64]) {
     sheet.fill(
         "<div class=run><table><thead><tr><th></th><td><svg width=\"{}\" height=\"36\" aria-hidden=true><defs>",
@@ -111,7 +114,7 @@ fn add_head(sheet: &mut Sheet, board: &Board<'_>, marks: &[u64]) {
     sheet.markup("</svg></td></tr></thead>");
 }
 
-/// Ends the table. Below the last lane, adds the axis once more.
+/// Adds the foot of the table, which has the axis once more, and ends the table.
 fn add_foot(sheet: &mut Sheet, board: &Board<'_>) {
     sheet.fill(
         "<tfoot><tr><th></th><td><svg width=\"{}\" height=\"18\" aria-hidden=true>",
@@ -121,12 +124,14 @@ fn add_foot(sheet: &mut Sheet, board: &Board<'_>) {
     sheet.markup("</svg></td></tr></tfoot></table></div>\n");
 }
 
-/// Returns the task that has this lane. The lanes of tasks follow those of patches.
+/// Returns the task of a lane. The lanes of tasks follow those of patches. For the lane of a patch, returns a task
+/// without meaning.
 fn task_in(lane: usize) -> TaskId {
+    // There are fewer than 256 tasks, so `min` changes nothing.
     TaskId((lane.saturating_sub(MAX_PATCHES)).min(255) as u8)
 }
 
-/// Begins the table row of a lane: with the patch's name, or with the task's number and name.
+/// Begins the table row of a lane, and adds its first cell: the name of the patch, or the number and name of the task.
 fn add_name(sheet: &mut Sheet, names: &Names, manager: &Manager, lane: usize) {
     if lane < MAX_PATCHES {
         let name = patch_name(manager.catalog(), PatchId(lane as u8));
@@ -138,7 +143,7 @@ fn add_name(sheet: &mut Sheet, names: &Names, manager: &Manager, lane: usize) {
     }
 }
 
-/// Adds the table row of a patch or a task. Parts that are drawn later cover earlier parts, so the order is: marks,
+/// Adds the table row of a patch or a task. Parts that are added later cover earlier parts, so the order is: marks,
 /// bars, stays, cuts, and all words. `Err` if memory runs out.
 fn add_lane(
     alloc: Global,
@@ -175,8 +180,8 @@ fn add_lane(
     Ok(())
 }
 
-/// Adds the note below the drawing. The note explains the numbers of the axis and the zigzags. If one point shows
-/// several lines, the note also says which line's bar is drawn at the point.
+/// Adds the note below the drawing, which says what the numbers of the axis and the zigzags mean. If one point shows
+/// several lines, the note also says which of their bars is drawn there.
 fn add_note(sheet: &mut Sheet, bars: &Bars) {
     let (numbers, cut) = if bars.scale.is_timed() {
         (
@@ -201,8 +206,9 @@ fn add_note(sheet: &mut Sheet, bars: &Bars) {
     sheet.markup("</p>\n");
 }
 
-/// Adds the drawing of a run, and its legend. Each stay links to its sentence, `#stay-LINE-TASK`. If the page leaves
-/// out that sentence, the stay links to the line where it begins, `#line-LINE`. `Err` if memory runs out.
+/// Adds the drawing of a run, its legend and a note. `bars` must be closed. `sentences` are all sentences of the run. A
+/// stay links to its sentence, `#stay-LINE-TASK`, or, if the page leaves out that sentence, to the row of the line with
+/// which the stay begins, `#line-LINE`. `Err` if memory runs out.
 pub fn add_drawing(
     alloc: Global,
     sheet: &mut Sheet,

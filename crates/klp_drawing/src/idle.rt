@@ -5,13 +5,13 @@ use klp_markup::Sheet;
 use klp_markup::Value::{Markup, Number};
 use klp_types::{MAX_PATCHES, MAX_TASKS};
 
-/// Whether a task existed and never entered the kernel.
+/// Whether a task existed, and was in user space after each line.
 fn is_idle(bars: &Bars, task: usize) -> bool {
     bars.is_idle(MAX_PATCHES.saturating_add(task))
 }
 
-/// Returns how many successive tasks are idle, beginning with this one.
-fn run_from(bars: &Bars, task: usize) -> usize {
+/// Returns how many successive tasks are idle, of which this task is the first. Returns 0 if this task isn't idle.
+fn idle_from(bars: &Bars, task: usize) -> usize {
     let mut count = 0usize;
     for other in task..MAX_TASKS {
         if !is_idle(bars, other) {
@@ -27,11 +27,12 @@ fn add_numbers(sheet: &mut Sheet, bars: &Bars) {
     let mut join = "";
     for task in 0..MAX_TASKS {
         let is_first = task == 0 || !is_idle(bars, task - 1);
+        // Another task than the first of a range is written with the first.
         if !is_idle(bars, task) || !is_first {
             continue;
         }
         sheet.fill("{}{}", &[Markup(join), Number(task as u64)]);
-        let last = task.saturating_add(run_from(bars, task)).saturating_sub(1);
+        let last = task.saturating_add(idle_from(bars, task)).saturating_sub(1);
         if last > task {
             sheet.fill(" to {}", &[Number(last as u64)]);
         }

@@ -3,11 +3,11 @@
 use crate::look::{Look, Shade, class_of, height_of, mode_word, shade_word};
 use crate::pen::{Area, BAR, TOP, add_rect, add_text_start};
 use crate::strips::Strip;
-use crate::words::{Stop, free_place, width_of};
+use crate::words::{Stop, first_place, width_of};
 use klp_markup::Sheet;
 use klp_markup::Value::Markup;
 
-/// Returns the rectangle of a strip. Its lower end is the same for all strips of a lane.
+/// Returns the rectangle of a strip. All strips of a lane have the same lower end, and differ in height.
 fn area_of(strip: &Strip) -> Area {
     let height = height_of(strip.look);
     Area {
@@ -18,8 +18,9 @@ fn area_of(strip: &Strip) -> Area {
     }
 }
 
-/// Adds the bars of a lane, each with the CSS class of its shade. A bar with a border is one point smaller on each
-/// side, so that the border doesn't extend beyond the bar's place.
+/// Adds the strips of a lane, each with the CSS class of its shade. A strip with a border is drawn one point smaller on
+/// each side, so that the border doesn't extend beyond the strip's place. A strip of at most two points isn't: nothing
+/// would be left of it.
 pub(crate) fn add_bars(sheet: &mut Sheet, strips: &[Strip]) {
     for strip in strips {
         let area = area_of(strip);
@@ -32,8 +33,8 @@ pub(crate) fn add_bars(sheet: &mut Sheet, strips: &[Strip]) {
     }
 }
 
-/// Returns the words of a bar in three parts: its shade, a comma, and for a task its mode. The shade or the mode may be
-/// empty, and then the comma is empty too.
+/// Returns the words of a bar in three parts: the word for its shade, a comma, and for a task the word for its mode. If
+/// one of the words is empty, the comma is empty, too.
 fn words_of(look: Look, is_task: bool) -> [&'static str; 3] {
     let shade = shade_word(look.shade);
     let mode = if is_task { mode_word(look.mode) } else { "" };
@@ -45,8 +46,8 @@ fn words_of(look: Look, is_task: bool) -> [&'static str; 3] {
     [shade, join, mode]
 }
 
-/// Returns the CSS class and the height of a bar's words. If the bar is too thin for words, the words are above the
-/// bar.
+/// Returns the CSS class of a bar's words, and the lower end of their letters. If the bar is too low for words, they
+/// stand above it, otherwise inside of it.
 fn place_of_words(shade: Shade, area: Area) -> (&'static str, u64) {
     let below = area.y.saturating_add(area.height);
     match area.height {
@@ -56,8 +57,9 @@ fn place_of_words(shade: Shade, area: Area) -> (&'static str, u64) {
     }
 }
 
-/// Adds these words to a bar if there is room for them. Returns whether there is room.
-fn add_some(sheet: &mut Sheet, strip: &Strip, stops: &[Stop], words: &[&'static str]) -> bool {
+/// Adds these words to a strip if there is room for them. Returns false if there is no room. If all words are empty,
+/// adds nothing and returns true.
+fn add_if_room(sheet: &mut Sheet, strip: &Strip, stops: &[Stop], words: &[&'static str]) -> bool {
     let mut letters = 0usize;
     for word in words {
         letters = letters.saturating_add(word.len());
@@ -65,7 +67,7 @@ fn add_some(sheet: &mut Sheet, strip: &Strip, stops: &[Stop], words: &[&'static 
     if letters == 0 {
         return true;
     }
-    let Some(place) = free_place(stops, strip.from, strip.to, width_of(letters)) else {
+    let Some(place) = first_place(stops, strip.from, strip.to, width_of(letters)) else {
         return false;
     };
     let (class, y) = place_of_words(strip.look.shade, area_of(strip));
@@ -77,16 +79,16 @@ fn add_some(sheet: &mut Sheet, strip: &Strip, stops: &[Stop], words: &[&'static 
     true
 }
 
-/// Adds to each bar its words. If there isn't room for all three parts, adds the first part alone. If the bar belongs
-/// to a stay that has a label, adds no words.
+/// Adds to each strip its words. If there isn't room for all of them, adds only the word for the shade. Adds nothing to
+/// a strip that is part of a stay, which may have a label.
 pub(crate) fn add_words(sheet: &mut Sheet, strips: &[Strip], stops: &[Stop], is_task: bool) {
     for strip in strips {
         if strip.look.has_sentence {
             continue;
         }
         let words = words_of(strip.look, is_task);
-        if !add_some(sheet, strip, stops, &words) {
-            add_some(sheet, strip, stops, &words[..1]);
+        if !add_if_room(sheet, strip, stops, &words) {
+            add_if_room(sheet, strip, stops, &words[..1]);
         }
     }
 }

@@ -30,7 +30,7 @@ pub(crate) struct Look {
     pub has_sentence: bool,
 }
 
-/// Returns the look of a task. `None` if there is no such task.
+/// Returns the look of a task. `stay` is the stay that the task is in, if any. Returns `None` if there is no such task.
 pub(crate) fn look_of_task(manager: &Manager, task: TaskId, stay: &Option<Stay>) -> Option<Look> {
     let mode = manager.mode(task)?;
     let shade = match manager.patch_state(task)? {
@@ -56,8 +56,9 @@ fn shade_of_patch(view: &View, patch: PatchId, is_forced: bool) -> Shade {
     }
 }
 
-/// Returns the look of a patch. `is_forced` says whether the transition under way was forced. `was_there` says whether
-/// the patch was installed at an earlier line. Returns `None` if the patch isn't installed and never was.
+/// Returns the look of a patch in this state. `is_forced` says whether the transition under way was forced, and
+/// `was_there` whether the patch was installed after an earlier line. Returns `None` if the patch isn't installed and
+/// never was.
 pub(crate) fn look_of_patch(
     view: &View,
     patch: PatchId,
@@ -78,8 +79,8 @@ pub(crate) fn look_of_patch(
     })
 }
 
-/// Returns the height of a bar in points. A task in the kernel has the highest bar, and a task in user space the
-/// lowest. The height of a sleeper's bar is between the two.
+/// Returns the height of a bar in points. The bar of a task is highest in the kernel, lower asleep, and lowest in user
+/// space. The bar of a patch that is gone is a thin line.
 pub(crate) fn height_of(look: Look) -> u64 {
     match look.mode {
         _ if look.shade == Shade::Gone => 2,
@@ -103,7 +104,7 @@ pub(crate) fn class_of(shade: Shade) -> &'static str {
     }
 }
 
-/// Returns the word for this shade, which stands on bars.
+/// Returns the word for this shade that stands on a bar. It is empty for a task that isn't in a transition.
 pub(crate) fn shade_word(shade: Shade) -> &'static str {
     match shade {
         Shade::Rest => "",
@@ -117,7 +118,7 @@ pub(crate) fn shade_word(shade: Shade) -> &'static str {
     }
 }
 
-/// Returns the word for this mode, which stands on a task's bars.
+/// Returns the word for this mode that stands on a task's bar. It is empty for user space, which the low bar shows.
 pub(crate) fn mode_word(mode: Mode) -> &'static str {
     match mode {
         Mode::User => "",

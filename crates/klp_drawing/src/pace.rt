@@ -24,15 +24,16 @@ struct Stretch {
 }
 
 impl Stretch {
-    /// Whether a part of the stretch isn't drawn.
+    /// Whether the stretch is cut, so that only its first part is drawn.
     fn is_cut(&self) -> bool {
         self.drawn < self.length
     }
 
-    /// Returns where a time within this stretch is drawn. All times in the part that was cut out are at the cut.
+    /// Returns where a time within this stretch is drawn. Each time in the part that isn't drawn is at the cut.
     fn place_of(&self, time: u64) -> u64 {
         let begin = self.end.saturating_sub(self.length);
         let drawn = time.saturating_sub(begin).min(self.drawn);
+        // `max` only avoids a division by 0 in a stretch without length.
         let x = drawn.saturating_mul(self.width) / self.drawn.max(1);
         self.x.saturating_add(x)
     }
@@ -52,8 +53,8 @@ pub(crate) struct Steps<'a> {
 }
 
 impl<'a> Steps<'a> {
-    /// Returns where a time is drawn. Each call forgets the stretches that ended before its time, so the times of
-    /// successive calls must rise.
+    /// Returns where a time is drawn. Each call drops the stretches that ended before its time, so the times of
+    /// successive calls must not fall. A time after the end of the last stretch is at its right end.
     pub(crate) fn place_of(&mut self, time: u64) -> u64 {
         while let [first, rest @ ..] = self.rest {
             if time < first.end || rest.is_empty() {
@@ -61,6 +62,7 @@ impl<'a> Steps<'a> {
             }
             self.rest = rest;
         }
+        // There are no stretches. `pace_of` returns no such scale.
         0
     }
 }
@@ -73,14 +75,15 @@ impl Pace {
         }
     }
 
-    /// Computes the place and the width of each stretch. All stretches together are as wide as a drawing. `Err` if
-    /// memory runs out.
-    fn place(&mut self) -> Result<(), AllocError> {
+    /// Computes the place and the width of each stretch, and the place of each cut. The stretches share the width of a
+    /// drawing in proportion to their drawn lengths. `Err` if memory runs out.
+    fn place_stretches(&mut self) -> Result<(), AllocError> {
         let (mut all, mut cuts) = (0u64, 0u64);
         for stretch in &self.stretches {
             all = all.saturating_add(stretch.drawn);
             cuts = cuts.saturating_add(u64::from(stretch.is_cut()));
         }
+        // Each cut narrows the stretches, but together they have at least half the width.
         let room = WIDTH
             .saturating_sub(cuts.saturating_mul(COST))
             .max(WIDTH / 2);
@@ -99,9 +102,9 @@ impl Pace {
         Ok(())
     }
 
-    /// Cuts each stretch that is longer than `longest`. Of such a stretch, a part of half the length `longest` is
-    /// drawn.
-    fn cut(&mut self, longest: u64) {
+    /// Cuts each stretch that is longer than `longest` microseconds: of it, only the first `longest / 2` microseconds
+    /// are drawn.
+    fn cut_long(&mut self, longest: u64) {
         for stretch in &mut self.stretches {
             if stretch.length > longest {
                 stretch.drawn = longest / 2;
@@ -110,8 +113,9 @@ impl Pace {
     }
 }
 
-/// Returns the length of the longest stretch that is drawn whole. Returns `u64::MAX` if no stretch is cut. `Err` if
-/// memory runs out.
+/// Returns the length of the longest stretch that isn't cut, in microseconds. Returns `u64::MAX` if no stretch is cut.
+/// The shortest stretch that is cut is longer than [`LONG`] times all shorter stretches together, which must last at
+/// least [`SECOND`]. `Err` if memory runs out.
 fn longest_of(alloc: Global, stretches: &[Stretch]) -> Result<u64, AllocError> {
     let mut lengths = Vec::new(alloc);
     for stretch in stretches {
@@ -129,7 +133,8 @@ fn longest_of(alloc: Global, stretches: &[Stretch]) -> Result<u64, AllocError> {
     Ok(u64::MAX)
 }
 
-/// Adds the stretch between two times. Returns the time at which it ends. `Err` if memory runs out.
+/// Appends the stretch between two times, without its place in the drawing. Returns the time at which it ends. `Err` if
+/// memory runs out.
 fn add_stretch(stretches: &mut Vec<Stretch>, begin: u64, end: u64) -> Result<u64, AllocError> {
     let length = end.saturating_sub(begin);
     stretches.push(Stretch {
@@ -142,8 +147,9 @@ fn add_stretch(stretches: &mut Vec<Stretch>, begin: u64, end: u64) -> Result<u64
     Ok(end)
 }
 
-/// Returns the stretches between the lines that change something, and the stretch from the last such line to the end of
-/// the run. If a line has no time, the list ends before this line. `Err` if memory runs out.
+/// Returns the stretches of a run with `lines` lines: one up to each line in `changed`, and one from the last such line
+/// to the run's last line. If a line in `changed` has no time, the list ends before its stretch. If the run's last line
+/// has no time, the last stretch is missing. `Err` if memory runs out.
 fn stretches_of(
     alloc: Global,
     changed: &[u64],
@@ -164,8 +170,8 @@ fn stretches_of(
     Ok(stretches)
 }
 
-/// Returns the scale by time of a run with `lines` lines. `changed` are the lines that change something. Returns `None`
-/// if a line in `changed` has no time, or if no time passes. `Err` if memory runs out.
+/// Returns the scale by time of a run with `lines` lines. `changed` are the lines that change something, in order.
+/// Returns `None` if a line in `changed` has no time, or if no time passes. `Err` if memory runs out.
 pub(crate) fn pace_of(
     alloc: Global,
     changed: &[u64],
@@ -181,7 +187,7 @@ pub(crate) fn pace_of(
         stretches,
         cuts: Vec::new(alloc),
     };
-    pace.cut(longest);
-    pace.place()?;
+    pace.cut_long(longest);
+    pace.place_stretches()?;
     Ok(Some(pace))
 }

@@ -6,15 +6,16 @@ use klp_markup::Value::{Markup, Number};
 /// The height of a lane in points.
 pub(crate) const LANE: u64 = 26;
 
-/// The upper end of the highest bar in its lane. `BAR` is the height of that bar.
+/// The upper end of the highest bar in its lane, in points from the upper end of the lane.
 pub(crate) const TOP: u64 = 3;
 
+/// The height of the highest bar, in points.
 pub(crate) const BAR: u64 = 20;
 
-/// The width that is left free behind the right end of a lane.
+/// The width that is left free to the right of all lanes, in points.
 pub(crate) const MARGIN: u64 = 44;
 
-/// The width of the widest letter.
+/// The width of the widest letter, in points.
 pub(crate) const LETTER: u64 = 8;
 
 /// A rectangle: its left end, its upper end, its width and its height.
@@ -27,7 +28,7 @@ pub(crate) struct Area {
 }
 
 impl Area {
-    /// Returns the rectangle that lies inside of this one, with this margin on each side.
+    /// Returns the rectangle inside of this one that leaves free this many points on each side.
     pub(crate) fn inside(self, margin: u64) -> Area {
         Area {
             x: self.x.saturating_add(margin),
@@ -38,7 +39,8 @@ impl Area {
     }
 }
 
-/// Returns how many digits a number has. Returns 7 for each number with six or more digits.
+/// Returns for how many digits a number needs room. That is how many it has, but 7 for each number of six or more
+/// digits.
 pub(crate) fn digits(number: u64) -> usize {
     match number {
         0..=9 => 1,
@@ -50,7 +52,7 @@ pub(crate) fn digits(number: u64) -> usize {
     }
 }
 
-/// Returns the width that a number may have in the drawing.
+/// Returns for how many points a number needs room.
 pub(crate) fn number_width(number: u64) -> u64 {
     (digits(number) as u64).saturating_mul(LETTER)
 }
@@ -69,7 +71,8 @@ pub(crate) fn add_rect(sheet: &mut Sheet, class: &'static str, area: Area) {
     );
 }
 
-/// Begins a text at this place. The caller adds the words and `</text>`.
+/// Begins a text at this place, with this CSS class. `y` is the lower end of its letters. The caller adds the words and
+/// `</text>`.
 pub(crate) fn add_text_start(sheet: &mut Sheet, class: &'static str, x: u64, y: u64) {
     sheet.fill(
         "<text class={} x=\"{}\" y=\"{}\">",

@@ -2,7 +2,7 @@
 
 use crate::pen::{Area, BAR, MARGIN, TOP, add_rect, add_text_start, digits};
 use crate::scale::Scale;
-use crate::words::{Stop, free_place, last_place};
+use crate::words::{Stop, first_place, last_place};
 use klp_core::Manager;
 use klp_markup::Value::{Markup, Number, Text};
 use klp_markup::{Sheet, add_line_time, add_plain_task, function_name, object_name, patch_name};
@@ -11,19 +11,21 @@ use klp_timeline::{Said, Sentence, Sleepers, Stay, excess, is_left_out};
 use klp_types::{MAX_TASKS, TaskId, Version};
 use std::alloc::{AllocError, Global};
 
-/// The smallest width of a stay in the drawing, so that readers don't overlook it.
+/// The smallest width of a stay in the drawing, in points, so that readers don't overlook it.
 const FEWEST: u64 = 4;
 
-/// A stay that is narrower than this has no outline of two colours.
+/// A stay that is narrower than this many points has no outline of two colours, since hardly any pattern would be left
+/// inside.
 const OUTLINED: u64 = 8;
 
-/// How many points of a stay are left free by the label.
+/// How many points of a stay its label leaves free, so that the pattern of the stay can be seen.
 const SHOWN: u64 = 12;
 
-/// The width of a letter of a label, in quarters of a point.
+/// The width of a letter of a label, in quarters of a point: 7.5 points.
 const LETTER_QUARTERS: u64 = 30;
 
-/// The width of a label's border on both sides together, in quarters of a point.
+/// What a label needs beside its letters, in quarters of a point: 5 points on each side, and 3 quarters that round up
+/// the division by 4.
 const BORDER_QUARTERS: u64 = 43;
 
 /// The stay of one task, with the places in the drawing between which it lies.
@@ -51,11 +53,12 @@ struct Gathered {
 }
 
 impl Gathered {
-    /// Adds the stay of one task. Leaves out the part that an earlier stay of the task covers. If the earlier stay
-    /// covers all of it, adds nothing. `Err` if memory runs out.
+    /// Adds the stay of one task, or of it only the part to the right of the task's earlier stays. Drops the stay if
+    /// nothing is left. `Err` if memory runs out.
     fn add(&mut self, held: Held) -> Result<(), AllocError> {
         let number = usize::from(held.task.0);
         if number >= MAX_TASKS {
+            // No task has such a number.
             return Ok(());
         }
         let filled = self.filled[number];
@@ -69,8 +72,9 @@ impl Gathered {
         Ok(())
     }
 
-    /// Adds the stays of all tasks of a sentence. `sentence` is the index of this sentence among all sentences. The
-    /// stays lie between the places `from` and `to`. `Err` if memory runs out.
+    /// Adds the stay of each task of a sentence. `sentence` is the index of this sentence among all sentences of the
+    /// run. The stays lie between the places `from` and `to`, but are at least [`FEWEST`] points wide. `Err` if memory
+    /// runs out.
     fn add_sleepers(
         &mut self,
         sentence: usize,
@@ -94,16 +98,17 @@ impl Gathered {
     }
 }
 
-/// Returns the right end of the stays that a sentence reports.
-fn end_of(scale: &Scale, sleepers: &Sleepers) -> u64 {
+/// Returns the right end of the stays of a sentence. This is the left end of the line after the stays' last line. If
+/// the stays last until the end of the run, it is the right end of the run.
+fn right_end_of(scale: &Scale, sleepers: &Sleepers) -> u64 {
     match sleepers.to {
         Some(last) => scale.x(last.saturating_add(1)),
         None => scale.end(),
     }
 }
 
-/// Returns the stays of all sentences, from left to right. If the page leaves out the oldest sentences, their stays
-/// link to lines. `Err` if memory runs out.
+/// Returns the stays of all sentences of a run, in the order of their first lines. A stay whose sentence isn't on the
+/// page is drawn all the same, with `has_sentence` false. `Err` if memory runs out.
 pub(crate) fn all_held(
     alloc: Global,
     scale: &Scale,
@@ -120,7 +125,7 @@ pub(crate) fn all_held(
             excess = excess.saturating_sub(1);
         }
         if let Said::Slept(sleepers) = &sentence.said {
-            let (from, to) = (scale.x(sentence.line), end_of(scale, sleepers));
+            let (from, to) = (scale.x(sentence.line), right_end_of(scale, sleepers));
             gathered.add_sleepers(number, sleepers, !is_left_out, from, to)?;
         }
     }
@@ -138,8 +143,9 @@ fn area_of(held: &Held) -> Area {
     }
 }
 
-/// Adds the rectangle of a stay. The rectangle is hatched if the task holds the transition up, and otherwise dotted.
-/// Its outline is black and white, so that one of the two contrasts with any colour below.
+/// Adds the rectangle of a stay: hatched if the task holds the transition up, otherwise dotted. Its outline is black
+/// and white, so that one of the two contrasts with any colour below. A stay that is too narrow for an outline is half
+/// black and half white.
 fn add_area(sheet: &mut Sheet, held: &Held) {
     let area = area_of(held);
     if area.width < OUTLINED {
@@ -156,7 +162,8 @@ fn add_area(sheet: &mut Sheet, held: &Held) {
     add_rect(sheet, "inner", area.inside(2));
 }
 
-/// Adds the rectangles of a task's stays. The rectangles cover the words of the lane, so add the words afterwards.
+/// Adds the rectangles of a task's stays. They cover what is already in the lane, so call this before the words are
+/// added.
 pub(crate) fn add_areas(sheet: &mut Sheet, all: &[Held], task: TaskId) {
     for held in all {
         if held.task == task {
@@ -165,14 +172,16 @@ pub(crate) fn add_areas(sheet: &mut Sheet, all: &[Held], task: TaskId) {
     }
 }
 
-/// What the label of a stay may say: the line where the stay begins, or the function that the task sleeps in.
+/// What the label and the tooltip of a stay are made of: the line with which the stay begins, and the version that the
+/// task sleeps in.
 #[derive(Clone, Copy)]
 struct Label {
     line: u64,
     version: Version,
 }
 
-/// Returns the label of a stay, which is part of the stay's sentence. Returns `None` if that sentence reports no stay.
+/// Returns the line with which a stay begins, and the version that the task sleeps in, both out of the stay's sentence.
+/// Returns `None` if there is no such sentence, or if the sentence is on a fact.
 fn label_of(sentences: &[Sentence], held: &Held) -> Option<Label> {
     let sentence = sentences.get(held.sentence)?;
     let Said::Slept(sleepers) = &sentence.said else {
@@ -185,7 +194,8 @@ fn label_of(sentences: &[Sentence], held: &Held) -> Option<Label> {
     })
 }
 
-/// Returns the name of a function, without the name of its object or patch.
+/// Returns the name of a version's function, without the name of its object or patch. The name is empty if there is no
+/// such function.
 fn short_name(manager: &Manager, version: Version) -> &[u8] {
     match version {
         Version::Original(site) => match manager.modules().symbol(site) {
@@ -196,8 +206,8 @@ fn short_name(manager: &Manager, version: Version) -> &[u8] {
     }
 }
 
-/// Adds the name of a function and of its object or patch, as `NAME of the object OBJECT`. A tooltip may have no
-/// markup, so none is added.
+/// Adds a version as `NAME of the object OBJECT` or `NAME of the patch PATCH`, without markup, since a tooltip can have
+/// none. Adds nothing if there is no such site.
 fn add_plain_version(sheet: &mut Sheet, manager: &Manager, version: Version) {
     let (owner, kind) = match version {
         Version::Original(site) => match manager.modules().symbol(site) {
@@ -210,8 +220,9 @@ fn add_plain_version(sheet: &mut Sheet, manager: &Manager, version: Version) {
     sheet.fill("{} of the {} {}", &[Text(name), Markup(kind), Text(owner)]);
 }
 
-/// Adds the tooltip of a stay: which task it is, since which line and time, and in which function.
-fn add_tip(sheet: &mut Sheet, names: &Names, manager: &Manager, held: &Held, label: &Label) {
+/// Adds the tooltip of a stay: the task, whether it holds the transition up or sleeps in code that isn't called now,
+/// since which line and time, and in which version.
+fn add_tooltip(sheet: &mut Sheet, names: &Names, manager: &Manager, held: &Held, label: &Label) {
     let what = if held.is_holding {
         " holds the transition up since line "
     } else {
@@ -226,8 +237,8 @@ fn add_tip(sheet: &mut Sheet, names: &Names, manager: &Manager, held: &Held, lab
     sheet.markup("</title>");
 }
 
-/// Begins the link of a stay to its sentence. If the page leaves out that sentence, links to the stay's first line
-/// instead.
+/// Begins the link of a stay to its sentence, `#stay-LINE-TASK`. If the sentence isn't on the page, the link is to the
+/// row of `line`, the line with which the stay begins. The caller adds `</a>`.
 fn add_link(sheet: &mut Sheet, held: &Held, line: u64) {
     let line = Number(line);
     if held.has_sentence {
@@ -238,22 +249,25 @@ fn add_link(sheet: &mut Sheet, held: &Held, line: u64) {
     }
 }
 
-/// Returns the width of a label with this many letters, including its border, in points. The style sheet sets a
-/// monospace font of 12 points, whose letters are at most 7.5 points wide.
+/// Returns the width in points of a label with this many letters, including 5 points on each side, rounded up. The
+/// style sheet sets a monospace font of 12 points, whose letters are at most 7.5 points wide.
 fn label_width(letters: usize) -> u64 {
     let quarters = (letters as u64).saturating_mul(LETTER_QUARTERS);
     quarters.saturating_add(BORDER_QUARTERS) / 4
 }
 
-/// Returns the left end of a label with this width. Returns `None` if there is no room between the stops. If the stay
-/// has ended, its label is at the left of the stay. If a drawing is wider than the screen, a reader first sees its
-/// right end. So the label of a stay that still lasts at the end of the run is at the right, and may extend beyond the
-/// stay. In both cases [`SHOWN`] points of the stay are left free.
+/// Returns the left end of a stay's label, which is `width` points wide. Returns `None` if there is no room for it
+/// between the stops. [`SHOWN`] points of the stay are left free beside the label.
+///
+/// If the stay has ended, the label is as far left in the stay as possible. If the stay lasts until the end of the run,
+/// the label is as far right in the stay as possible, and if there is no room, it may extend into the margin. The right
+/// end matters more: if the drawing is wider than the screen, a reader sees it first.
 fn place_of_label(stops: &[Stop], held: &Held, width: u64) -> Option<u64> {
     let room = width.saturating_add(SHOWN);
     if !held.is_lasting {
-        return free_place(stops, held.from, held.to, room);
+        return first_place(stops, held.from, held.to, room);
     }
+    // The right end of the margin, less a gap of 4 points.
     let behind = held.to.saturating_add(MARGIN).saturating_sub(FEWEST);
     let place = match last_place(stops, held.from, held.to, room) {
         Some(place) => place,
@@ -262,12 +276,14 @@ fn place_of_label(stops: &[Stop], held: &Held, width: u64) -> Option<u64> {
     Some(place.saturating_add(SHOWN))
 }
 
-/// Begins a label with this many letters if there is room for it. Returns whether there is room.
-fn add_plate(sheet: &mut Sheet, held: &Held, stops: &[Stop], letters: usize) -> bool {
+/// If there is room for a label with this many letters, adds its box, begins its text and returns true. The caller adds
+/// the letters and `</text>`. If there is no room, adds nothing and returns false.
+fn begin_label(sheet: &mut Sheet, held: &Held, stops: &[Stop], letters: usize) -> bool {
     let width = label_width(letters);
     let Some(place) = place_of_label(stops, held, width) else {
         return false;
     };
+    // The box leaves 3 points free on each side, so that it doesn't cover the outline of the stay.
     let plate = Area {
         x: place.saturating_add(3),
         y: TOP + 3,
@@ -279,19 +295,19 @@ fn add_plate(sheet: &mut Sheet, held: &Held, stops: &[Stop], letters: usize) -> 
     true
 }
 
-/// Adds the label of a stay. If there is room for the function's name, the label is that name. Otherwise the label is
-/// the number of the stay's first line, by which a reader finds the sentence. If there is no room for the number, adds
+/// Adds the label of a stay. It is the name of the function, or, if there is no room for it, the number of the line
+/// with which the stay begins, by which a reader finds the sentence. If there is no room for the number either, adds
 /// nothing.
 fn add_label(sheet: &mut Sheet, manager: &Manager, held: &Held, label: &Label, stops: &[Stop]) {
     let name = short_name(manager, label.version);
-    if add_plate(sheet, held, stops, name.len()) {
+    if begin_label(sheet, held, stops, name.len()) {
         sheet.fill("{}</text>", &[Text(name)]);
-    } else if add_plate(sheet, held, stops, digits(label.line)) {
+    } else if begin_label(sheet, held, stops, digits(label.line)) {
         sheet.fill("{}</text>", &[Number(label.line)]);
     }
 }
 
-/// Adds the labels of a task's stays. Each stay also links to its sentence, and has a tooltip.
+/// Adds, for each stay of a task, a link to its sentence, with a tooltip and a label. `all` has the stays of all tasks.
 pub(crate) fn add_labels(
     sheet: &mut Sheet,
     names: &Names,
@@ -307,7 +323,8 @@ pub(crate) fn add_labels(
         }
         if let Some(label) = label_of(sentences, held) {
             add_link(sheet, held, label.line);
-            add_tip(sheet, names, manager, held, &label);
+            add_tooltip(sheet, names, manager, held, &label);
+            // Transparent, so that the whole stay is part of the link.
             add_rect(sheet, "clear", area_of(held));
             add_label(sheet, manager, held, &label, stops);
             sheet.markup("</a>");

@@ -13,35 +13,38 @@ pub(crate) struct Strip {
     pub look: Look,
 }
 
-/// Strips from left to right. No two of them overlap.
+/// Builds the strips of a lane from left to right. No two strips overlap.
 #[derive(Drop)]
 struct Strips {
-    strips: Vec<Strip>,
-    /// The last strip. The next one may shorten it.
+    /// The strips that won't change any more.
+    finished: Vec<Strip>,
+    /// The rightmost strip. The next one may shorten it.
     last: Option<Strip>,
 }
 
 impl Strips {
-    /// Puts the last strip behind the finished strips, since it won't change any more. Drops the strip if it is empty.
-    /// `Err` if memory runs out.
-    fn settle(&mut self) -> Result<(), AllocError> {
+    /// Moves the rightmost strip to the finished strips. Drops it if nothing is left of it. `Err` if memory runs out.
+    fn finish_last(&mut self) -> Result<(), AllocError> {
         match self.last.take() {
-            Some(strip) if strip.from < strip.to => self.strips.push(strip)?,
+            Some(strip) if strip.from < strip.to => self.finished.push(strip)?,
             _ => {}
         }
         Ok(())
     }
 
-    /// Adds a strip behind the last one. If the two overlap, the lower strip loses the part that both share. `Err` if
-    /// memory runs out.
+    /// Adds a strip, which must begin no further left than the rightmost strip so far. Where the two overlap, only the
+    /// higher is drawn, and of two strips of one height the earlier. If nothing is left of the new strip, drops it.
+    /// `Err` if memory runs out.
     fn add(&mut self, mut strip: Strip) -> Result<(), AllocError> {
         let Some(mut last) = self.last else {
             self.last = Some(strip);
             return Ok(());
         };
+        // The new strip is higher: it cuts the overlap off the earlier one.
         if strip.from < last.to && height_of(strip.look) > height_of(last.look) {
             last.to = strip.from.max(last.from);
         }
+        // They still overlap, so the earlier strip keeps the overlap.
         if strip.from < last.to {
             strip.from = last.to;
         }
@@ -49,31 +52,33 @@ impl Strips {
             return Ok(());
         }
         self.last = Some(last);
-        self.settle()?;
+        self.finish_last()?;
         self.last = Some(strip);
         Ok(())
     }
 }
 
-/// Returns the strips for these bars. A strip is at least one point wide. `Err` if memory runs out.
+/// Returns the strips for a lane's bars, which must be in the order of their lines. A bar that is narrower than one
+/// point is widened to one, so strips can overlap: then only the higher is drawn, and of two strips of one height the
+/// earlier. A strip of which nothing is left is dropped. `Err` if memory runs out.
 pub(crate) fn strips_of(
     alloc: Global,
     bars: &[Bar],
     scale: &Scale,
 ) -> Result<Vec<Strip>, AllocError> {
-    let mut strips = Strips {
-        strips: Vec::new(alloc),
+    let mut builder = Strips {
+        finished: Vec::new(alloc),
         last: None,
     };
     for bar in bars {
         let from = scale.x(bar.from);
-        strips.add(Strip {
+        builder.add(Strip {
             from,
             to: scale.x(bar.to).max(from.saturating_add(1)),
             look: bar.look,
         })?;
     }
-    strips.settle()?;
-    let Strips { strips, last: _ } = strips;
-    Ok(strips)
+    builder.finish_last()?;
+    let Strips { finished, last: _ } = builder;
+    Ok(finished)
 }

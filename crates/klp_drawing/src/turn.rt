@@ -13,7 +13,8 @@ pub(crate) enum Sign {
     Back,
 }
 
-/// Returns the effect of a line on the transition. Returns `None` if the line had no effect on it.
+/// Returns what a line did to the transition. `before` is the state before the line. Returns `None` if the line left
+/// the transition as it was.
 pub(crate) fn sign_of(before: &View, moment: &Moment) -> Option<Sign> {
     let after = &moment.view;
     match (moment.act, before.moving, after.moving) {

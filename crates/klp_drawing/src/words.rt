@@ -11,7 +11,8 @@ pub(crate) struct Stop {
     pub to: u64,
 }
 
-/// Returns the places of all marks and cuts, from left to right. `Err` if memory runs out.
+/// Returns the places of the cuts, and of these marks, from left to right. No word may cross them. `Err` if memory runs
+/// out.
 pub(crate) fn stops(alloc: Global, bars: &Bars, marks: &[u64]) -> Result<Vec<Stop>, AllocError> {
     let mut stops = Vec::new(alloc);
     for x in &bars.scale.cuts {
@@ -30,14 +31,16 @@ pub(crate) fn stops(alloc: Global, bars: &Bars, marks: &[u64]) -> Result<Vec<Sto
     Ok(stops)
 }
 
-/// Returns the width of this many letters and of a gap on each side of the letters.
+/// Returns the width in points of this many letters and of a gap on each side.
 pub(crate) fn width_of(letters: usize) -> u64 {
+    // A letter is at most 7.5 points wide. The gaps are 8 points wide together.
     (letters as u64).saturating_mul(15).saturating_add(16) / 2
 }
 
-/// Returns the rightmost place between `from` and `to` that has this width and no stop in it. Returns `None` if there
-/// is no such place.
+/// Returns the left end of the rightmost place between `from` and `to` that is `width` points wide and without a stop.
+/// Returns `None` if there is no such place.
 pub(crate) fn last_place(stops: &[Stop], from: u64, to: u64, width: u64) -> Option<u64> {
+    // The place must end here, or further left.
     let mut end = to;
     for stop in stops.iter().rev() {
         if stop.from < end {
@@ -54,9 +57,10 @@ pub(crate) fn last_place(stops: &[Stop], from: u64, to: u64, width: u64) -> Opti
     }
 }
 
-/// Returns the leftmost place between `from` and `to` that has this width and no stop in it. Returns `None` if there is
-/// no such place.
-pub(crate) fn free_place(stops: &[Stop], from: u64, to: u64, width: u64) -> Option<u64> {
+/// Returns the left end of the leftmost place between `from` and `to` that is `width` points wide and without a stop.
+/// Returns `None` if there is no such place.
+pub(crate) fn first_place(stops: &[Stop], from: u64, to: u64, width: u64) -> Option<u64> {
+    // The place must begin here, or further right.
     let mut place = from;
     for stop in stops {
         if stop.to > place {

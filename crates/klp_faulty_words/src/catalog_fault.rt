@@ -21,6 +21,7 @@ const DIGITS: usize = 2;
 /// handler or an object.
 pub fn begins_as_catalog(text: &[u8]) -> bool {
     let mut lines = Lines::new(text);
+    // No later line has a word, since each earlier line takes at least one byte.
     for _ in 0..text.len() {
         let line = lines.next().unwrap_or(&[]);
         let first = word_at(words_of(line), 1);
@@ -36,20 +37,21 @@ pub fn begins_as_utf16(text: &[u8]) -> bool {
     UTF16_MARKS.iter().any(|mark| text.starts_with(mark))
 }
 
-/// Returns the first two words of a line. If the line lacks a word, the empty word is returned in its place.
+/// Returns the first two words of a line, without a carriage return at the line's end. If the line lacks a word, the
+/// empty word is returned in its place.
 pub(crate) fn first_words(line: &[u8]) -> (&[u8], &[u8]) {
     let mut words = words_of(line.strip_suffix(b"\r").unwrap_or(line));
     let first = words.next().unwrap_or(&[]);
     (first, words.next().unwrap_or(&[]))
 }
 
-/// Whether a word is pairs of hexadecimal digits.
+/// Whether a word spells the bytes of a body: pairs of hexadecimal digits.
 fn is_body(word: &[u8]) -> bool {
     word.len() % DIGITS == 0 && word.iter().all(u8::is_ascii_hexdigit)
 }
 
-/// Whether a word is an edit of a callback. The catalog's reader decides this, from a line with the status 0 and this
-/// word. Returns true also if memory runs out.
+/// Whether a word is an edit of a callback. The catalog's reader decides this, from the words of a `pre` line with the
+/// status 0 and this word. The result is true also if memory runs out, so that no good word is reported.
 fn is_edit(alloc: Global, word: &[u8]) -> bool {
     let mut script = Vec::new(alloc);
     if script.extend_from_slice(b"0 ").is_err() || script.extend_from_slice(word).is_err() {
@@ -60,7 +62,8 @@ fn is_edit(alloc: Global, word: &[u8]) -> bool {
     !matches!(read, Err(TextFaultKind::BadEdit))
 }
 
-/// Whether a word is spelled as this part of a line must be.
+/// Whether a word is spelled as this part of a catalog's line must be. Doesn't check whether the catalog has what the
+/// word names.
 fn is_spelled(alloc: Global, part: Part, word: &[u8]) -> bool {
     match part {
         Part::Name => is_name(word),
@@ -75,7 +78,7 @@ fn is_spelled(alloc: Global, part: Part, word: &[u8]) -> bool {
     }
 }
 
-/// Returns the first of these words that isn't an edit, as the wrong word. Looks at no more than `most` words.
+/// Returns the first of these words that isn't an edit, as the wrong word. `most` is at least the number of words.
 fn bad_edit<'a>(alloc: Global, mut words: LineWords<'a>, most: usize) -> Wrong<'a> {
     let mut word = words.next().unwrap_or(&[]);
     for _ in 0..most {
@@ -87,13 +90,15 @@ fn bad_edit<'a>(alloc: Global, mut words: LineWords<'a>, most: usize) -> Wrong<'
     Wrong::Word(word, Part::Edit.wanted())
 }
 
-/// Returns the first word of a line that isn't spelled as the form says, as the wrong word. If all words are spelled as
-/// the form says, the symbol is wrong, since it belongs to another object than the target's.
+/// Returns as the wrong word the first word of a line that isn't spelled as the line's form says. If all words are
+/// spelled so, the line is a function's, and the second word is wrong: it spells a symbol of another object than the
+/// target's.
 fn bad_word<'a>(alloc: Global, form: &Form, line: &'a [u8]) -> Wrong<'a> {
     let mut words = words_of(line);
     words.next();
     for part in form.parts {
         if let Part::Edit = *part {
+            // A line has at most as many words as bytes.
             return bad_edit(alloc, words, line.len());
         }
         let word = words.next().unwrap_or(&[]);
@@ -104,8 +109,8 @@ fn bad_word<'a>(alloc: Global, form: &Form, line: &'a [u8]) -> Wrong<'a> {
     Wrong::Word(word_at(words_of(line), 2), Part::Symbol.wanted())
 }
 
-/// Returns what is wrong with a line that repeats an earlier one. The wrong word is the one that the earlier line
-/// already has.
+/// Returns what is wrong with a line that repeats an earlier line of its form. The wrong word is the name or the id
+/// that the earlier line has already. In a form that has neither, it is the line's first word.
 fn twice<'a>(form: &Form, line: &'a [u8]) -> Wrong<'a> {
     let number = match form.parts {
         [Part::Name | Part::Id, ..] => 2,
@@ -114,7 +119,8 @@ fn twice<'a>(form: &Form, line: &'a [u8]) -> Wrong<'a> {
     Wrong::Word(word_at(words_of(line), number), form.once)
 }
 
-/// Returns what is wrong with a line if the catalog has too many lines of its form, or if its body is too long.
+/// Returns what is wrong with a line that exceeds a limit: its body is too long, or there are too many lines of its
+/// form or edits in it.
 fn too_many<'a>(form: &Form, line: &'a [u8]) -> Wrong<'a> {
     let body = word_at(words_of(line), 4);
     match form.parts {
@@ -125,8 +131,8 @@ fn too_many<'a>(form: &Form, line: &'a [u8]) -> Wrong<'a> {
     }
 }
 
-/// Returns what is wrong with a line of no form. If no line of a catalog begins with the line's first word, this word
-/// is wrong. If the first word is known, the third word is wrong, which may only be `replace`.
+/// Returns what is wrong with a line that has an unknown word. If no line of a catalog begins with the line's first
+/// word, this word is wrong. Otherwise it is a patch's line, and the third word is wrong, which may only be `replace`.
 fn unknown_word(line: &[u8]) -> Wrong<'_> {
     let first = word_at(words_of(line), 1);
     match Form::of(first) {
@@ -138,7 +144,8 @@ fn unknown_word(line: &[u8]) -> Wrong<'_> {
     }
 }
 
-/// Returns what is wrong with a line. `form` is the line's form, and `kind` is the kind of its fault.
+/// Returns what is wrong with a faulty line of a catalog. `form` is the form of the lines that begin with its first
+/// word, and `kind` is the kind of its fault.
 fn wrong_with<'a>(alloc: Global, form: &Form, kind: TextFaultKind, line: &'a [u8]) -> Wrong<'a> {
     match kind {
         TextFaultKind::WrongCount => Wrong::Word(line, form.written),
@@ -155,7 +162,8 @@ fn wrong_with<'a>(alloc: Global, form: &Form, kind: TextFaultKind, line: &'a [u8
     }
 }
 
-/// Returns what is wrong in the line of a catalog that has this fault.
+/// Returns what is wrong with the line of a catalog at which this fault was found, and what is wanted in its place. If
+/// something is missing, says what is wanted.
 pub fn wrong_of(alloc: Global, catalog: &[u8], fault: TextFault) -> Wrong<'_> {
     let line = line_at(catalog, fault.line);
     match fault.kind {

@@ -4,7 +4,7 @@ use klp_types::{
     MAX_EDITS, MAX_FUNCTIONS, MAX_OBJECTS, MAX_PATCHES, MAX_SITES, MAX_STATES, MAX_TARGETS,
 };
 
-/// The meaning of a word behind the first word of a line.
+/// The meaning of a word after the first word of a line.
 #[derive(Clone, Copy)]
 pub(crate) enum Part {
     Name,
@@ -23,7 +23,7 @@ pub(crate) enum Part {
 pub(crate) struct Form {
     /// The words with which a line of this form may begin.
     words: &'static [&'static str],
-    /// The parts behind the first word.
+    /// The parts after the first word.
     pub(crate) parts: &'static [Part],
     pub(crate) written: &'static str,
     pub(crate) place: &'static str,

@@ -4,21 +4,22 @@ use crate::wrong::{NamedSymbol, Wrong};
 use klp_text::{ImageFault, can_reach, end_of, entry_bytes, entry_offset, share_address};
 use klp_types::{ObjectText, SymbolText};
 
-/// Whether a call at the symbol's entry site reaches the handler.
+/// Whether a call at the symbol's entry site can reach the handler, which has the address `handler`.
 fn is_in_reach(handler: u64, symbol: &SymbolText) -> bool {
     let offset = entry_offset(symbol.body.as_slice());
     can_reach(handler, u128::from(symbol.address) + offset as u128)
 }
 
 /// Returns the names of a symbol and of its object.
-fn named<'a>(object: &'a ObjectText, symbol: &'a SymbolText) -> NamedSymbol<'a> {
+fn symbol_names<'a>(object: &'a ObjectText, symbol: &'a SymbolText) -> NamedSymbol<'a> {
     NamedSymbol {
         symbol: symbol.name.as_str(),
         object: object.name.as_str(),
     }
 }
 
-/// Returns what a symbol must be, if the symbol by itself has this fault. Returns `None` if it doesn't have the fault.
+/// Returns the words that say what is wanted of a symbol, if the symbol by itself has this fault. Returns `None` if it
+/// doesn't have the fault, or shares an address with another symbol.
 fn wanted_of(fault: ImageFault, handler: u64, symbol: &SymbolText) -> Option<&'static str> {
     match fault {
         ImageFault::ShortSymbol if entry_bytes(symbol.body.as_slice()).is_none() => {
@@ -34,39 +35,39 @@ fn wanted_of(fault: ImageFault, handler: u64, symbol: &SymbolText) -> Option<&'s
     }
 }
 
-/// Returns the first of an object's first `before` symbols that shares an address with `symbol`. Returns `None` if no
-/// symbol does.
-fn sharing<'a>(
+/// Returns the first of an object's first `before` symbols that shares an address with `symbol`. Returns `None` if none
+/// of them does.
+fn first_sharing<'a>(
     object: &'a ObjectText,
     before: usize,
     symbol: &SymbolText,
 ) -> Option<NamedSymbol<'a>> {
     for other in object.symbols.iter().take(before) {
         if share_address(other, symbol) {
-            return Some(named(object, other));
+            return Some(symbol_names(object, other));
         }
     }
     None
 }
 
-/// Returns the first symbol that precedes `symbol` and shares an address with it. `symbol` is at `place` in the last of
-/// these objects. Returns `None` if there is no such symbol.
-fn in_the_way<'a>(
+/// Returns the first symbol that precedes `symbol` in the catalog and shares an address with it. `symbol` has the index
+/// `place` in the last of `objects`. Returns `None` if there is no such symbol.
+fn earlier_sharing<'a>(
     objects: &'a [ObjectText],
     place: usize,
     symbol: &SymbolText,
 ) -> Option<NamedSymbol<'a>> {
     let (last, earlier) = objects.split_last()?;
     for object in earlier {
-        if let Some(other) = sharing(object, object.symbols.len(), symbol) {
+        if let Some(other) = first_sharing(object, object.symbols.len(), symbol) {
             return Some(other);
         }
     }
-    sharing(last, place, symbol)
+    first_sharing(last, place, symbol)
 }
 
-/// Returns what is wrong with the symbol at `place` in the last of these objects. Returns `None` if the symbol doesn't
-/// have this fault.
+/// Returns what is wrong with a symbol if it has this fault, by itself or with a symbol that precedes it. `symbol` has
+/// the index `place` in the last of `objects`. Returns `None` if it doesn't have the fault.
 fn wrong_symbol<'a>(
     objects: &'a [ObjectText],
     place: usize,
@@ -74,20 +75,21 @@ fn wrong_symbol<'a>(
     handler: u64,
     fault: ImageFault,
 ) -> Option<Wrong<'a>> {
-    let own = named(objects.last()?, symbol);
+    let own = symbol_names(objects.last()?, symbol);
     if let Some(wanted) = wanted_of(fault, handler, symbol) {
         return Some(Wrong::Symbol(own, wanted));
     }
     match fault {
         ImageFault::Overlap => {
-            let other = in_the_way(objects, place, symbol)?;
+            let other = earlier_sharing(objects, place, symbol)?;
             Some(Wrong::SharedAddress(own, other))
         }
         _ => None,
     }
 }
 
-/// Returns what is wrong with the first symbol that has this fault. Returns `None` if no symbol has it.
+/// Returns what is wrong with the first symbol of a catalog's objects that has this fault. Returns `None` if no symbol
+/// has it.
 fn first_wrong_symbol<'a>(
     objects: &'a [ObjectText],
     handler: u64,
@@ -105,9 +107,9 @@ fn first_wrong_symbol<'a>(
     None
 }
 
-/// Returns what is wrong with a catalog's objects, if no image can be made of them because of this fault. Some faults
-/// point at no symbol: two objects have one name, there are too many objects, memory ran out, or there is no object.
-/// For such a fault, returns `None`.
+/// Returns what is wrong with a catalog's objects, if no image can be made of them because of this fault: a symbol, two
+/// symbols, or a first object that isn't the kernel. Other faults point at no symbol: two objects have one name, there
+/// are too many objects, memory ran out, or there is no object. For such a fault, returns `None`.
 pub fn wrong_of<'a>(
     objects: &'a [ObjectText],
     handler: u64,

@@ -62,11 +62,11 @@ const ITEM: &str =
 /// What is wanted in place of a line with an answer whose item isn't an event.
 const ANSWERED: &str = "is a line without =>, behind which an event's answer stands";
 
-/// What is wanted behind `=>`.
+/// What is wanted after `=>`.
 const ANSWER: &str =
     "is ?, or an answer as the console writes it, like ok, pending 2 or error 16 Busy";
 
-/// What is wanted behind `@`.
+/// What is wanted after `@`.
 const TIME: &str = "is seconds, with 6 decimals at most, and an item behind a space";
 
 /// What is wanted in place of a script's line that has none of the console's forms.
@@ -94,8 +94,8 @@ fn word(line: &[u8], number: usize) -> &[u8] {
     word_at(words_of(line), number)
 }
 
-/// Returns what a line whose first word is `task` says about a task. `verb` and `task` are the second and third words
-/// of the line. Returns `None` if the line has no item of this type.
+/// Returns what a line `task VERB TASK` says about a task, if the verb is `sleep`, `exit` or `end`. `verb` and `task`
+/// are the second and third words of the line. Returns `None` for any other verb, or if `task` is no number.
 fn task_item<'a>(verb: &[u8], task: &[u8]) -> Option<Item<'a>> {
     let task = number64(task)?;
     if verb == b"sleep".as_slice() {
@@ -110,7 +110,8 @@ fn task_item<'a>(verb: &[u8], task: &[u8]) -> Option<Item<'a>> {
 }
 
 impl<'a> Item<'a> {
-    /// Returns what a line says about a task or about a module that is unloaded. Returns `None` for any other line.
+    /// Reads what a line of a trace says about a task or about a module that is unloaded, even if the line has surplus
+    /// words. Returns `None` for any other line.
     pub fn read(line: &'a [u8]) -> Option<Item<'a>> {
         let item = LineParts::of(line).item;
         let (first, second, third) = (word(item, 1), word(item, 2), word(item, 3));
@@ -128,8 +129,8 @@ impl<'a> Item<'a> {
     }
 }
 
-/// Whether a line begins as a form does. Compares the first words. If the second word of the form has small letters,
-/// compares the second words too.
+/// Whether a line begins as a form does. Compares the first words. If the form has a verb, as `task new TASK` does,
+/// compares the second words too. A verb has small letters.
 fn begins_as(form: &[u8], line: &[u8]) -> bool {
     let (first, second) = (word(form, 1), word(form, 2));
     let has_verb = second.iter().any(u8::is_ascii_lowercase);
@@ -137,14 +138,15 @@ fn begins_as(form: &[u8], line: &[u8]) -> bool {
 }
 
 /// Returns the kind that this part of a form wants, if the word isn't of this kind. Returns `None` if the word is of
-/// this kind, or if the part wants no kind.
-fn in_place_of(part: &[u8], word: &[u8], names: &CatalogNames<'_>) -> Option<WordKind> {
+/// this kind, or if the part isn't a word in capital letters, so it wants no kind.
+fn wanted_kind(part: &[u8], word: &[u8], names: &CatalogNames<'_>) -> Option<WordKind> {
     let (_, kind) = KINDS.iter().find(|row| row.0.as_bytes() == part)?;
     (!names.has(*kind, word)).then_some(*kind)
 }
 
 /// Returns what is wrong with a line that should have this form. If a word isn't of the wanted kind, the first such
-/// word is wrong. Otherwise the number of words may be wrong. Returns `None` if the line has the form.
+/// word is wrong. Otherwise the whole line is wrong, if it has too few words or too many. Returns `None` if the line
+/// has the form. `names` and `catalog` are the names and the text of the same catalog.
 fn wrong_in<'a>(
     form: &'static str,
     line: &'a [u8],
@@ -153,11 +155,13 @@ fn wrong_in<'a>(
 ) -> Option<Wrong<'a>> {
     let (mut parts, mut words) = (words_of(form.as_bytes()), words_of(line));
     let mut part = parts.next();
+    // The form ends with `FRAME ..`, which means any number of frames, also none.
     let has_more = form.ends_with("..");
+    // A line has at most as many words as bytes, so the loop never ends by its bound.
     for _ in 0..=line.len() {
         match (part, words.next()) {
             (Some(part), Some(word)) => {
-                if let Some(kind) = in_place_of(part, word, names) {
+                if let Some(kind) = wanted_kind(part, word, names) {
                     return Some(wrong_word(kind, word, catalog));
                 }
             }
@@ -172,7 +176,9 @@ fn wrong_in<'a>(
     Some(Wrong::Form(line, form))
 }
 
-/// Returns what is wrong with a line that has a form of [`FORMS`], but still isn't an item.
+/// Returns what is wrong with a line without an answer that has a form of [`FORMS`], but still isn't an item. Reports
+/// too many frames if the form ends with `..`, a function that its patch lacks if the form ends with one frame, and
+/// else the whole line.
 fn wrong_though_fitting<'a>(form: &'static str, line: &'a [u8]) -> Wrong<'a> {
     if form.ends_with("..") {
         Wrong::Most(line, MAX_FRAMES, "functions")
@@ -183,9 +189,9 @@ fn wrong_though_fitting<'a>(form: &'static str, line: &'a [u8]) -> Wrong<'a> {
     }
 }
 
-/// Returns what is wrong with a line that has none of the forms. `wanted` is the phrase for what is wanted in place of
-/// the line.
-fn formless<'a>(line: &'a [u8], wanted: &'static str) -> Wrong<'a> {
+/// Returns what is wrong with a line that has none of the forms: it is empty, the word after `task` is wrong, or the
+/// whole line is. `wanted` is the phrase for what is wanted in place of the whole line.
+fn wrong_without_form<'a>(line: &'a [u8], wanted: &'static str) -> Wrong<'a> {
     let first = word(line, 1);
     if first.is_empty() {
         Wrong::Lacking("is an item on each line")
@@ -199,8 +205,8 @@ fn formless<'a>(line: &'a [u8], wanted: &'static str) -> Wrong<'a> {
     }
 }
 
-/// Returns the form of a line. The first words of the line determine the form. If the first word is `saw`, the third
-/// and fourth words decide. Returns `None` if the line has no form.
+/// Returns the form that a line should have, by the words with which it begins. If the first word is `saw`, the third
+/// and fourth words decide. Returns `None` if no form begins so.
 fn form_of(line: &[u8]) -> Option<&'static str> {
     if word(line, 1) == b"saw".as_slice() {
         return Some(match (word(line, 3), word(line, 4)) {
@@ -213,8 +219,9 @@ fn form_of(line: &[u8]) -> Option<&'static str> {
     Some(*form)
 }
 
-/// Returns what is wrong with a line of a trace whose item has a form. If the line has an answer, the answer is wrong,
-/// otherwise the item.
+/// Returns what is wrong with a line of a trace whose item has this form, so that none of the item's words is wrong. If
+/// the line has an answer, the answer is wrong, or there mustn't be one, since the item is no event. Otherwise the item
+/// is wrong.
 fn wrong_answer<'a>(parts: LineParts<'a>, form: &'static str) -> Wrong<'a> {
     match parts.answer {
         Some(_) if is_of_no_event(parts.item) => Wrong::Word(parts.text, ANSWERED),
@@ -223,13 +230,13 @@ fn wrong_answer<'a>(parts: LineParts<'a>, form: &'static str) -> Wrong<'a> {
     }
 }
 
-/// Whether an item begins with a word that no event begins with.
+/// Whether an item begins with a word that no event begins with, so that it can have no answer.
 fn is_of_no_event(item: &[u8]) -> bool {
     OF_NO_EVENT.iter().any(|first| *first == word(item, 1))
 }
 
-/// Returns what is wrong with a line of a trace that isn't an item. `names` and `catalog` are the names and the text of
-/// the same catalog.
+/// Returns what is wrong with a line of a trace that has no item: its time, its item or its answer. `names` and
+/// `catalog` are the names and the text of the same catalog.
 pub fn wrong_of<'a>(line: &'a [u8], names: &CatalogNames<'_>, catalog: &'a [u8]) -> Wrong<'a> {
     let parts = LineParts::of(line);
     if let Some(time) = parts.time
@@ -245,14 +252,15 @@ pub fn wrong_of<'a>(line: &'a [u8], names: &CatalogNames<'_>, catalog: &'a [u8])
             Some(answer) if word(parts.item, 1) == b"shadow".as_slice() => Wrong::Word(
                 answer, ANSWER,
             ),
-            _ => formless(parts.item, ITEM),
+            _ => wrong_without_form(parts.item, ITEM),
         },
     }
 }
 
-/// Returns what may be misspelled in a line of a script. Something may be misspelled if the line isn't a line of the
-/// console, or if it has a name that the catalog lacks. Returns `None` if nothing seems misspelled. Lines that only
-/// ask, and lines about shadow variables, aren't checked, and the result for them is `None` too.
+/// Returns what may be misspelled in a line of a script: the line, if it has none of the console's forms, or a name
+/// that the catalog lacks. Returns `None` if nothing seems misspelled, and for a line that isn't checked: one that asks
+/// for no event, or that [`is_reported_elsewhere`] skips. `names` and `catalog` are the names and the text of the same
+/// catalog.
 pub fn misspelled_in<'a>(
     line: &'a [u8],
     names: &CatalogNames<'_>,
@@ -263,6 +271,6 @@ pub fn misspelled_in<'a>(
     }
     match form_of(line) {
         Some(form) => wrong_in(form, line, names, catalog),
-        None => Some(formless(line, LINE)),
+        None => Some(wrong_without_form(line, LINE)),
     }
 }

@@ -46,8 +46,8 @@ pub struct CatalogNames<'a> {
     pub patches: &'a [PlanPatch],
 }
 
-/// Returns what is wrong with a word that should be of this kind and isn't. If the word spells a symbol, the catalog's
-/// text is searched for the reason why no symbol is picked, and for a similar name.
+/// Returns what is wrong with a word that should be of this kind and isn't. If the word spells a symbol, searches
+/// `catalog`, the catalog's text, for the reason why no symbol is picked, and for a similar name.
 pub(crate) fn wrong_word<'a>(kind: WordKind, word: &'a [u8], catalog: &'a [u8]) -> Wrong<'a> {
     let unpicked = match kind {
         WordKind::Symbol | WordKind::Frame => unpicked_by(catalog, word),
@@ -85,19 +85,22 @@ impl<'a> CatalogNames<'a> {
         })
     }
 
-    /// Whether a word names a function that a task can be inside of: an original, or `PATCH:INDEX` for a new function.
+    /// Whether a word names a function that a task can be inside of: an original of the catalog, or `PATCH:INDEX` for a
+    /// new function of a patch of the catalog. Doesn't check that the patch has this function.
     fn has_frame(&self, word: &[u8]) -> bool {
         let (patch, index) = cut(word, b':');
         self.has_symbol(word) || self.has_patch(patch) && is_number_to(MAX_INDEX, index)
     }
 
-    /// Whether a word is the path of a patch's file to which a script can write.
+    /// Whether a word is the path of a file of a patch of the catalog to which a script can write: `enabled` or
+    /// `force`.
     fn has_file(&self, word: &[u8]) -> bool {
         let (patch, file) = cut(word.strip_prefix(BELOW_PATCHES).unwrap_or(&[]), b'/');
         self.has_patch(patch) && matches!(file, b"enabled" | b"force")
     }
 
-    /// Whether a word is of this kind.
+    /// Whether a word of a trace or script is of this kind: a name that the catalog has, or a number in the kind's
+    /// range.
     pub(crate) fn has(&self, kind: WordKind, word: &[u8]) -> bool {
         match kind {
             WordKind::Patch => self.has_patch(word),
@@ -106,6 +109,7 @@ impl<'a> CatalogNames<'a> {
             WordKind::Frame => self.has_frame(word),
             WordKind::File => self.has_file(word),
             WordKind::Task => is_number_to(MAX_TASKS as u64 - 1, word),
+            // No zeros may precede the digit.
             WordKind::Switch => is_number_to(1, word) && word.len() == 1,
             WordKind::State => matches!(word, b"-1" | b"0" | b"1"),
         }

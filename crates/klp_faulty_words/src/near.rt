@@ -1,7 +1,8 @@
 //! Names that are spelled nearly alike.
 
-/// Returns two parts: the rest of each name behind the common beginning of both.
-fn behind_alike<'a, 'b>(one: &'a [u8], other: &'b [u8]) -> (&'a [u8], &'b [u8]) {
+/// Returns the rests of two names after the bytes with which both begin.
+fn without_common_start<'a, 'b>(one: &'a [u8], other: &'b [u8]) -> (&'a [u8], &'b [u8]) {
+    // At most the length of the shorter name, so both rests exist.
     let alike = one.iter().zip(other).take_while(|(a, b)| a == b).count();
     (
         one.get(alike..).unwrap_or(&[]),
@@ -10,27 +11,31 @@ fn behind_alike<'a, 'b>(one: &'a [u8], other: &'b [u8]) -> (&'a [u8], &'b [u8]) 
 }
 
 /// Returns a name without its first byte. An empty name stays empty.
-fn shortened(name: &[u8]) -> &[u8] {
+fn without_first(name: &[u8]) -> &[u8] {
     name.get(1..).unwrap_or(&[])
 }
 
 /// Whether two names differ by at most one byte. The byte may be added, left out or replaced.
 fn differ_by_one(one: &[u8], other: &[u8]) -> bool {
-    let (one, other) = behind_alike(one, other);
-    shortened(one) == other || one == shortened(other) || shortened(one) == shortened(other)
+    let (one, other) = without_common_start(one, other);
+    // The first byte that differs is left out of one name, of the other, or of both.
+    without_first(one) == other
+        || one == without_first(other)
+        || without_first(one) == without_first(other)
 }
 
 /// Whether two names differ by at most two bytes. Each of these bytes may be added, left out or replaced.
 fn differ_by_two(one: &[u8], other: &[u8]) -> bool {
-    let (one, other) = behind_alike(one, other);
-    differ_by_one(shortened(one), other)
-        || differ_by_one(one, shortened(other))
-        || differ_by_one(shortened(one), shortened(other))
+    let (one, other) = without_common_start(one, other);
+    // The first byte that differs is left out of one name, of the other, or of both.
+    differ_by_one(without_first(one), other)
+        || differ_by_one(one, without_first(other))
+        || differ_by_one(without_first(one), without_first(other))
 }
 
-/// Returns that of two names whose spelling is nearer to `name`. `first` is the nearest name that a search has found so
-/// far. If there is no `first`, returns `second` if it differs by at most two bytes. If there is one, returns `second`
-/// if it differs by one byte and `first` by more. In all other cases, returns `first`.
+/// Does one step of a search for the name that is spelled most like `name`. `first` is the best name so far, if there
+/// is one, and `second` is the next name. Returns the best name after the step. A name that differs from `name` by more
+/// than two bytes doesn't count, one byte is better than two, and of equally good names the earlier stays.
 pub(crate) fn nearer<'a>(
     first: Option<&'a [u8]>,
     second: &'a [u8],

@@ -5,7 +5,8 @@ use klp_catalog_text::{PlanFunction, PlanPatch, PlanTarget};
 use klp_modules::place_in;
 use klp_types::ObjectText;
 
-/// Whether two functions of a patch replace the same symbol of an object.
+/// Whether two functions of a patch are for the same symbol of an object, whatever positions they spell. The result is
+/// false if one of them picks no symbol.
 fn are_for_one_site(object: &ObjectText, one: &PlanFunction, other: &PlanFunction) -> bool {
     let place = place_in(object, one.symbol.as_str(), one.sympos).ok();
     place.is_some() && place == place_in(object, other.symbol.as_str(), other.sympos).ok()
@@ -13,7 +14,7 @@ fn are_for_one_site(object: &ObjectText, one: &PlanFunction, other: &PlanFunctio
 
 /// Returns the first of `functions` that is for the same site as `function`. Returns `None` if there is no such
 /// function.
-fn earlier<'a>(
+fn first_for_same_site<'a>(
     object: &ObjectText,
     functions: &'a [PlanFunction],
     function: &PlanFunction,
@@ -31,7 +32,7 @@ fn pair_in<'a>(
     target: &'a PlanTarget,
 ) -> Option<SitePair<'a>> {
     for (place, function) in target.functions.iter().enumerate() {
-        if let Some(other) = earlier(object, &target.functions[..place], function) {
+        if let Some(other) = first_for_same_site(object, &target.functions[..place], function) {
             return Some(SitePair {
                 patch,
                 first: other.new_name.as_str(),
@@ -50,6 +51,7 @@ fn pair_in<'a>(
 /// functions.
 fn pair_of<'a>(objects: &'a [ObjectText], patch: &'a PlanPatch) -> Option<SitePair<'a>> {
     for target in &patch.targets {
+        // A catalog that was read has the object of each target.
         let object = objects.get(usize::from(target.object.0))?;
         let pair = pair_in(patch.name.as_str(), object, target);
         if pair.is_some() {

@@ -13,6 +13,7 @@ pub enum FileKind {
     Trace,
 }
 
+/// Words or bytes that mean something in a file of another kind, but nothing in this file.
 #[derive(Clone, Copy)]
 pub enum Stray {
     /// The whole file is a catalog.
@@ -57,7 +58,8 @@ pub(crate) fn is_query(line: &[u8]) -> bool {
     }
 }
 
-/// Whether a line begins in a way in which only lines of a trace do.
+/// Whether a line begins in a way in which only lines of a trace do: with a time, or with the first word of an item
+/// that is no event.
 fn is_of_trace(line: &[u8]) -> bool {
     let (first, _) = first_words(line);
     let is_timed = first.first() == Some(&b'@');
@@ -68,8 +70,8 @@ fn is_of_trace(line: &[u8]) -> bool {
         )
 }
 
-/// Whether the spelling of a line isn't checked here. This is so for lines without words, for lines that get another
-/// hint, and for faulty lines. Lines about shadow variables have no names, so they aren't checked either.
+/// Whether the check of a script's spelling skips this line. It skips a line without words, a line about a shadow
+/// variable, which has no names, and a line that another message is about: one with a stray, or one that is too long.
 pub(crate) fn is_reported_elsewhere(line: &[u8]) -> bool {
     let (first, _) = first_words(line);
     let has_stray = line.iter().any(|b| matches!(*b, b'\r' | b'\t'));
@@ -79,7 +81,8 @@ pub(crate) fn is_reported_elsewhere(line: &[u8]) -> bool {
 }
 
 impl Stray {
-    /// Whether this stray is in `line`. If the stray concerns a whole file, `line` is the whole text.
+    /// Whether this stray is in `line`. For UTF-16, a catalog and a byte-order mark, `line` is the whole text, whose
+    /// beginning decides.
     fn is_in(self, line: &[u8]) -> bool {
         match self {
             Stray::Catalog => begins_as_catalog(line),
@@ -104,8 +107,8 @@ impl Stray {
         Some(place?.saturating_add(1))
     }
 
-    /// Returns the hint at this stray in a file of this kind. Returns `None` if files of this kind may have these words
-    /// or bytes.
+    /// Returns the words of the hint at this stray in a file of this kind. Returns `None` if files of this kind may
+    /// have the stray, so that it is none.
     pub fn hint(self, kind: FileKind) -> Option<&'static str> {
         Some(match (self, kind) {
             (Stray::Catalog, FileKind::Script) => "a catalog, where a script is wanted",

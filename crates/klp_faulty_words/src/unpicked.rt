@@ -51,14 +51,15 @@ struct FoundSymbol<'a> {
     near_symbol: Option<&'a [u8]>,
 }
 
-/// Writes the similarly spelled name. Writes nothing if there is no such name.
-fn write_but<W: fmt::Write>(f: &mut fmt::Formatter<W>, near: Option<&[u8]>) -> fmt::Result {
+/// Writes `, but` and a name that is spelled similarly to the wanted one. Writes nothing if there is no such name.
+fn write_similar<W: fmt::Write>(f: &mut fmt::Formatter<W>, near: Option<&[u8]>) -> fmt::Result {
     match near {
         Some(name) => write!(f, ", but {}", Escaped(name)),
         None => Ok(()),
     }
 }
 
+/// Writes what is wanted in place of a spelling that picks no symbol, and why it picks none.
 impl<'a> fmt::Display for Unpicked<'a> {
     fn fmt<W: fmt::Write>(&self, f: &mut fmt::Formatter<W>) -> fmt::Result {
         let (object, symbol) = (self.object, self.symbol);
@@ -68,11 +69,11 @@ impl<'a> fmt::Display for Unpicked<'a> {
                     f,
                     "wanted is an object of the catalog, which has no {object}"
                 )?;
-                write_but(f, near)
+                write_similar(f, near)
             }
             WhyUnpicked::NoSymbol(near) => {
                 write!(f, "wanted is a symbol of {object}, which has no {symbol}")?;
-                write_but(f, near)
+                write_similar(f, near)
             }
             WhyUnpicked::Several(count) => write!(
                 f,
@@ -90,6 +91,7 @@ impl<'a> fmt::Display for Unpicked<'a> {
     }
 }
 
+/// Writes the function's symbol, why it can't be picked, and what the console refuses because of that.
 impl<'a> fmt::Display for Unloadable<'a> {
     fn fmt<W: fmt::Write>(&self, f: &mut fmt::Formatter<W>) -> fmt::Result {
         let (patch, object) = (Escaped(self.patch), self.unpicked.object);
@@ -106,8 +108,8 @@ impl<'a> fmt::Display for Unloadable<'a> {
     }
 }
 
-/// Returns what a catalog has for this spelling. All objects and symbols precede the first patch, so only the lines
-/// before the first patch are searched.
+/// Searches a catalog's text for the object and the symbols that this spelling names, and for similar names. All
+/// objects and symbols precede the first patch, so only the lines before the first patch are searched.
 fn found_in<'a>(catalog: &'a [u8], wanted: &Spelling<'_>) -> FoundSymbol<'a> {
     let (object, symbol) = (wanted.object.as_bytes(), wanted.symbol.as_bytes());
     let mut found = FoundSymbol {
@@ -116,16 +118,16 @@ fn found_in<'a>(catalog: &'a [u8], wanted: &Spelling<'_>) -> FoundSymbol<'a> {
         near_object: None,
         near_symbol: None,
     };
-    let mut is_inside = false;
+    let mut is_in_object = false;
     for line in catalog.split(|b| *b == b'\n') {
         let (first, name) = first_words(line);
         if first == b"patch".as_slice() {
             break;
         } else if first == b"object".as_slice() {
-            is_inside = name == object;
-            found.has_object = found.has_object || is_inside;
+            is_in_object = name == object;
+            found.has_object = found.has_object || is_in_object;
             found.near_object = nearer(found.near_object, name, object);
-        } else if first == b"symbol".as_slice() && is_inside {
+        } else if first == b"symbol".as_slice() && is_in_object {
             found.count = found.count.saturating_add(usize::from(name == symbol));
             found.near_symbol = nearer(found.near_symbol, name, symbol);
         }
@@ -133,8 +135,8 @@ fn found_in<'a>(catalog: &'a [u8], wanted: &Spelling<'_>) -> FoundSymbol<'a> {
     found
 }
 
-/// Returns the symbol that a word spells, and why the word picks no symbol. Returns `None` if the word picks a symbol,
-/// or isn't a symbol's spelling.
+/// Returns why a word that spells a symbol picks no symbol of this catalog, with the object and the symbol that it
+/// names. Returns `None` if the word picks a symbol, or isn't a symbol's spelling.
 pub(crate) fn unpicked_by<'a>(catalog: &'a [u8], word: &'a [u8]) -> Option<Unpicked<'a>> {
     let wanted = spelling_of(word)?;
     let found = found_in(catalog, &wanted);
@@ -153,16 +155,16 @@ pub(crate) fn unpicked_by<'a>(catalog: &'a [u8], word: &'a [u8]) -> Option<Unpic
     })
 }
 
-/// Whether a line of this script or trace loads the patch.
+/// Whether a line of a script or trace, which has this text, loads the patch.
 fn is_loaded(text: &[u8], patch: &[u8]) -> bool {
     text.split(|b| *b == b'\n')
         .any(|line| first_words(line) == (b"load".as_slice(), patch))
 }
 
-/// Whether a symbol that isn't picked gets a hint. If the object has no such symbol, or fewer than the position says,
-/// it gets one. If the object has several symbols of the name, it gets one only if the script or trace loads the patch.
-/// If the object is missing, it gets none.
-fn is_reported(unpicked: &Unpicked<'_>, patch: &[u8], second: &[u8]) -> bool {
+/// Whether a hint is given about a function of `patch` that picks no symbol. A hint is given if the object has no such
+/// symbol, or fewer than the position says. If the object has several symbols of the name, a hint is given only if
+/// `second`, the text of the script or trace, loads the patch. If the object is missing, no hint is given.
+fn gets_hint(unpicked: &Unpicked<'_>, patch: &[u8], second: &[u8]) -> bool {
     match unpicked.why {
         WhyUnpicked::NoSymbol(_) | WhyUnpicked::Fewer(_) => true,
         WhyUnpicked::Several(_) => is_loaded(second, patch),
@@ -170,8 +172,8 @@ fn is_reported(unpicked: &Unpicked<'_>, patch: &[u8], second: &[u8]) -> bool {
     }
 }
 
-/// Returns the first function of a catalog whose symbol isn't picked and gets a hint. `second` is the text of the
-/// script or trace. Returns `None` if there is no such function.
+/// Returns the first function of a catalog that picks no symbol, and about which a hint is given. `second` is the text
+/// of the script or trace. Returns `None` if there is no such function.
 pub fn first_unloadable<'a>(catalog: &'a [u8], second: &[u8]) -> Option<Unloadable<'a>> {
     let mut patch: &[u8] = &[];
     for (number, line) in catalog.split(|b| *b == b'\n').enumerate() {
@@ -180,7 +182,7 @@ pub fn first_unloadable<'a>(catalog: &'a [u8], second: &[u8]) -> Option<Unloadab
             patch = word;
         } else if first == b"func".as_slice() {
             if let Some(unpicked) = unpicked_by(catalog, word) {
-                if is_reported(&unpicked, patch, second) {
+                if gets_hint(&unpicked, patch, second) {
                     return Some(Unloadable {
                         line: number.saturating_add(1),
                         word,

@@ -43,12 +43,14 @@ pub enum Wrong<'a> {
     Swapped(&'a str),
 }
 
+/// Writes a symbol as `SYMBOL of OBJECT`.
 impl<'a> fmt::Display for NamedSymbol<'a> {
     fn fmt<W: fmt::Write>(&self, f: &mut fmt::Formatter<W>) -> fmt::Result {
         write!(f, "{} of {}", self.symbol, self.object)
     }
 }
 
+/// Writes that two functions of a patch are for one site.
 impl<'a> fmt::Display for SitePair<'a> {
     fn fmt<W: fmt::Write>(&self, f: &mut fmt::Formatter<W>) -> fmt::Result {
         let SitePair {
@@ -64,6 +66,7 @@ impl<'a> fmt::Display for SitePair<'a> {
     }
 }
 
+/// Writes what is wrong and what is wanted in its place, as the text that follows the name of a fault or `hint: `.
 impl<'a> fmt::Display for Wrong<'a> {
     fn fmt<W: fmt::Write>(&self, f: &mut fmt::Formatter<W>) -> fmt::Result {
         match *self {

@@ -10,14 +10,16 @@ use klp_types::TaskId;
 /// How many bytes of a task's name a page shows at most.
 pub const MAX_SHOWN: usize = 32;
 
-/// Whether this byte continues a character of UTF-8. Any other byte begins a character.
+/// Whether a byte of UTF-8 continues a character. Any other byte begins a character.
 fn goes_on(byte: u8) -> bool
     ensures { result ≡ goes_on byte }
 {
+    // The bytes that continue a character are 0x80 to 0xbf.
     byte >= 128 && byte < 192
 }
 
-/// Returns the first [`MAX_SHOWN`] bytes of a name. If this would cut a character of UTF-8, returns fewer bytes.
+/// Returns the part of a long name that is shown: the first [`MAX_SHOWN`] bytes, or fewer where these would cut a
+/// character of UTF-8. The name must be longer than [`MAX_SHOWN`] bytes.
 fn front_of(name: &[u8]) -> &[u8]
     requires { MAX_SHOWN < length name.now }
     ensures { result.now ≡ take (last_begin MAX_SHOWN name.now) name.now }
@@ -29,10 +31,12 @@ fn front_of(name: &[u8]) -> &[u8]
     &name[..end]
 }
 
-/// Adds a task's name. A name of more than [`MAX_SHOWN`] bytes is cut, and ends with an ellipsis.
+/// Adds a task's name, escaped. If the name is longer than [`MAX_SHOWN`] bytes, adds only its first part and an
+/// ellipsis.
 fn add_shown(sheet: &mut Sheet, name: &[u8])
     ensures { Adds sheet.old sheet.new (shown_text name.now) }
 {
+    // For the proof only: texts that are added one after the other add up.
     crate::laws::what_is_added_adds_up();
     if name.len() > MAX_SHOWN {
         sheet.words(front_of(name));
@@ -42,10 +46,12 @@ fn add_shown(sheet: &mut Sheet, name: &[u8])
     }
 }
 
-/// Adds a task's name after its number. Adds nothing if the name isn't known.
+/// Adds a space and a task's name in the font of code, to stand after the task's number. Adds nothing if the name isn't
+/// known (`None`).
 pub(crate) fn add_called(sheet: &mut Sheet, name: Option<&[u8]>)
     ensures { Adds sheet.old sheet.new (called_text (option_map (λ name. name.now) name.entry)) }
 {
+    // For the proof only: texts that are added one after the other add up.
     crate::laws::what_is_added_adds_up();
     if let Some(name) = name {
         sheet.markup(" <bdi class=m>");
@@ -54,8 +60,9 @@ pub(crate) fn add_called(sheet: &mut Sheet, name: Option<&[u8]>)
     }
 }
 
-/// Adds a task's number, and the task's name if it is known. Adds no markup, since a tooltip allows none. The function
-/// has no contract, and is for layout.
+/// Adds a task's number and, if it is known, the task's name, without the markup that [`add_called`] adds: a tooltip
+/// can have none. If the name is longer than [`MAX_SHOWN`] bytes, adds only its first part and an ellipsis. The
+/// function has no contract, and is for layout.
 pub fn add_plain_task(sheet: &mut Sheet, names: &Names, task: TaskId) {
     sheet.number(u64::from(task.0));
     match names.name(task) {

@@ -36,7 +36,7 @@ impl Model for Sheet {
     ghost view = { λ s. record { text = s.bytes.items; is_short = s.is_short } };
 }
 
-/// Whether the browser may break a line after this byte of a name.
+/// Whether this byte of a name ends a word, so that the browser may break the line after it.
 fn ends_word(byte: u8) -> bool
     ensures { result ≡ ends_word byte }
 {
@@ -44,7 +44,7 @@ fn ends_word(byte: u8) -> bool
 }
 
 impl Sheet {
-    /// Returns an empty sheet. The call takes no memory.
+    /// Returns an empty sheet. The sheet takes memory only when text is added.
     pub fn new(alloc: Global) -> Sheet
         ensures { result ≡ record { text = []; is_short = false } }
     {
@@ -54,8 +54,8 @@ impl Sheet {
         }
     }
 
-    /// Adds these bytes unchanged. If memory runs out, the bytes are missing, and from then on the sheet counts as
-    /// short.
+    /// Adds these bytes unchanged. If memory runs out, drops the bytes, and from then on the sheet counts as short:
+    /// [`Sheet::into_bytes`] returns `Err`.
     fn add(&mut self, bytes: &[u8])
         ensures { Adds self.old self.new bytes.now }
     {
@@ -64,7 +64,7 @@ impl Sheet {
         }
     }
 
-    /// Adds one byte of text from a run, escaped.
+    /// Adds a byte of text from a run, and escapes it if it has a meaning in markup.
     fn add_byte(&mut self, byte: u8)
         ensures { Adds self.old self.new (escaped_byte byte) }
     {
@@ -78,7 +78,7 @@ impl Sheet {
         }
     }
 
-    /// Adds markup that is part of the program.
+    /// Adds markup unchanged. It must be part of the program, so its type is `&'static str`.
     pub fn markup(&mut self, markup: &'static str)
         ensures { Adds self.old self.new markup.now }
     {
@@ -89,6 +89,7 @@ impl Sheet {
     pub fn text(&mut self, text: &[u8])
         ensures { Adds self.old self.new (escaped text.now) }
     {
+        // For the proof only: texts that are added one after the other add up.
         crate::laws::what_is_added_adds_up();
         for byte in text {
             self.add_byte(*byte);
@@ -109,10 +110,12 @@ impl Sheet {
         self.add(Buffer::new().format(value).as_bytes());
     }
 
-    /// If this byte ends a word, lets the browser break the line after it.
+    /// If this byte of a name ends a word, adds `<wbr>`, which lets the browser break the line here. Adds nothing for
+    /// another byte.
     fn add_break(&mut self, byte: u8)
         ensures { Adds self.old self.new (break_behind byte) }
     {
+        // For the proof only: texts that are added one after the other add up.
         crate::laws::what_is_added_adds_up();
         if ends_word(byte) {
             self.add(b"<wbr>");
@@ -123,6 +126,7 @@ impl Sheet {
     pub fn words(&mut self, name: &[u8])
         ensures { Adds self.old self.new (words_text name.now) }
     {
+        // For the proof only: texts that are added one after the other add up.
         crate::laws::what_is_added_adds_up();
         for byte in name {
             self.add_byte(*byte);
@@ -134,13 +138,14 @@ impl Sheet {
     pub fn name(&mut self, name: &[u8])
         ensures { Adds self.old self.new (name_text name.now) }
     {
+        // For the proof only: texts that are added one after the other add up.
         crate::laws::what_is_added_adds_up();
         self.markup("<span class=m>");
         self.words(name);
         self.markup("</span>");
     }
 
-    /// Adds a value in the form that its variant says.
+    /// Adds a value of a template: markup unchanged, a number in decimal, text and names escaped.
     fn value(&mut self, value: &Value<'_>) {
         match *value {
             Value::Markup(markup) => self.markup(markup),
@@ -152,10 +157,12 @@ impl Sheet {
         }
     }
 
-    /// Adds a template, with a value in place of each `{}`. The function has no contract, and is for layout.
+    /// Adds a template, in which the values replace the gaps `{}` in order. A gap without a value stays `{}`. The
+    /// function has no contract, and is for layout.
     pub fn fill(&mut self, template: &'static str, values: &[Value<'_>]) {
         let mut rest = template;
         for value in values {
+            // If no gap is left, the value follows the whole template.
             let (markup, behind) = rest.split_once("{}").unwrap_or((rest, ""));
             self.markup(markup);
             self.value(value);
@@ -164,7 +171,8 @@ impl Sheet {
         self.markup(rest);
     }
 
-    /// Adds the text of another sheet. If memory ran out for the other sheet, this sheet counts as short too.
+    /// Adds the text of another sheet. If memory ran out for the other sheet, this sheet counts as short from then on,
+    /// too.
     pub fn append(&mut self, other: &Sheet)
         ensures adds { Adds self.old self.new other.now.text }
         ensures short { other.now.is_short ≡ true → self.new.is_short ≡ true }

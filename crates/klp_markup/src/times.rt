@@ -6,22 +6,26 @@ ghost use Rattle.klp_markup.specs.Times.{seconds_text, lasting_text, after_text,
 use crate::sheet::Sheet;
 use klp_names::Names;
 
-/// Adds microseconds as seconds with one decimal, rounded down: `15.1 s`.
+/// Adds a time in microseconds, written as seconds with one decimal, rounded down: `15.1 s`.
 #[tactic(auto, unfolding(crate::specs::Times::seconds_text))]
 pub fn add_seconds(sheet: &mut Sheet, time: u64)
     ensures { Adds sheet.old sheet.new (seconds_text time) }
 {
+    // For the proof only: texts that are added one after the other add up.
     crate::laws::what_is_added_adds_up();
     sheet.number(time / 1_000_000);
     sheet.markup(".");
+    // The tenths of a second.
     sheet.number(time / 100_000 % 10);
     sheet.markup(" s");
 }
 
-/// Adds a duration: ` for 15.1 s`. Adds nothing if the duration isn't known.
+/// Adds for how many microseconds a condition lasted, in seconds: ` for 15.1 s`. Adds nothing if that isn't known
+/// (`None`).
 fn add_lasting(sheet: &mut Sheet, lasting: Option<u64>)
     ensures { Adds sheet.old sheet.new (lasting_text lasting) }
 {
+    // For the proof only: texts that are added one after the other add up.
     crate::laws::what_is_added_adds_up();
     if let Some(time) = lasting {
         sheet.markup(" for ");
@@ -29,11 +33,13 @@ fn add_lasting(sheet: &mut Sheet, lasting: Option<u64>)
     }
 }
 
-/// Adds a time since the first known time, and a duration: ` (+3.0 s for 15.1 s)`. If the time isn't known, adds
-/// nothing. If only the duration isn't known, adds only the time.
+/// Adds in brackets when a condition began, and for how long it lasted: ` (+3.0 s for 15.1 s)`. Both are in
+/// microseconds. `time` counts from the first known time. Adds nothing if `time` is `None`. Leaves the duration out if
+/// `lasting` is `None`.
 fn add_after(sheet: &mut Sheet, time: Option<u64>, lasting: Option<u64>)
     ensures { Adds sheet.old sheet.new (after_text time lasting) }
 {
+    // For the proof only: texts that are added one after the other add up.
     crate::laws::what_is_added_adds_up();
     if let Some(time) = time {
         sheet.markup(" (+");
@@ -50,8 +56,10 @@ pub fn add_line_time(sheet: &mut Sheet, names: &Names, line: u64)
     add_after(sheet, names.since_start(line), None);
 }
 
-/// Adds when a condition began, and for how long it lasted: ` (+0.0 s for 15.1 s)`. The condition lasted from `line` to
-/// the line `to`.
+/// Adds when a condition began, and for how long it lasted: ` (+0.0 s for 15.1 s)`. The condition began with `line`,
+/// and held after each line from `line` to `to`, so it lasted until the time of the line after `to`. Adds nothing if
+/// the time of `line` isn't known. Leaves the duration out if it isn't known, or if the condition still holds at the
+/// end of the run (`to` is `None`).
 pub fn add_span_time(sheet: &mut Sheet, names: &Names, line: u64, to: Option<u64>)
     ensures { Adds sheet.old sheet.new (span_time names.now line to) }
 {

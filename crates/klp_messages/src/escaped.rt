@@ -15,7 +15,8 @@ pub struct Escaped<'a>(pub &'a [u8]);
 #[derive(Clone, Copy)]
 pub struct Quoted<'a>(pub &'a [u8]);
 
-/// Writes a text, and escapes what a terminal wouldn't show.
+/// Writes a text, and escapes what a terminal wouldn't show. Quotes and backslashes can be shown, so they are written
+/// unchanged.
 fn write_text<W: fmt::Write>(f: &mut fmt::Formatter<W>, text: &str) -> fmt::Result {
     for c in text.chars() {
         if matches!(c, '\'' | '"' | '\\') {
@@ -38,10 +39,11 @@ impl<'a> fmt::Display for Escaped<'a> {
 }
 
 /// Returns the part of a word that is shown: at most its first [`SHOWN`] bytes, cut at the end of a character.
-fn shown(word: &[u8]) -> &[u8] {
+fn shown_part(word: &[u8]) -> &[u8] {
     let Some(front) = word.get(..SHOWN) else {
         return word;
     };
+    // If the cut is inside of a character, the front ends with an incomplete one, which is left out.
     match str::from_utf8(front) {
         Err(error) if error.error_len().is_none() => {
             front.get(..error.valid_up_to()).unwrap_or(front)
@@ -52,7 +54,7 @@ fn shown(word: &[u8]) -> &[u8] {
 
 impl<'a> fmt::Display for Quoted<'a> {
     fn fmt<W: fmt::Write>(&self, f: &mut fmt::Formatter<W>) -> fmt::Result {
-        let shown = shown(self.0);
+        let shown = shown_part(self.0);
         let more = if shown.len() < self.0.len() { ".." } else { "" };
         write!(f, "'{}'{more}", Escaped(shown))
     }

@@ -15,7 +15,8 @@ pub struct Misread<'a> {
     pub fault: NamesFault,
 }
 
-/// Returns the line with this number, counted from 1. A carriage return at its end stays, since it may be the fault.
+/// Returns the line with this number, counted from 1, without its line feed. A carriage return at its end stays, since
+/// it may be the fault. If there are fewer lines, the result is empty.
 fn whole_line_at(text: &[u8], number: u64) -> &[u8] {
     let mut rest = text;
     for _line in 1..number {
@@ -24,7 +25,7 @@ fn whole_line_at(text: &[u8], number: u64) -> &[u8] {
     cut(rest, b'\n').0
 }
 
-/// Returns the part of a line that is at fault, and what is wanted instead.
+/// Returns the part of a faulty line that has the fault `kind`, and the words that say what is wanted in its place.
 fn part_of(line: &[u8], kind: NamesFaultKind) -> (&[u8], &'static str) {
     let (word, rest) = cut(line, b' ');
     let (number, last) = cut(rest, b' ');

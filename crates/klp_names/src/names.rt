@@ -70,14 +70,16 @@ impl Names {
         self.timed.binary_search_by_key(&line, |timed| timed.line)
     }
 
-    /// Returns for how many microseconds a condition lasted. The condition held after each line from `from` to `to`,
-    /// and ended with the line after `to`. Returns `None` if the condition hasn't ended, or if a time isn't known.
+    /// Returns for how many microseconds a condition lasted that began with the line `from`, and ended with the line
+    /// after `to`. Returns `None` if `to` is `None`, since the condition hasn't ended then, or if the time of one of
+    /// the two lines isn't known.
     pub fn lasted(&self, from: u64, to: Option<u64>) -> Option<u64>
         ensures { result ≡ lasted self.now.timed from to }
     {
         let next = to?.checked_add(1)?;
         let begin = self.time(from)?;
         let end = self.time(next)?;
+        // Times don't fall from line to line, so nothing is cut off.
         Some(end.saturating_sub(begin))
     }
 
@@ -88,6 +90,7 @@ impl Names {
     {
         let first = self.timed.first()?;
         let at = self.time(line)?;
+        // Times don't fall from line to line, so nothing is cut off.
         Some(at.saturating_sub(first.at))
     }
 

@@ -15,7 +15,7 @@ use std::alloc::Global;
 /// How many bytes a task's name has at most.
 pub const MAX_TASK_NAME: usize = 64;
 
-/// Whether one of these bytes is a control character.
+/// Whether any byte of the word is a control character of ASCII.
 fn has_control(word: &[u8]) -> bool
     ensures { result ≡ list_any is_ascii_control word.now }
 {
@@ -50,7 +50,8 @@ pub(crate) fn line_of(word: &[u8]) -> Option<u64>
 }
 
 impl Names {
-    /// Adds the name of a task. In the file, `rest` follows `task `. It has the form `NUMBER NAME`.
+    /// Adds the name of a task from a line `task NUMBER NAME`, of which `rest` is `NUMBER NAME`. Returns `Err` and adds
+    /// nothing if a part is misspelled, if the task has a name already, or if memory runs out.
     fn add_named(&mut self, rest: &[u8]) -> Result<(), NamesFaultKind>
         ensures { IsOutcome self.old (with_named self.old rest.now) self.new result }
     {
@@ -64,7 +65,8 @@ impl Names {
         self.add_name(task, name)
     }
 
-    /// Adds the time of a line. In the file, `rest` follows `line `. It has the form `NUMBER SECONDS`.
+    /// Adds the time of a line of the run from a line `line NUMBER SECONDS`, of which `rest` is `NUMBER SECONDS`.
+    /// Returns `Err` and adds nothing if a part is misspelled, or if [`Names::add_time`] adds nothing.
     fn add_timed(&mut self, rest: &[u8]) -> Result<(), NamesFaultKind>
         ensures { IsOutcome self.old (with_timed self.old rest.now) self.new result }
     {
@@ -78,7 +80,8 @@ impl Names {
         self.add_time(line, at)
     }
 
-    /// Adds the name or the time that one line of the file has.
+    /// Adds the name or the time that one line of the file has. Returns `Err` and adds nothing if the line is faulty,
+    /// or if memory runs out.
     fn add_line(&mut self, line: &[u8]) -> Result<(), NamesFaultKind>
         ensures { IsOutcome self.old (with_line self.old line.now) self.new result }
     {

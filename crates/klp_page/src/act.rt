@@ -7,8 +7,8 @@ use klp_model::{Event, Reply};
 use klp_timeline::Fact;
 use klp_types::Transition;
 
-/// Returns the effect of an accepted event, if views don't show that effect. `moving` is the transition before the
-/// event.
+/// Returns what an accepted event did, if views don't show it: a pre-patch callback failed, the transition was forced,
+/// or a module was loaded or unloaded. Returns `None` for any other event. `moving` is the transition before the event.
 fn fact_of(moving: &Option<Transition>, event: &Event, reply: &Reply) -> Option<Fact>
     ensures { result ≡ fact_of moving.now event.now reply.now }
 {
@@ -26,8 +26,9 @@ fn fact_of(moving: &Option<Transition>, event: &Event, reply: &Reply) -> Option<
     }
 }
 
-/// Returns the effect of a line with this outcome, if views don't show that effect. `moving` is the transition before
-/// the line. The journal had `from` events before the line, and has `to` events after it.
+/// Returns what a line with this outcome did, if views don't show it: what [`fact_of`] returns, or that events were
+/// undone. Returns `None` for any other line. `moving` is the transition before the line. The journal had `from` events
+/// before the line, and has `to` events after it.
 pub fn act_of(
     moving: &Option<Transition>,
     outcome: &LineOutcome,
@@ -38,6 +39,7 @@ pub fn act_of(
 {
     match outcome {
         LineOutcome::Answered(event, Ok(reply)) => fact_of(moving, event, reply),
+        // A rewind to the present mark undoes nothing.
         LineOutcome::Rewound(_) if from != to => Some(Fact::Undoes(from, to)),
         _ => None,
     }

@@ -41,14 +41,14 @@ pub struct Differing {
     pub first: u64,
 }
 
-/// Whether the sentence reports the start of a transition.
+/// Whether the sentence is on the start of a transition.
 fn is_start(sentence: &Sentence) -> bool
     ensures { result ≡ is_start sentence.now }
 {
     matches!(sentence.said, Said::Did(Fact::Starts(_)))
 }
 
-/// Returns how many of these sentences report the start of a transition.
+/// Returns how many transitions started in a run. `sentences` are all sentences of the run.
 pub(crate) fn transitions(sentences: &[Sentence]) -> u64
     ensures { result ≡ count_by is_start sentences.now }
 {
@@ -61,10 +61,11 @@ pub(crate) fn transitions(sentences: &[Sentence]) -> u64
     count as u64
 }
 
-/// Adds a number and a noun behind it. The noun is `one` for 1, and `many` for any other number.
+/// Adds a number and the words that go with it: `one` if it is 1, and `many` for any other number.
 fn add_count(sheet: &mut Sheet, count: u64, one: &'static str, many: &'static str)
     ensures { Adds sheet.old sheet.new (count_text count one.now many.now) }
 {
+    // For the proof only: texts that are added one after the other add up.
     klp_markup::laws::what_is_added_adds_up();
     sheet.number(count);
     sheet.markup(if count == 1 { one } else { many });
@@ -74,6 +75,7 @@ fn add_count(sheet: &mut Sheet, count: u64, one: &'static str, many: &'static st
 fn add_refusals(sheet: &mut Sheet, count: u64)
     ensures { Adds sheet.old sheet.new (refusals_text count) }
 {
+    // For the proof only: texts that are added one after the other add up.
     klp_markup::laws::what_is_added_adds_up();
     if count > 0 {
         sheet.number(count);
@@ -81,21 +83,24 @@ fn add_refusals(sheet: &mut Sheet, count: u64)
     }
 }
 
-/// Adds the words that say that a transition is still under way. Adds nothing if no transition is.
+/// Adds to the number of transitions that one is still under way. Adds nothing if none is.
 fn add_under_way(sheet: &mut Sheet, is_moving: bool)
     ensures { Adds sheet.old sheet.new (if is_moving then codes ", one still under way" else []) }
 {
+    // For the proof only: texts that are added one after the other add up.
     klp_markup::laws::what_is_added_adds_up();
     if is_moving {
         sheet.markup(", one still under way");
     }
 }
 
-/// Adds the title: the name of the run, and how many lines and transitions it has.
+/// Adds the title: the name of the run, how many lines it has, how many of them were refused, how many transitions
+/// started, and whether one is still under way.
 #[tactic(auto, unfolding(crate::specs::Text::title_text))]
 fn add_title(sheet: &mut Sheet, title: &Title<'_>)
     ensures { Adds sheet.old sheet.new (title_text title.now) }
 {
+    // For the proof only: texts that are added one after the other add up.
     klp_markup::laws::what_is_added_adds_up();
     sheet.text(title.name);
     sheet.markup(": ");
@@ -105,20 +110,23 @@ fn add_title(sheet: &mut Sheet, title: &Title<'_>)
     add_under_way(sheet, title.is_moving);
 }
 
-/// Adds the style of rows with times. Adds nothing if no time is known.
+/// Adds the style of rows with times. Adds nothing if the time of no line is known.
 fn add_timed_style(sheet: &mut Sheet, names: &Names)
     ensures { Adds sheet.old sheet.new (timed_style names.now) }
 {
+    // For the proof only: texts that are added one after the other add up.
     klp_markup::laws::what_is_added_adds_up();
     if names.has_times() {
         sheet.markup(TIMED_STYLE);
     }
 }
 
-/// Adds the style of a trace's page. Adds nothing to a page of a script.
+/// Adds the style that only a trace's page needs. Adds nothing to the page of a script, for which `differing` is
+/// `None`.
 fn add_trace_style(sheet: &mut Sheet, differing: &Option<Differing>)
     ensures { Adds sheet.old sheet.new (trace_style differing.now) }
 {
+    // For the proof only: texts that are added one after the other add up.
     klp_markup::laws::what_is_added_adds_up();
     if differing.is_some() {
         sheet.markup(TRACE_STYLE);
@@ -129,6 +137,7 @@ fn add_trace_style(sheet: &mut Sheet, differing: &Option<Differing>)
 fn add_style(sheet: &mut Sheet, names: &Names, differing: &Option<Differing>)
     ensures { Adds sheet.old sheet.new (style_text names.now differing.now) }
 {
+    // For the proof only: texts that are added one after the other add up.
     klp_markup::laws::what_is_added_adds_up();
     sheet.markup(STYLE);
     sheet.markup(klp_drawing::STYLE);
@@ -137,10 +146,11 @@ fn add_style(sheet: &mut Sheet, names: &Names, differing: &Option<Differing>)
     add_trace_style(sheet, differing);
 }
 
-/// Adds a link to the first row at which the kernel differs from the rules.
+/// Adds a link to the first row at which the kernel differs from the rules. `first` is the row's number.
 fn add_first(sheet: &mut Sheet, first: u64)
     ensures { Adds sheet.old sheet.new (first_text first) }
 {
+    // For the proof only: texts that are added one after the other add up.
     klp_markup::laws::what_is_added_adds_up();
     sheet.markup(FIRST);
     sheet.number(first);
@@ -149,22 +159,24 @@ fn add_first(sheet: &mut Sheet, first: u64)
     sheet.markup(FIRST_END);
 }
 
-/// Adds the number of rows at which the kernel differs from the rules, with a link to the first such row. Adds nothing
-/// if there is no such row.
+/// Adds the sentence on a kernel that differs from the rules: at how many rows it does, with a link to the first of
+/// them. There must be such a row.
 fn add_different(sheet: &mut Sheet, differing: Differing)
     ensures { Adds sheet.old sheet.new (different_text differing) }
 {
+    // For the proof only: texts that are added one after the other add up.
     klp_markup::laws::what_is_added_adds_up();
     sheet.markup(". <b class=holds>");
     add_count(sheet, differing.rows, " row differs", " rows differ");
     add_first(sheet, differing.first);
 }
 
-/// Adds the sentence that says at how many rows the kernel differs from the rules. If there is no such row, the
-/// sentence says that the kernel agrees with the rules.
+/// Adds the sentence that compares the kernel with the rules: it agrees with them, or at how many rows it differs from
+/// them.
 fn add_differing(sheet: &mut Sheet, differing: Differing)
     ensures { Adds sheet.old sheet.new (compared_text (Some differing)) }
 {
+    // For the proof only: texts that are added one after the other add up.
     klp_markup::laws::what_is_added_adds_up();
     if differing.rows == 0 {
         sheet.markup(AGREES);
@@ -173,21 +185,24 @@ fn add_differing(sheet: &mut Sheet, differing: Differing)
     }
 }
 
-/// Adds the sentence that compares the kernel of a trace with the rules. Adds nothing to a page of a script.
+/// Adds the sentence that compares the kernel of a trace with the rules. Adds nothing to the page of a script, for
+/// which `differing` is `None`.
 fn add_compared(sheet: &mut Sheet, differing: &Option<Differing>)
     ensures { Adds sheet.old sheet.new (compared_text differing.now) }
 {
+    // For the proof only: texts that are added one after the other add up.
     klp_markup::laws::what_is_added_adds_up();
     if let Some(differing) = *differing {
         add_differing(sheet, differing);
     }
 }
 
-/// Adds the beginning of the document, up to the end of its style.
+/// Adds the beginning of the document: its title, and its style up to the end.
 #[tactic(auto, unfolding(crate::specs::Text::opening_text))]
 fn add_opening(sheet: &mut Sheet, title: &Title<'_>)
     ensures { Adds sheet.old sheet.new (opening_text title.now) }
 {
+    // For the proof only: texts that are added one after the other add up.
     klp_markup::laws::what_is_added_adds_up();
     sheet.markup(HEAD);
     add_title(sheet, title);
@@ -195,8 +210,7 @@ fn add_opening(sheet: &mut Sheet, title: &Title<'_>)
     sheet.markup(STYLE_END);
 }
 
-/// Returns the number of lines if all lines were refused. Returns `None` if a line wasn't refused, or if there is no
-/// line.
+/// Returns the number of lines if all were refused. Returns `None` if some line wasn't, or if there is no line.
 fn all_refused(title: &Title<'_>) -> Option<u64>
     ensures { result ≡ all_refused title.now }
 {
@@ -207,8 +221,9 @@ fn all_refused(title: &Title<'_>) -> Option<u64>
     }
 }
 
-/// Adds the part of the page above the sentences: the beginning of the document, the end of the run, and the title once
-/// more.
+/// Adds the part of the page above its sentences: the beginning of the document, how the run ends, the title once more,
+/// and for a trace how the kernel compares with the rules. `view` is the state at the end of the run. The catalog must
+/// have been assembled over these modules.
 pub(crate) fn add_front(
     sheet: &mut Sheet,
     title: &Title<'_>,
@@ -236,7 +251,8 @@ pub(crate) fn add_front(
     sheet.markup(STORY);
 }
 
-/// Adds the sentences about the run, and its drawing.
+/// Adds the part of the page from its sentences to its rows: the sentences about the run, and the drawing. The catalog
+/// must have been assembled over these modules.
 pub(crate) fn add_story_and_drawing(
     sheet: &mut Sheet,
     names: &Names,

@@ -26,9 +26,9 @@ pub struct Layout<'a> {
     lines: u64,
 }
 
-/// Whether a row is open at first. A row is open if a patch, a transition or a callback did something. It is also open
-/// if its line did something that can't be seen in the state.
-fn stands_open(parts: &RowParts, act: &Option<Fact>) -> bool {
+/// Whether a row shows its cards at first: the line changed a patch or the transition, ran a callback, or had an effect
+/// that views don't show.
+fn is_open_at_first(parts: &RowParts, act: &Option<Fact>) -> bool {
     parts.patches || parts.callbacks || act.is_some()
 }
 
@@ -43,7 +43,8 @@ impl<'a> Layout<'a> {
         }
     }
 
-    /// Begins to watch the shadow variables that the scripts of the plan's callbacks change. `Err` if memory runs out.
+    /// Begins to watch the shadow variables that the scripts of a plan's callbacks change. Call this before a manager
+    /// is booted over the plan. `Err` if memory runs out.
     pub fn watch(&mut self, plan: &Plan) -> Result<(), AllocError> {
         self.chronicle.watch(plan)
     }
@@ -54,8 +55,9 @@ impl<'a> Layout<'a> {
         self.bars.open()
     }
 
-    /// Updates the drawing with a line, and returns the line's cards. If the line neither did nor undid an event, it
-    /// has no cards. `Err` if memory runs out.
+    /// Adds a line to the drawing, and returns the line's cards. Call this for each line, in order, since it counts the
+    /// lines. `before` is the view before the line, and `moment` has the view after it. If the line neither did nor
+    /// undid an event, there are no cards. `Err` if memory runs out.
     pub fn see(
         &mut self,
         alloc: Global,
@@ -78,14 +80,15 @@ impl<'a> Layout<'a> {
         let parts = self
             .chronicle
             .describe(alloc, manager, outcome, before, moment)?;
-        let is_open = stands_open(&parts, &moment.act);
+        let is_open = is_open_at_first(&parts, &moment.act);
         Ok(Cards {
             sheet: parts.cards,
             is_open,
         })
     }
 
-    /// Returns the drawing of all lines that were seen. `Err` if memory runs out.
+    /// Returns the drawing of the lines that were seen. `sentences` are all sentences of the run. Call this once, after
+    /// the run's last line. `Err` if memory runs out.
     pub(crate) fn draw(
         &mut self,
         alloc: Global,

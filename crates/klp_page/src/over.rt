@@ -33,7 +33,7 @@ impl<S: PageSource> ManagerUse for Shown<'_, S> {
 }
 
 /// Boots a manager over the catalog's text, does a run with it, and returns the run's page. `names` has the names of
-/// tasks and the times of lines. Returns `Err` if no manager can be booted with the text, or if the run shows no page.
+/// tasks and the times of lines. Returns `Err` if no manager can be booted over the text, or if the run shows no page.
 /// Allocates memory in proportion to the run.
 pub fn page_over<S: PageSource>(
     alloc: Global,
@@ -55,8 +55,8 @@ pub fn page_over<S: PageSource>(
     }
 }
 
-/// Writes the page of a run to `out` after the whole run is done. If a fault is found before the page is complete,
-/// writes nothing. If the page can't be written, returns the fault of a failed write.
+/// Makes the page of a run, as [`page_over`] does, and then writes it to `out`. If there is no page, writes nothing and
+/// returns why as `Err`. Also returns `Err` if the page can't be written.
 pub fn write_over<S: PageSource, W: Write>(
     alloc: Global,
     catalog: &[u8],

@@ -22,7 +22,8 @@ use klp_timeline::{Sentence, View, sentences};
 use std::alloc::{AllocError, Global};
 use std::io::Write;
 
-/// Returns the text of the page, from its rows, sentences and drawing. `Err` if memory runs out.
+/// Returns the text of a page, whose parts are made already: its head, sentences, drawing and rows. `view` is the state
+/// at the end of the run, and `sentences` are all sentences of the run. `Err` if memory runs out.
 fn written(
     alloc: Global,
     manager: &Manager,
@@ -35,6 +36,7 @@ fn written(
     ensures { IfOk result (λ page. page.items ≡ page_text title.now manager.now.managed.catalog view.now
         sentences.now drawing.now.text rows.now) }
 {
+    // For the proof only: texts that are added one after the other add up.
     klp_markup::laws::what_is_added_adds_up();
     let mut sheet = Sheet::new(alloc);
     let (catalog, modules) = (manager.catalog(), manager.modules());
@@ -52,7 +54,7 @@ fn written(
     sheet.into_bytes()
 }
 
-/// Returns how many of the lines were refused.
+/// Returns how many rows are of refused lines.
 fn refused(rows: &[Row]) -> u64
     ensures { result ≡ count_by is_refused rows.now }
 {
@@ -65,7 +67,8 @@ fn refused(rows: &[Row]) -> u64
     count as u64
 }
 
-/// Returns the head of the page for these rows and sentences. `view` is the state at the end of the run.
+/// Returns what the head of the page says of a run. `view` is the state at the end of the run, and `sentences` are all
+/// sentences of the run. `differing` is `None` for a script.
 fn title_of<'a>(
     name: &'a [u8],
     names: &'a Names,
@@ -87,8 +90,9 @@ fn title_of<'a>(
     }
 }
 
-/// Returns the text of the page of a run that was already served and recorded. `differing` is `None` for a script.
-/// `Err` if memory runs out.
+/// Returns the text of the page of a run that was already served and recorded. `name` is the page's title. `opening` is
+/// the state before the run. `differing` is `None` for a script. `layout` must have seen each line of the run. `Err` if
+/// memory runs out.
 pub fn page_of(
     alloc: Global,
     manager: &Manager,
@@ -117,7 +121,8 @@ pub fn page_of(
     )
 }
 
-/// Serves a script with a manager that was just booted, and returns the text of its page.
+/// Serves a script with a manager that was just booted, and returns the text of the script's page. `name` is the page's
+/// title. `Err` if a line is too long, or if memory runs out.
 fn paged(
     alloc: Global,
     manager: &mut Manager,
@@ -160,7 +165,8 @@ impl PageSource for ScriptRun<'_> {
     }
 }
 
-/// Returns the page of a script, as [`page_over`] does, with a row for each line. `name` is the page's title.
+/// Returns the page of a script, with a row for each line. `name` is the page's title. The catalog, and what `Err`
+/// means, are as for [`page_over`].
 pub fn page_over_text(
     alloc: Global,
     catalog: &[u8],
@@ -179,7 +185,7 @@ pub fn page_over_text(
     page_over(alloc, catalog, names, &run)
 }
 
-/// Writes the page of a script to `out`, as [`write_over`] does.
+/// Writes the page of a script to `out`, as [`write_over`] does. `name` is the page's title.
 pub fn write_page<W: Write>(
     alloc: Global,
     catalog: &[u8],

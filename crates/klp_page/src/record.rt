@@ -37,7 +37,7 @@ pub struct Recorded {
     pub run: Vec<Moment>,
 }
 
-/// Returns the state after the last line, or `opening` if there was no line.
+/// Returns the state after the last line of `run`. Returns `opening`, the state before the run, if `run` is empty.
 pub fn last_view<'a>(opening: &'a View, run: &'a [Moment]) -> &'a View
     ensures { result.now ≡ last_view opening.now run.now }
 {
@@ -47,7 +47,8 @@ pub fn last_view<'a>(opening: &'a View, run: &'a [Moment]) -> &'a View
     }
 }
 
-/// Serves one line, and returns its answer. `Err` if memory runs out.
+/// Serves one line, and returns the console's answer. `writes` is an unused ledger for the two counts that the writer
+/// of the answer keeps. `Err` if memory runs out.
 fn answer<M: Ledger>(
     alloc: Global,
     manager: &mut Manager,
@@ -68,8 +69,8 @@ fn answer<M: Ledger>(
     }
 }
 
-/// Returns the effect of a line, and the state after it. `before` is the state before the line, `from` is the number of
-/// events before the line, and `outcome` is the line's outcome.
+/// Returns the effect of a line that was just served, and the state after it. `before` is the state before the line,
+/// and `from` the number of events in the journal before it.
 fn moment_of(manager: &Manager, before: &View, outcome: &LineOutcome, from: u32) -> Moment
     ensures seen { IsView (setting_of manager.now.managed) manager.now.managed.state result.view }
     ensures did { result.act ≡ act_of before.now.moving outcome.now from (length manager.now.groups) }
@@ -80,8 +81,8 @@ fn moment_of(manager: &Manager, before: &View, outcome: &LineOutcome, from: u32)
     }
 }
 
-/// Adds those tasks that hold the transition up. `number` is the number of the task to which the first of `stays`
-/// belongs. `Err` if memory runs out.
+/// Appends the tasks that hold the transition up, in the order of their numbers. `stays` has the stays of the tasks
+/// from `number` on. `Err` if memory runs out.
 fn add_holders(
     tasks: &mut Vec<TaskId>,
     number: usize,
@@ -99,8 +100,9 @@ fn add_holders(
     add_holders(tasks, number + 1, rest)
 }
 
-/// Returns the tasks that a row shows as holding the transition up. If no stay changed with this line, the row shows no
-/// task, even if a task holds the transition up. `Err` if memory runs out.
+/// Returns the tasks that a row shows as holding the transition up. `before` and `after` are the views before and after
+/// its line. If they have the same stays, returns none, so that a page names a holder only where the stays change.
+/// `Err` if memory runs out.
 fn holders_shown(alloc: Global, before: &View, after: &View) -> Result<Vec<TaskId>, AllocError>
     ensures { IfOk result (λ tasks. tasks.items ≡ holders_shown before.now after.now) }
 {
@@ -111,7 +113,8 @@ fn holders_shown(alloc: Global, before: &View, after: &View) -> Result<Vec<TaskI
     Ok(tasks)
 }
 
-/// Serves one line. Returns the line's row, its effect, and the state after it. `Err` if memory runs out.
+/// Serves one line, and adds it to the layout. Returns the line's row, and its effect with the state after it. `before`
+/// is the state before the line. `Err` if memory runs out.
 pub fn record_line(
     alloc: Global,
     manager: &mut Manager,
@@ -140,7 +143,8 @@ pub fn record_line(
     Ok((row, moment))
 }
 
-/// Serves one line, and adds its row and its moment to `recorded`. `Err` if memory runs out.
+/// Serves one line, and adds its row and its moment to `recorded`. `opening` is the state before the run. `Err` if
+/// memory runs out.
 fn add_line(
     alloc: Global,
     manager: &mut Manager,
@@ -159,8 +163,8 @@ fn add_line(
     Ok(())
 }
 
-/// Serves all lines of the script that end with a line feed, and adds their rows and moments to `recorded`. Afterwards
-/// `line` has the bytes behind the last line feed. `Err` if a line is too long, or if memory runs out.
+/// Serves each line of the script that ends with a line feed, and adds its row and its moment to `recorded`. Afterwards
+/// `line` has what follows the script's last line feed. `Err` if a line is too long, or if memory runs out.
 fn record_lines(
     alloc: Global,
     manager: &mut Manager,
@@ -181,6 +185,7 @@ fn record_lines(
     while !rest.is_empty() {
         match line.hear(rest) {
             Err(TooLong) => return Err(Unshown::LongLine),
+            // `rest` has no line feed, and is in `line` now.
             Ok(None) => return Ok(()),
             Ok(Some(after)) => {
                 add_line(alloc, manager, line.bytes(), opening, recorded, layout)?;
@@ -189,12 +194,13 @@ fn record_lines(
             }
         }
     }
+    // For the proof only: the contract of bytes says that the line has no line feed.
     let _rest = line.bytes();
     Ok(())
 }
 
-/// Serves a script. Returns a row for each line of the script, and the effect of each line. `Err` if a line is too
-/// long, or if memory runs out.
+/// Serves a script. Returns a row for each line of the script, and each line's effect with the state after it.
+/// `opening` is the state before the script. `Err` if a line is too long, or if memory runs out.
 pub(crate) fn record(
     alloc: Global,
     manager: &mut Manager,
@@ -220,6 +226,7 @@ pub(crate) fn record(
         &mut recorded,
         layout,
     )?;
+    // What follows the script's last line feed is a line too, unless it is empty.
     let last = line.bytes();
     if last.is_empty() {
         return Ok(recorded);

@@ -37,10 +37,11 @@ pub struct Row {
     pub differs: bool,
 }
 
-/// Adds the names of the tasks that hold the transition up. Adds nothing if no task does.
+/// Adds the names of the tasks that a row shows as holding the transition up. Adds nothing if there are none.
 fn add_mark(sheet: &mut Sheet, names: &Names, tasks: &[TaskId])
     ensures { Adds sheet.old sheet.new (mark_text names.now tasks.now) }
 {
+    // For the proof only: texts that are added one after the other add up.
     klp_markup::laws::what_is_added_adds_up();
     if tasks.is_empty() {
         return;
@@ -50,30 +51,34 @@ fn add_mark(sheet: &mut Sheet, names: &Names, tasks: &[TaskId])
     sheet.markup(HELD_END);
 }
 
-/// Adds the class of a refused line. Adds nothing if the line wasn't refused.
+/// Adds the class of a refused line to the start of a row. Adds nothing if the line wasn't refused.
 fn add_refused(sheet: &mut Sheet, is_refused: bool)
     ensures { Adds sheet.old sheet.new (refused_text is_refused) }
 {
+    // For the proof only: texts that are added one after the other add up.
     klp_markup::laws::what_is_added_adds_up();
     if is_refused {
         sheet.markup(REFUSED);
     }
 }
 
-/// Adds the class of a row at which the kernel differs from the rules. Adds nothing if it doesn't.
+/// Adds the class of a row at which the kernel differs from the rules to the start of the row. Adds nothing if it
+/// doesn't differ.
 fn add_differing(sheet: &mut Sheet, differs: bool)
     ensures { Adds sheet.old sheet.new (differing_text differs) }
 {
+    // For the proof only: texts that are added one after the other add up.
     klp_markup::laws::what_is_added_adds_up();
     if differs {
         sheet.markup(DIFFERING);
     }
 }
 
-/// Adds the kernel's answer. Adds nothing if it is empty.
+/// Adds the kernel's answer, escaped. Adds nothing if there is none (`seen` is empty).
 fn add_seen(sheet: &mut Sheet, seen: &[u8])
     ensures { Adds sheet.old sheet.new (kernel_answer seen.now) }
 {
+    // For the proof only: texts that are added one after the other add up.
     klp_markup::laws::what_is_added_adds_up();
     if !seen.is_empty() {
         sheet.markup(SEEN);
@@ -82,39 +87,43 @@ fn add_seen(sheet: &mut Sheet, seen: &[u8])
     }
 }
 
-/// Adds the mark of a row at which the kernel differs from the rules. Adds nothing if it doesn't.
+/// Adds the words that say that the kernel differs from the rules at this row. Adds nothing if it doesn't differ.
 fn add_difference(sheet: &mut Sheet, differs: bool)
     ensures { Adds sheet.old sheet.new (difference_text differs) }
 {
+    // For the proof only: texts that are added one after the other add up.
     klp_markup::laws::what_is_added_adds_up();
     if differs {
         sheet.markup(DIFFERENCE);
     }
 }
 
-/// Adds the kernel's answer, and a mark if the kernel differs from the rules.
+/// Adds the kernel's answer if there is one, and words that say so if it differs from the rules.
 fn add_kernel(sheet: &mut Sheet, row: &Row)
     ensures { Adds sheet.old sheet.new (kernel_text row.now) }
 {
+    // For the proof only: texts that are added one after the other add up.
     klp_markup::laws::what_is_added_adds_up();
     add_seen(sheet, &row.seen);
     add_difference(sheet, row.differs);
 }
 
-/// Adds the attribute of a row that is open at first. Adds nothing if the row isn't.
+/// Adds the attribute of a row that shows its cards at first. Adds nothing if the row doesn't.
 fn add_open(sheet: &mut Sheet, is_open: bool)
     ensures { Adds sheet.old sheet.new (open_text is_open) }
 {
+    // For the proof only: texts that are added one after the other add up.
     klp_markup::laws::what_is_added_adds_up();
     if is_open {
         sheet.markup(OPEN);
     }
 }
 
-/// Adds a time, counted from the first time of the run. Adds nothing if the time isn't known.
+/// Adds a time in microseconds since the first known time, written in seconds. Adds nothing if it isn't known (`None`).
 fn add_time(sheet: &mut Sheet, time: Option<u64>)
     ensures { Adds sheet.old sheet.new (time_text time) }
 {
+    // For the proof only: texts that are added one after the other add up.
     klp_markup::laws::what_is_added_adds_up();
     if let Some(time) = time {
         sheet.markup(TIME);
@@ -126,17 +135,19 @@ fn add_time(sheet: &mut Sheet, time: Option<u64>)
 fn add_number(sheet: &mut Sheet, names: &Names, number: u64)
     ensures { Adds sheet.old sheet.new (decimal number ++ time_text (since_start names.now.timed number)) }
 {
+    // For the proof only: texts that are added one after the other add up.
     klp_markup::laws::what_is_added_adds_up();
     sheet.number(number);
     add_time(sheet, names.since_start(number));
 }
 
-/// Adds the columns of a row: the line's number and time, its text, its answer, the kernel's answer, and who holds the
-/// transition up.
+/// Adds the columns of a row: the number and the time of the line, its text, its answer, the kernel's answer, and the
+/// tasks that hold the transition up.
 #[tactic(auto, unfolding(crate::specs::Text::shown_text))]
 fn add_shown(sheet: &mut Sheet, names: &Names, number: u64, row: &Row)
     ensures { Adds sheet.old sheet.new (shown_text names.now number row.now) }
 {
+    // For the proof only: texts that are added one after the other add up.
     klp_markup::laws::what_is_added_adds_up();
     add_number(sheet, names, number);
     sheet.markup(LINE);
@@ -148,11 +159,13 @@ fn add_shown(sheet: &mut Sheet, names: &Names, number: u64, row: &Row)
     add_mark(sheet, names, &row.holders);
 }
 
-/// Adds the start of a row: this tag, the row's class, and its anchor `line-NUMBER`.
+/// Begins a row: adds this tag, the row's classes, and the anchor `line-NUMBER`, to which sentences and the drawing
+/// link.
 #[tactic(auto, unfolding(crate::specs::Text::start_text))]
 fn add_start(sheet: &mut Sheet, tag: &'static str, number: u64, row: &Row)
     ensures { Adds sheet.old sheet.new (start_text tag.now number row.now) }
 {
+    // For the proof only: texts that are added one after the other add up.
     klp_markup::laws::what_is_added_adds_up();
     sheet.markup(tag);
     add_refused(sheet, row.is_refused);
@@ -161,12 +174,13 @@ fn add_start(sheet: &mut Sheet, tag: &'static str, number: u64, row: &Row)
     sheet.number(number);
 }
 
-/// Adds a row without cards.
+/// Adds a row without cards, which can't be opened.
 fn add_plain_row(sheet: &mut Sheet, names: &Names, number: u64, row: &Row)
     ensures { Adds sheet.old sheet.new
         (start_text PLAIN_ROW.now number row.now ++ NUMBER.now ++ shown_text names.now number row.now
         ++ PLAIN_END.now) }
 {
+    // For the proof only: texts that are added one after the other add up.
     klp_markup::laws::what_is_added_adds_up();
     add_start(sheet, PLAIN_ROW, number, row);
     sheet.markup(NUMBER);
@@ -174,13 +188,14 @@ fn add_plain_row(sheet: &mut Sheet, names: &Names, number: u64, row: &Row)
     sheet.markup(PLAIN_END);
 }
 
-/// Adds a row with cards, which a click shows or hides.
+/// Adds a row with cards, which a click on the row shows or hides.
 fn add_card_row(sheet: &mut Sheet, names: &Names, number: u64, row: &Row)
     ensures { Adds sheet.old sheet.new
         (start_text CARD_ROW.now number row.now ++ open_text row.now.is_open ++ CARD_NUMBER.now
         ++ shown_text names.now number row.now
         ++ CARDS.now ++ row.now.cards.text ++ CARDS_END.now) }
 {
+    // For the proof only: texts that are added one after the other add up.
     klp_markup::laws::what_is_added_adds_up();
     add_start(sheet, CARD_ROW, number, row);
     add_open(sheet, row.is_open);
@@ -191,7 +206,7 @@ fn add_card_row(sheet: &mut Sheet, names: &Names, number: u64, row: &Row)
     sheet.markup(CARDS_END);
 }
 
-/// Adds a row, with its cards if there are any.
+/// Adds a row, with its cards if there are any. `number` is the number of its line, from 1.
 #[tactic(auto, unfolding(crate::specs::Text::row_text))]
 fn add_row(sheet: &mut Sheet, names: &Names, number: u64, row: &Row)
     ensures { Adds sheet.old sheet.new (row_text names.now number row.now) }
@@ -203,22 +218,24 @@ fn add_row(sheet: &mut Sheet, names: &Names, number: u64, row: &Row)
     }
 }
 
-/// Begins a fold in front of the next quiet row if `quiet` is [`QUIET_ROWS`]. `quiet` is how many quiet rows stand in
-/// succession before the next row.
+/// Called before a quiet row: begins a fold if exactly [`QUIET_ROWS`] successive quiet rows precede it, so that this
+/// row is the first to be folded away. `quiet` is how many successive quiet rows precede it.
 fn add_fold_start(sheet: &mut Sheet, quiet: usize)
     ensures { Adds sheet.old sheet.new (fold_start quiet) }
 {
+    // For the proof only: texts that are added one after the other add up.
     klp_markup::laws::what_is_added_adds_up();
     if quiet == QUIET_ROWS {
         sheet.markup(FOLD);
     }
 }
 
-/// Ends a fold behind `quiet` successive quiet rows, and says how many of these rows are folded away. Adds nothing if
-/// no row is folded away.
+/// Called after the last of `quiet` successive quiet rows: ends the fold, and adds how many of these rows it folds
+/// away. Adds nothing if there are at most [`QUIET_ROWS`], so that no fold was begun.
 fn add_fold_end(sheet: &mut Sheet, quiet: usize)
     ensures { Adds sheet.old sheet.new (fold_end quiet) }
 {
+    // For the proof only: texts that are added one after the other add up.
     klp_markup::laws::what_is_added_adds_up();
     if quiet > QUIET_ROWS {
         sheet.markup(FOLD_END);
@@ -227,11 +244,12 @@ fn add_fold_end(sheet: &mut Sheet, quiet: usize)
     }
 }
 
-/// Adds the rows in order. Of successive quiet rows, shows the first [`QUIET_ROWS`], and folds away the rows behind
-/// them.
+/// Adds the rows in order. Of successive quiet rows, the page shows the first [`QUIET_ROWS`], and folds away the
+/// others.
 pub(crate) fn add_rows(sheet: &mut Sheet, names: &Names, rows: &[Row])
     ensures { Adds sheet.old sheet.new (rows_text names.now rows.now) }
 {
+    // For the proof only: texts that are added one after the other add up.
     klp_markup::laws::what_is_added_adds_up();
     let mut quiet = 0;
     for index in 0..rows.len() {

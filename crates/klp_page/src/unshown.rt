@@ -35,7 +35,7 @@ impl<T: Drop> From<AllocFailed<T>> for Unshown {
     }
 }
 
-/// Returns the fault with which a program ends that shows no page.
+/// Returns the fault with which a program ends if a run shows no page for this reason.
 pub(crate) fn fault_of(why: Unshown) -> Fault
     ensures { result ≡ fault_of why }
 {

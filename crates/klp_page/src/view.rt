@@ -24,7 +24,7 @@ fn site_of(manager: &Manager, version: &Version) -> Option<Site>
     }
 }
 
-/// Whether the version is the version that the target runs.
+/// Whether `target`, which was picked for a call, is this version. False if nothing was picked (`None`).
 fn is_picked(version: &Version, target: &Option<Target>) -> bool
     ensures { result ≡ is_picked version.now target.now }
 {
@@ -34,7 +34,8 @@ fn is_picked(version: &Version, target: &Option<Target>) -> bool
     }
 }
 
-/// Whether this task would run the version if it now called the function that the version replaces.
+/// Whether this task would run the version if it called the version's site now. False if the version has no site, or if
+/// nothing can be called there.
 fn is_current(manager: &Manager, task: TaskId, version: &Version) -> bool
     ensures { result ≡ is_current (setting_of manager.now.managed) manager.now.managed.state
         (task_at manager.now.managed.state.tasks task) version.now }
@@ -45,8 +46,8 @@ fn is_current(manager: &Manager, task: TaskId, version: &Version) -> bool
     }
 }
 
-/// Returns the innermost of these versions that this task wouldn't run if it called the function now. The versions are
-/// outermost first.
+/// Returns the innermost of these versions that this task wouldn't run if it called the version's site now. Returns
+/// `None` if it would run all of them. `versions` are outermost first.
 fn outdated_among(manager: &Manager, task: TaskId, versions: &[Version]) -> Option<Version>
     ensures { result ≡ innermost_outside (is_current (setting_of manager.now.managed) manager.now.managed.state
         (task_at manager.now.managed.state.tasks task)) versions.now }
@@ -54,13 +55,15 @@ fn outdated_among(manager: &Manager, task: TaskId, versions: &[Version]) -> Opti
     let mut found = None;
     for version in versions {
         if !is_current(manager, task, version) {
+            // A later version is further inside, so it replaces an earlier one.
             found = Some(*version);
         }
     }
     found
 }
 
-/// Returns the innermost version that a task sleeps inside of but wouldn't run if it called the function now.
+/// Returns the innermost version that a task sleeps inside of but wouldn't run if it called the version's site now.
+/// Returns `None` if there is none, as for a task that isn't asleep.
 fn outdated(manager: &Manager, task: TaskId) -> Option<Version>
     ensures { result ≡ outdated_in (setting_of manager.now.managed) manager.now.managed.state
         (task_at manager.now.managed.state.tasks task) }
@@ -68,8 +71,9 @@ fn outdated(manager: &Manager, task: TaskId) -> Option<Version>
     outdated_among(manager, task, manager.frames(task).as_slice())
 }
 
-/// Returns the stay of a task that blocks the transition, or else of a task that sleeps inside of a version that it
-/// wouldn't run now. Returns `None` for any other task.
+/// Returns the stay of a task: it holds the transition up, or else it sleeps inside of a version that it wouldn't run
+/// now. Returns `None` if neither is so. `moving` is the transition under way, and `lag` says why the task isn't at the
+/// target.
 fn stay_of(
     manager: &Manager,
     task: TaskId,
@@ -88,7 +92,8 @@ fn stay_of(
     }
 }
 
-/// Returns the stay of the task with this number. `lags` has the lag of each task.
+/// Returns the stay of the task with this number. `moving` is the transition under way. `lags` has, by task number, why
+/// a task isn't at the target.
 fn stay_in(
     manager: &Manager,
     number: usize,
@@ -101,17 +106,18 @@ fn stay_in(
     ensures { result ≡ stay_in (setting_of manager.now.managed) manager.now.managed.state
         (task_at manager.now.managed.state.tasks number) }
 {
-    // `mode` is called for its contract, which says that there is a row for each number
+    // For the proof only: the contract of mode says that there is a row for each task number.
     let _rows = manager.mode(TaskId(0));
     stay_of(manager, TaskId(number as u8), moving, &lags[number])
 }
 
-/// Returns the stay of each task, by task number.
+/// Returns the stay of each task, by task number. `lags` has, by task number, why a task isn't at the target.
 fn stays(manager: &Manager, lags: &[Option<Lag>; MAX_TASKS]) -> [Option<Stay>; MAX_TASKS]
     requires { lags.now ≡ holders (setting_of manager.now.managed) manager.now.managed.state }
     ensures { result ≡ map (stay_in (setting_of manager.now.managed) manager.now.managed.state)
         manager.now.managed.state.tasks }
 {
+    // For the proof only: the contract of mode says that there is a row for each task number.
     let _rows = manager.mode(TaskId(0));
     let moving = manager.moving();
     let mut stays = [None; MAX_TASKS];
@@ -121,7 +127,8 @@ fn stays(manager: &Manager, lags: &[Option<Lag>; MAX_TASKS]) -> [Option<Stay>; M
     stays
 }
 
-/// Returns the mode of a task that isn't at the target but doesn't block the transition.
+/// Returns the mode of a task that lags without blocking the transition. Returns `None` for any other task. `lag` says
+/// why the task isn't at the target.
 fn wait_of(lag: &Option<Lag>) -> Option<Mode>
     ensures { result ≡ wait_by lag.now }
 {
@@ -131,7 +138,8 @@ fn wait_of(lag: &Option<Lag>) -> Option<Mode>
     }
 }
 
-/// Returns, by task number, the mode of each task that isn't at the target but doesn't block the transition.
+/// Returns, by task number, the mode of each task that lags without blocking the transition, and `None` for any other
+/// number. `lags` has, by task number, why a task isn't at the target.
 fn waits(lags: &[Option<Lag>; MAX_TASKS]) -> [Option<Mode>; MAX_TASKS]
     ensures { result ≡ map wait_by lags.now }
 {
@@ -142,8 +150,8 @@ fn waits(lags: &[Option<Lag>; MAX_TASKS]) -> [Option<Mode>; MAX_TASKS]
     waits
 }
 
-/// Returns what a manager shows. The cost is that of a poll that switches nobody, and of one pick for each frame of
-/// each sleeper.
+/// Returns the state that a manager shows: its transition, its installed patches, and the stay of each task. The cost
+/// is that of a poll that switches nobody, and of one pick for each frame of each sleeper.
 pub fn view_of(manager: &Manager) -> View
     ensures { IsView (setting_of manager.now.managed) manager.now.managed.state result }
 {

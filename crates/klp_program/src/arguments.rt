@@ -28,14 +28,14 @@ const USAGE: u8 = 2;
 /// The status of any other fault.
 const FAULT: u8 = 1;
 
-// Returns the command `console`. The command has one argument, a catalog, which may be left out.
+/// Returns klpsim's command `console`. The command has one argument, the catalog's file, which may be left out.
 fn console_command<'a>(alloc: Global) -> Result<Command<'a>, AllocError>
     ensures { IfOk result (λ command. IsCommand command console_app) }
 {
     Command::new(alloc, "console").arg(Arg::new(alloc, CATALOG))
 }
 
-// Returns the command `live`. It needs a catalog and steps.
+/// Returns klpsim's command `live`. The command needs two arguments: the files of the catalog and of the steps.
 fn live_command<'a>(alloc: Global) -> Result<Command<'a>, AllocError>
     ensures { IfOk result (λ command. IsCommand command live_app) }
 {
@@ -44,7 +44,8 @@ fn live_command<'a>(alloc: Global) -> Result<Command<'a>, AllocError>
         .arg(Arg::new(alloc, STEPS).required(true))
 }
 
-// Returns all of klpsim's commands.
+/// Returns klpsim's command line, with its subcommands `console` and `live`. The command line begins with the
+/// subcommand, not with the program's name.
 fn command<'a>(alloc: Global) -> Result<Command<'a>, AllocError>
     ensures { IfOk result (λ command. IsCommand command klpsim_app) }
 {
@@ -55,7 +56,8 @@ fn command<'a>(alloc: Global) -> Result<Command<'a>, AllocError>
     command.subcommand(live_command(alloc)?)
 }
 
-// Returns the path that was given for the argument of this name. Returns `None` if no path was given.
+/// Returns the path that was given for the argument of this name. Returns `None` if no path was given, and `Err` if
+/// memory runs out.
 fn path_of(
     alloc: Global,
     matches: &ArgMatches<'_>,
@@ -69,7 +71,8 @@ fn path_of(
     }
 }
 
-// Returns what the matched arguments ask for. Returns `None` if a file is missing.
+/// Returns what the matched arguments ask for: without a subcommand, the console with the built-in catalog. Returns
+/// `None` if a file of `live` is missing, and `Err` if memory runs out.
 fn wanted(alloc: Global, matches: &ArgMatches<'_>) -> Result<Option<Wanted>, AllocError>
     ensures { IfOk result (λ words. option_map meaning words ≡ asked_in (subcommand_rows_of matches.now)) }
 {
@@ -86,7 +89,8 @@ fn wanted(alloc: Global, matches: &ArgMatches<'_>) -> Result<Option<Wanted>, All
     }
 }
 
-// Returns the arguments of the program. Returns `Err` if an argument isn't text, or if memory runs out.
+/// Returns the arguments that the process was given, without its name. Returns `Err` if an argument isn't text, or if
+/// memory runs out.
 fn words_given<R: Env + AllocGlobal>(rt: &R) -> io::Result<Vec<String>> {
     let mut given = Vec::new(rt.alloc());
     for word in env::args(rt)?.skip(1) {
@@ -95,8 +99,9 @@ fn words_given<R: Env + AllocGlobal>(rt: &R) -> io::Result<Vec<String>> {
     Ok(given)
 }
 
-/// Returns klpsim's arguments. If an argument isn't text, or if memory runs out, writes a line to `err` and returns the
-/// exit status as `Err`. The exit status is 2 for a refused argument, and 1 for lack of memory.
+/// Returns the arguments that klpsim was given, for `parse_arguments` to read. If an argument isn't text, or if memory
+/// runs out, writes a line to `err` and returns the exit status as `Err`. The exit status is 2 for an argument that
+/// isn't text, and 1 for lack of memory.
 pub fn program_arguments<R: Env + AllocGlobal, W: Write>(
     rt: &R,
     err: &mut W,
@@ -112,7 +117,8 @@ pub fn program_arguments<R: Env + AllocGlobal, W: Write>(
     }
 }
 
-// Reads klpsim's arguments. Returns `Err(None)` if they are refused, and `Err` with a fault if memory runs out.
+/// Returns what klpsim's arguments ask for. Returns `Err(None)` if they are refused, and `Err` with a fault if memory
+/// runs out.
 fn parse(alloc: Global, given: &[String]) -> Result<Wanted, Option<Fault>>
     ensures meant { IfOk result (λ words. asked_of (map string_bytes given.now) ≡ Some (meaning words)) }
     ensures refused { IfErr result (λ fault. fault ≡ None → asked_of (map string_bytes given.now) ≡ None) }
@@ -129,8 +135,9 @@ fn parse(alloc: Global, given: &[String]) -> Result<Wanted, Option<Fault>>
     }
 }
 
-/// Reads klpsim's arguments. If they are refused, or if memory runs out, writes a line to `err` and returns the exit
-/// status as `Err`. The exit status is 2 for refused arguments, and 1 for lack of memory. `--help` is refused too.
+/// Returns what klpsim's arguments ask for. If they are refused, or if memory runs out, writes a line to `err` and
+/// returns the exit status as `Err`. The exit status is 2 for refused arguments, and 1 for lack of memory. `--help` is
+/// refused too.
 pub fn parse_arguments<W: Write>(alloc: Global, given: &[String], err: &mut W) -> Result<Wanted, u8>
     ensures meant { IfOk result (λ words. asked_of (map string_bytes given.now) ≡ Some (meaning words)) }
     ensures refused { IfErr result (λ status. status ≡ 2 → asked_of (map string_bytes given.now) ≡ None) }
@@ -150,7 +157,7 @@ pub fn report_fault<W: Write>(fault: Fault, err: &mut W) -> u8
     report_fault_as(NAME, fault, err)
 }
 
-/// Writes to `err` that klpsim's arguments are refused, by the one word that scripts wait for. Returns the exit status,
+/// Writes the line `klpsim: usage` to `err`, which says that klpsim's arguments are refused. Returns the exit status,
 /// 2.
 pub fn report_usage<W: Write>(err: &mut W) -> u8
     ensures { result ≡ 2 }

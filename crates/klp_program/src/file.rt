@@ -8,8 +8,8 @@ use std::fs;
 use std::io::ErrorKind;
 use std::rt::Files;
 
-/// Returns the whole text of the file at this path. If there is no path, returns the built-in catalog. Returns `Err` if
-/// the file can't be read, or if memory runs out. No clause can say what a file contains.
+/// Returns the catalog's text: that of the file at this path, or the built-in catalog if there is no path. Returns
+/// `Err` if the file can't be read, or if memory runs out. No clause can say what a file contains.
 pub fn catalog_in<R: Files + AllocGlobal>(rt: &R, path: Option<String>) -> Result<Vec<u8>, Fault>
     ensures built_in { path ≡ None → IfOk result (λ catalog. catalog.items ≡ CATALOG.now) }
     ensures fault { IfErr result (λ fault. (fault ≡ NoMemory) ⊎ ((fault ≡ CannotRead) × IsSome path)) }
@@ -30,7 +30,8 @@ pub fn bytes_in<R: Files + AllocGlobal>(rt: &R, path: &str) -> Result<Vec<u8>, F
     })
 }
 
-/// Returns the bytes of two files. Returns `Err` if a file can't be read, or if memory runs out.
+/// Returns the bytes of two files, in the order of the paths. Returns `Err` if a file can't be read, or if memory runs
+/// out.
 pub fn bytes_in_both<R: Files + AllocGlobal>(
     rt: &R,
     first: &str,

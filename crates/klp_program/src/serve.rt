@@ -27,6 +27,8 @@ impl<R: Source, W: Sink> ManagerUse for Session<'_, R, W> {
         × ServesBy booted (record { supply = R.supply before.reader.now; written = W.written before.writer.now })
         (record { supply = R.supply after.reader.now; written = W.written after.writer.now }) ended };
 
+    /// Serves the console with the manager until the input ends. Returns `Err` if the input or the output fails, or if
+    /// a line is too long.
     fn run(&mut self, _alloc: Global, manager: &mut Manager) -> Result<Served, Fault> {
         match serve(self.reader, self.writer, manager) {
             Ok(served) => Ok(served),
@@ -50,8 +52,8 @@ pub fn over_text<R: Source, W: Sink>(
     klp_boot::over_text(alloc, catalog, &mut session)?
 }
 
-// Serves the console between two streams of std, and returns the streams. `reads` and `writes` are tokens, by which the
-// proof knows all that was read and written.
+/// Serves the console with a catalog's text between two streams of std, and returns the streams with the result. For
+/// the proof only: `reads` and `writes` are tokens by which contracts know all that was read and written.
 fn over_std<R: Read, W: Write, L: Ledger, M: Ledger>(
     alloc: Global,
     catalog: &[u8],
@@ -71,9 +73,9 @@ fn over_std<R: Read, W: Write, L: Ledger, M: Ledger>(
     (ended, reader.into_inner(), writer.into_inner())
 }
 
-/// Serves the console with a catalog's text until the input ends. Returns the exit status and both streams, so that
-/// contracts know what the streams have afterwards, if they knew it before. The status is 0, or 1 after a fault. After a
-/// fault, writes a line about the fault to `err`. If the catalog has a fault, reads nothing and writes nothing to `out`.
+/// Serves the console with a catalog's text until the input ends. Returns the exit status: 0, or 1 after a fault.
+/// Writes a line about the fault to `err`. If the catalog has a fault, reads nothing and writes nothing to `out`.
+/// Returns both streams too, so that contracts know what the streams have afterwards, if they knew it before.
 pub fn console<R: Read, W: Write, E: Write>(
     alloc: Global,
     catalog: &[u8],
@@ -84,6 +86,7 @@ pub fn console<R: Read, W: Write, E: Write>(
     ensures { Exits catalog.now (record { left = R.remaining input; taken = W.contents out })
         (record { left = R.remaining result.1; taken = W.contents result.2 }) result.0 }
 {
+    // For the proof only: a reader needs a blank with three parts, and a writer one with two.
     let reads = Blank::new(3);
     let writes = Blank::new(2);
     let (ended, input, out) = over_std::<R, W, Brand, Brand>(

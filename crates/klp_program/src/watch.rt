@@ -22,7 +22,8 @@ const HONEST: u8 = 0;
 
 const REFUTED: u8 = 3;
 
-/// Returns how many items of each kind there are. `refused` are the events among them that the rules refuse.
+/// Returns how many items of each kind there are. Stores `refused` with the counts: the events among the items that the
+/// rules refuse, and whose answer the trace doesn't have.
 fn counted(items: &[Observed], refused: RefusedEvents) -> Counts
     ensures { result ≡ counted items.now refused }
 {
@@ -48,7 +49,8 @@ fn counted(items: &[Observed], refused: RefusedEvents) -> Counts
     counts
 }
 
-/// Returns the verdict that `differs` gives: the trace breaks a premise, or its kernel differs from the rules.
+/// Returns the verdict on a trace whose comparison ended at an item, `differs`: `Dishonest` if the item breaks a
+/// premise, and `Differs` if the kernel differs from the rules there.
 fn reported(differs: Differs) -> Verdict
     ensures { result ≡ reported differs }
 {
@@ -61,7 +63,7 @@ fn reported(differs: Differs) -> Verdict
     }
 }
 
-/// Returns the verdict on `items`. `ended` is the result of comparing the items with the rules.
+/// Returns the verdict on `items`. `ended` is what [`compare_whole`] returned for them.
 fn verdict_of(ended: Result<RefusedEvents, Differs>, items: &[Observed]) -> Verdict
     ensures { MatchResult ended (λ refused. result ≡ Honest (counted items.now refused))
         (λ differs. result ≡ reported differs) }
@@ -83,6 +85,8 @@ impl ManagerUse for Watched<'_> {
 
     ghost comes_to = { λ before _ booted ended. WatchesBy booted before.trace.now ended };
 
+    /// Reads the trace with the names of the manager's catalog, compares it with the manager, and returns the verdict.
+    /// Returns `Err` if the trace has a fault, or if memory runs out.
     fn run(&mut self, alloc: Global, manager: &mut Manager) -> Result<Verdict, Fault> {
         let trace = Trace::read(alloc, self.trace, manager)?;
         let ended = compare_whole(manager, &trace.items);
@@ -100,7 +104,7 @@ pub fn watch_over_text(alloc: Global, catalog: &[u8], trace: &[u8]) -> Result<Ve
     over_text(alloc, catalog, &mut Watched { trace })?
 }
 
-/// Returns the word for a premise that is broken.
+/// Returns the word by which klpwatch prints a premise that is broken.
 fn name_of(cause: Cause) -> &'static str
     ensures { result.now ≡ cause_text cause }
 {
@@ -116,7 +120,8 @@ fn name_of(cause: Cause) -> &'static str
     }
 }
 
-/// Returns the word for a difference between the kernel and the rules, or for a premise that is broken.
+/// Returns the word by which klpwatch prints a difference between the kernel and the rules, or a premise that is
+/// broken.
 fn name_of_difference(difference: Difference) -> &'static str
     ensures { result.now ≡ difference_text difference }
 {
@@ -130,7 +135,9 @@ fn name_of_difference(difference: Difference) -> &'static str
     }
 }
 
-/// Writes the verdict as one line. If answers or sights were compared, the line also says how many.
+/// Writes the verdict as one line. For an honest trace: `honest`, and how many events, calls and returns there are,
+/// then how many answers and sights were compared, if there are any. For another trace: the number and the fault of the
+/// item.
 fn print<W: Write>(verdict: Verdict, out: &mut W) -> io::Result<()>
     ensures { OnOk result (Appends (W.contents out.old) (W.contents out.new) (verdict_text verdict)) }
 {
@@ -166,8 +173,8 @@ pub fn status_of(verdict: Verdict) -> u8
     }
 }
 
-/// Judges a trace, and writes the verdict to `out` as one line. Returns `Err` if there is no verdict, or if the line
-/// can't be written.
+/// Judges a trace over a catalog's text, writes the verdict to `out` as one line, and returns it. Returns `Err` if
+/// there is no verdict, or if the line can't be written.
 pub fn watch_trace<W: Write>(
     alloc: Global,
     catalog: &[u8],

@@ -20,14 +20,16 @@ use klp_modules::Modules;
 use klp_names::Names;
 use klp_timeline::{Said, Sentence, Sleepers, Stay, View, is_lasting, latest_course, outdated};
 
-/// How many sentences about sleepers the end of a run shows at most.
+/// How many sentences about sleepers the list shows at most. The list counts the tasks of the other sentences.
 const MAX_HOLDERS: usize = 8;
 
-/// Adds the function that tasks sleep in, and why it matters that they sleep there.
+/// Adds the version that tasks sleep in, and why that matters: it blocks the transition, or isn't called now. A line
+/// break follows.
 fn add_reason(sheet: &mut Sheet, catalog: &Catalog, modules: &Modules, stay: &Stay)
     requires { catalog.now.names ≡ modules.now.names }
     ensures { Adds sheet.old sheet.new (reason_text catalog.now stay.now) }
 {
+    // For the proof only: texts that are added one after the other add up.
     klp_markup::laws::what_is_added_adds_up();
     match stay {
         Stay::Holds(moving, version) => {
@@ -45,8 +47,8 @@ fn add_reason(sheet: &mut Sheet, catalog: &Catalog, modules: &Modules, stay: &St
     }
 }
 
-/// Adds the tasks of one sentence that still sleep at the end. Says since which line and time they sleep, and in which
-/// function.
+/// Adds a list item on tasks in the same stay, which lasts until the end of the run: which tasks, since which line and
+/// time, in which version, and why that matters. The stay begins with `line`.
 fn add_sleepers(
     sheet: &mut Sheet,
     names: &Names,
@@ -58,6 +60,7 @@ fn add_sleepers(
     requires { catalog.now.names ≡ modules.now.names }
     ensures { Adds sheet.old sheet.new (sleeper_text names.now catalog.now line (Slept sleepers.now)) }
 {
+    // For the proof only: texts that are added one after the other add up.
     klp_markup::laws::what_is_added_adds_up();
     let tasks = sleepers.tasks.as_slice();
     sheet.markup("<li class=holds><b>");
@@ -69,7 +72,8 @@ fn add_sleepers(
     add_reason(sheet, catalog, modules, &sleepers.stay);
 }
 
-/// Adds the tasks of a sentence about sleepers. Adds nothing for a sentence about what a line did.
+/// Adds a list item for a sentence on a stay, which must last until the end of the run. Adds nothing for a sentence on
+/// a fact.
 fn add_sleeper(
     sheet: &mut Sheet,
     names: &Names,
@@ -80,6 +84,7 @@ fn add_sleeper(
     requires { catalog.now.names ≡ modules.now.names }
     ensures { Adds sheet.old sheet.new (sleeper_text names.now catalog.now sentence.now.line sentence.now.said) }
 {
+    // For the proof only: texts that are added one after the other add up.
     klp_markup::laws::what_is_added_adds_up();
     match &sentence.said {
         Said::Did(_) => {}
@@ -89,7 +94,7 @@ fn add_sleeper(
     }
 }
 
-/// Returns the number of sleeping tasks that the sentence names.
+/// Returns the number of tasks in a sentence on a stay. Returns 0 for a sentence on a fact.
 fn tasks_of(sentence: &Sentence) -> usize
     ensures { result ≡ tasks_of sentence.now }
 {
@@ -99,15 +104,15 @@ fn tasks_of(sentence: &Sentence) -> usize
     }
 }
 
-/// Whether the end of the run shows this sentence. It must last to the end, and fewer than [`MAX_HOLDERS`] sentences
-/// were shown before.
+/// Whether the list has an item for this sentence: its stay lasts until the end of the run, and the list isn't full.
+/// `room` is how many more items the list takes.
 fn fits_in_list(room: usize, sentence: &Sentence) -> bool
     ensures { result ≡ (nat_lt 0 room && is_lasting sentence.now) }
 {
     room > 0 && is_lasting(sentence)
 }
 
-/// Adds the first [`MAX_HOLDERS`] of the sentences that last to the end.
+/// Adds a list item for each of the first [`MAX_HOLDERS`] sentences whose stay lasts until the end of the run.
 fn add_lasting(
     sheet: &mut Sheet,
     names: &Names,
@@ -118,6 +123,7 @@ fn add_lasting(
     requires { catalog.now.names ≡ modules.now.names }
     ensures { Adds sheet.old sheet.new (sleepers_text names.now catalog.now (first_lasting MAX_HOLDERS sentences.now)) }
 {
+    // For the proof only: texts that are added one after the other add up.
     klp_markup::laws::what_is_added_adds_up();
     let mut room = MAX_HOLDERS;
     for sentence in sentences {
@@ -128,7 +134,8 @@ fn add_lasting(
     }
 }
 
-/// Returns how many sleepers aren't named by any of the first [`MAX_HOLDERS`] sentences that last to the end.
+/// Returns how many of the `sleepers` tasks have no list item: the tasks beyond the first [`MAX_HOLDERS`] sentences
+/// whose stay lasts until the end of the run. `sentences` are all sentences of the run.
 fn others(sleepers: usize, sentences: &[Sentence]) -> usize
     ensures { result ≡ sleepers - sum_by tasks_of (first_lasting MAX_HOLDERS sentences.now) }
 {
@@ -143,10 +150,11 @@ fn others(sleepers: usize, sentences: &[Sentence]) -> usize
     left
 }
 
-/// Adds the number of sleepers that aren't named here. Adds nothing if all sleepers are named.
+/// Adds a list item with the number of sleepers that have no item. Adds nothing if `count` is 0.
 fn add_others(sheet: &mut Sheet, count: usize)
     ensures { Adds sheet.old sheet.new (others_text count) }
 {
+    // For the proof only: texts that are added one after the other add up.
     klp_markup::laws::what_is_added_adds_up();
     if count > 0 {
         add_counted(
@@ -159,7 +167,7 @@ fn add_others(sheet: &mut Sheet, count: usize)
     }
 }
 
-/// Returns how many tasks hold the transition up, or sleep in code that isn't called now.
+/// Returns how many tasks are in a stay: they hold the transition up, or sleep in code that isn't called now.
 fn sleeping(stays: &[Option<Stay>]) -> usize
     ensures { result ≡ count_by is_some stays.now }
 {
@@ -172,8 +180,9 @@ fn sleeping(stays: &[Option<Stay>]) -> usize
     count
 }
 
-/// Adds the tasks that hold the transition up, or sleep in code that isn't called now. Of the sentences that last to
-/// the end, the tasks of the first [`MAX_HOLDERS`] are named. Then comes the number of other tasks.
+/// Adds the list items on tasks that hold the transition up, or sleep in code that isn't called now. Each of the first
+/// [`MAX_HOLDERS`] sentences whose stay lasts until the end of the run has an item. One more item counts the tasks of
+/// the others.
 fn add_all_sleepers(
     sheet: &mut Sheet,
     names: &Names,
@@ -185,16 +194,17 @@ fn add_all_sleepers(
     requires { catalog.now.names ≡ modules.now.names }
     ensures { Adds sheet.old sheet.new (all_sleepers_text names.now catalog.now stays.now sentences.now) }
 {
+    // For the proof only: texts that are added one after the other add up.
     klp_markup::laws::what_is_added_adds_up();
     add_lasting(sheet, names, catalog, modules, sentences);
     add_others(sheet, others(sleeping(stays), sentences));
 }
 
-/// Adds the sentence that nothing was done, if all lines were refused. `refused` is the number of lines if all were
-/// refused, otherwise `None`.
+/// Adds that nothing was done, if every line was refused. `refused` is then the number of lines, and otherwise `None`.
 fn add_refused(sheet: &mut Sheet, refused: &Option<u64>)
     ensures { Adds sheet.old sheet.new (refused_text refused.now) }
 {
+    // For the proof only: texts that are added one after the other add up.
     klp_markup::laws::what_is_added_adds_up();
     match *refused {
         None => {}
@@ -208,8 +218,8 @@ fn add_refused(sheet: &mut Sheet, refused: &Option<u64>)
     }
 }
 
-/// Adds the heading: the transition under way or the enabled patches, and how many tasks sleep in code that isn't
-/// called now.
+/// Adds the heading. It has the transition under way, or else the enabled patches, and how many tasks sleep in code
+/// that isn't called now. If every line was refused, "Nothing was done" comes first.
 #[tactic(auto, unfolding(crate::specs::End::first_text))]
 fn add_first(
     sheet: &mut Sheet,
@@ -221,6 +231,7 @@ fn add_first(
 )
     ensures { Adds sheet.old sheet.new (first_text names.now catalog.now view.now sentences.now refused.now) }
 {
+    // For the proof only: texts that are added one after the other add up.
     klp_markup::laws::what_is_added_adds_up();
     let course = latest_course(sentences);
     let sleepers = outdated(&view.stays);
@@ -232,12 +243,13 @@ fn add_first(
     sheet.markup("</h1>");
 }
 
-/// Adds how a run ends. If a transition is under way, its direction and its beginning are added first. If no transition
-/// is under way, the enabled patches are added first. After that, the tasks are added that hold the transition up, or
-/// sleep in code that isn't called now. At the end, the tasks are added that merely lag.
+/// Adds how a run ends: a heading and a list. The heading has the transition under way, or else the enabled patches,
+/// and "Nothing was done" before that if every line was refused. The list has the tasks that hold the transition up or
+/// sleep in code that isn't called now, and then the tasks that merely lag. Of the sentences on the former it shows the
+/// first [`MAX_HOLDERS`], and counts the tasks of the others.
 ///
-/// `view` is the state after the last line, and `sentences` are all sentences of the run. If every line was refused,
-/// `refused` is the number of lines. The catalog must have been assembled over these modules.
+/// `view` is the state after the run's last line, and `sentences` are all sentences of the run. If every line was
+/// refused, `refused` is the number of lines. The catalog must have been assembled over these modules.
 pub fn add_end(
     sheet: &mut Sheet,
     names: &Names,
@@ -250,6 +262,7 @@ pub fn add_end(
     requires { catalog.now.names ≡ modules.now.names }
     ensures { Adds sheet.old sheet.new (end_text names.now catalog.now view.now sentences.now refused.now) }
 {
+    // For the proof only: texts that are added one after the other add up.
     klp_markup::laws::what_is_added_adds_up();
     add_first(sheet, names, catalog, view, sentences, refused);
     sheet.markup("<ul class=story>\n");

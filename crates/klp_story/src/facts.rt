@@ -14,7 +14,7 @@ use klp_modules::Modules;
 use klp_timeline::Fact;
 use klp_types::{ObjId, PatchId, Transition};
 
-/// Returns the words for the start of a transition to this target.
+/// Returns what follows a patch's name when its transition started. `target` is true for patching.
 fn starting(target: bool) -> &'static str
     ensures { result.now ≡ starting target }
 {
@@ -25,7 +25,7 @@ fn starting(target: bool) -> &'static str
     }
 }
 
-/// Returns the words for a transition that is reversed to this target.
+/// Returns what follows a patch's name when its transition was reversed. `target` is the new target, true for patching.
 fn reversing(target: bool) -> &'static str
     ensures { result.now ≡ reversing target }
 {
@@ -36,7 +36,7 @@ fn reversing(target: bool) -> &'static str
     }
 }
 
-/// Returns the words for the completion of a transition to this target.
+/// Returns what follows a patch's name when its transition completed. `target` is true for patching.
 fn completing(target: bool) -> &'static str
     ensures { result.now ≡ completing target }
 {
@@ -47,20 +47,22 @@ fn completing(target: bool) -> &'static str
     }
 }
 
-/// Adds a sentence whose subject is a patch: its name, and then `what`.
+/// Adds a patch's name, and then `what`: they begin a sentence, or are all of it.
 fn add_of_patch(sheet: &mut Sheet, catalog: &Catalog, patch: PatchId, what: &'static str)
     ensures { Adds sheet.old sheet.new (quoted_text catalog.now patch ++ what.now) }
 {
+    // For the proof only: texts that are added one after the other add up.
     klp_markup::laws::what_is_added_adds_up();
     add_patch(sheet, catalog, patch);
     sheet.markup(what);
 }
 
-/// Adds what a completed transition guarantees. `sleepers` is the number of tasks that still sleep in code that isn't
-/// called any more.
+/// Adds the end of the sentence on a completed transition: what the completion guarantees if `sleepers` is 0, otherwise
+/// how many tasks slept on in code that wasn't called any more. `sleepers` is the number of such tasks.
 fn add_meaning(sheet: &mut Sheet, target: bool, sleepers: usize)
     ensures { Adds sheet.old sheet.new (meaning target sleepers) }
 {
+    // For the proof only: texts that are added one after the other add up.
     klp_markup::laws::what_is_added_adds_up();
     match (sleepers, target) {
         (0, true) => sheet.markup(": each task calls its functions."),
@@ -77,20 +79,24 @@ fn add_meaning(sheet: &mut Sheet, target: bool, sleepers: usize)
     }
 }
 
-/// Adds the sentence that a transition completed, and what a completed transition guarantees.
+/// Adds the sentence that a transition completed, and what that guarantees. `sleepers` is the number of tasks that
+/// sleep on in code that isn't called any more.
 fn add_complete(sheet: &mut Sheet, catalog: &Catalog, moved: &Transition, sleepers: usize)
     ensures { Adds sheet.old sheet.new (fact_text catalog.now (Fact.Completes moved.now sleepers)) }
 {
+    // For the proof only: texts that are added one after the other add up.
     klp_markup::laws::what_is_added_adds_up();
     add_of_patch(sheet, catalog, moved.patch, completing(moved.target));
     add_meaning(sheet, moved.target, sleepers);
 }
 
-/// Adds the sentence that a patch's pre-patch callback refused. It names the object and the status.
+/// Adds the sentence that a patch's pre-patch callback for an object failed, so that the event had no other effect.
+/// `object` is the object's name, and `status` is what the callback returned.
 fn add_pre_failed(sheet: &mut Sheet, catalog: &Catalog, patch: PatchId, object: &[u8], status: i64)
     ensures { Adds sheet.old sheet.new (quoted_text catalog.now patch ++ codes ": its pre-patch callback for "
         ++ name_text object.now ++ codes " answered " ++ signed_decimal status ++ codes ", so nothing came of it.") }
 {
+    // For the proof only: texts that are added one after the other add up.
     klp_markup::laws::what_is_added_adds_up();
     add_of_patch(sheet, catalog, patch, ": its pre-patch callback for ");
     sheet.name(object);
@@ -99,20 +105,22 @@ fn add_pre_failed(sheet: &mut Sheet, catalog: &Catalog, patch: PatchId, object: 
     sheet.markup(", so nothing came of it.");
 }
 
-/// Adds a sentence whose subject is an object: its name, and then `what`.
+/// Adds an object's name, and then `what`: together they are a sentence.
 fn add_of_object(sheet: &mut Sheet, modules: &Modules, object: ObjId, what: &'static str)
     ensures { Adds sheet.old sheet.new (name_text (object_name modules.now.names object) ++ what.now) }
 {
+    // For the proof only: texts that are added one after the other add up.
     klp_markup::laws::what_is_added_adds_up();
     sheet.name(object_name(modules, object));
     sheet.markup(what);
 }
 
-/// Adds the sentence that a rewind undid events. The sentence says how many events were undone, and to which mark.
-/// `from` is the number of events before the rewind, `to` the number after it.
+/// Adds the sentence that a line undid events: how many, and to which mark. `from` is the number of events in the
+/// journal before the line, and `to` the number after it, which is the mark.
 fn add_undone(sheet: &mut Sheet, from: u32, to: u32)
     ensures { Adds sheet.old sheet.new (undone_text (from - to) ++ decimal to ++ codes ".") }
 {
+    // For the proof only: texts that are added one after the other add up.
     klp_markup::laws::what_is_added_adds_up();
     let count = from.saturating_sub(to);
     add_counted(
@@ -126,8 +134,8 @@ fn add_undone(sheet: &mut Sheet, from: u32, to: u32)
     sheet.markup(".");
 }
 
-/// Adds the sentence on what a line did. If the kernel logs a message for what happened, the sentence has the words of
-/// that message.
+/// Adds the sentence on a fact, which is something that a line did. If a transition starts, is reversed or completes,
+/// the sentence begins with the words of the kernel's log. The catalog must have been assembled over these modules.
 pub(crate) fn add_fact(sheet: &mut Sheet, catalog: &Catalog, modules: &Modules, fact: &Fact)
     requires { catalog.now.names ≡ modules.now.names }
     ensures { Adds sheet.old sheet.new (fact_text catalog.now fact.now) }

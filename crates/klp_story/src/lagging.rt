@@ -10,7 +10,7 @@ use klp_names::Names;
 use klp_timeline::lagging;
 use klp_types::{MAX_TASKS, Mode, TaskId};
 
-/// Returns where these tasks are, and when each will switch. `count` chooses singular or plural.
+/// Returns the words for `count` tasks that lag in this mode: where they are, and when they will switch.
 fn switching(mode: Mode, count: usize) -> &'static str
     ensures { result.now ≡ switching mode count }
 {
@@ -33,10 +33,12 @@ fn switching(mode: Mode, count: usize) -> &'static str
     }
 }
 
-/// Adds a list item with the names of the tasks that lag in this mode. Adds nothing if no task does.
+/// Adds a list item on tasks that lag in this mode: which they are, where they are, and when they will switch. Adds
+/// nothing if `tasks` is empty.
 fn add_item(sheet: &mut Sheet, names: &Names, mode: Mode, tasks: &[TaskId])
     ensures { Adds sheet.old sheet.new (item_text names.now mode tasks.now) }
 {
+    // For the proof only: texts that are added one after the other add up.
     klp_markup::laws::what_is_added_adds_up();
     if tasks.is_empty() {
         return;
@@ -47,17 +49,20 @@ fn add_item(sheet: &mut Sheet, names: &Names, mode: Mode, tasks: &[TaskId])
     sheet.markup(switching(mode, tasks.len()));
 }
 
-/// Adds a list item for the tasks that lag in this mode, if there are any.
+/// Adds a list item on the tasks that lag in this mode without holding the transition up. Adds nothing if there is no
+/// such task. `waits` has, by task number, the mode of each task that lags so.
 fn add_lagging(sheet: &mut Sheet, names: &Names, mode: Mode, waits: &[Option<Mode>; MAX_TASKS])
     ensures { Adds sheet.old sheet.new (lagging_text names.now mode waits.now) }
 {
     add_item(sheet, names, mode, lagging(mode, waits).as_slice());
 }
 
-/// Adds the tasks that lag without holding the transition up, grouped by their mode.
+/// Adds a list item for each mode in which tasks lag without holding the transition up. `waits` has, by task number,
+/// the mode of each task that lags so.
 pub(crate) fn add_all_lagging(sheet: &mut Sheet, names: &Names, waits: &[Option<Mode>; MAX_TASKS])
     ensures { Adds sheet.old sheet.new (all_lagging_text names.now waits.now) }
 {
+    // For the proof only: texts that are added one after the other add up.
     klp_markup::laws::what_is_added_adds_up();
     add_lagging(sheet, names, Mode::User, waits);
     add_lagging(sheet, names, Mode::Kernel, waits);

@@ -18,19 +18,22 @@ use klp_names::Names;
 use klp_timeline::{Sleepers, Stay};
 use klp_types::{TaskId, Transition, Version};
 
-/// Adds the text `before`, and then a link to a line.
+/// Adds the text `before`, and then a link to the row of a line. The link's text is `word` and the line's number.
 pub(crate) fn add_linked(sheet: &mut Sheet, before: &'static str, word: &'static str, line: u64)
     ensures { Adds sheet.old sheet.new (before.now ++ link_text word.now line) }
 {
+    // For the proof only: texts that are added one after the other add up.
     klp_markup::laws::what_is_added_adds_up();
     sheet.markup(before);
     add_link(sheet, word, line);
 }
 
-/// Begins a list item with the lines of a stay that ended. `to` is the last line of the stay.
+/// Begins a list item on a stay that ended: adds `Line 7` or `Lines 7 to 12`, of which the first number is a link.
+/// `line` is the stay's first line, and `to` the last.
 fn add_lines(sheet: &mut Sheet, line: u64, to: u64)
     ensures { Adds sheet.old sheet.new (lines_text line to) }
 {
+    // For the proof only: texts that are added one after the other add up.
     klp_markup::laws::what_is_added_adds_up();
     if to == line {
         add_linked(sheet, "<li>", "Line ", line);
@@ -41,11 +44,12 @@ fn add_lines(sheet: &mut Sheet, line: u64, to: u64)
     }
 }
 
-/// Begins a list item with the lines of a stay, when the stay began and how long it lasted. If `to` is `None`, the stay
-/// still lasts at the end of the run.
+/// Begins a list item on a stay: adds its lines, when it began and how long it lasted. `line` is the stay's first line,
+/// and `to` the last. If `to` is `None`, the stay still lasts at the end of the run.
 fn add_span(sheet: &mut Sheet, names: &Names, line: u64, to: &Option<u64>)
     ensures { Adds sheet.old sheet.new (span_text names.now line to.now) }
 {
+    // For the proof only: texts that are added one after the other add up.
     klp_markup::laws::what_is_added_adds_up();
     match *to {
         None => {
@@ -61,29 +65,32 @@ fn add_span(sheet: &mut Sheet, names: &Names, line: u64, to: &Option<u64>)
     }
 }
 
-/// Adds an empty element as an anchor. In the drawing, the label of this stay links to the anchor.
+/// Adds an anchor of a task's stay: an empty element, to which the stay's label in the drawing links. The stay begins
+/// with `line`.
 #[tactic(auto, unfolding(crate::specs::Sentences::anchor_text))]
 fn add_anchor(sheet: &mut Sheet, line: u64, task: TaskId)
     ensures { Adds sheet.old sheet.new (anchor_text line task) }
 {
+    // For the proof only: texts that are added one after the other add up.
     klp_markup::laws::what_is_added_adds_up();
     add_number(sheet, "<i id=stay-", line, "-");
     sheet.number(u64::from(task.0));
     sheet.markup("></i>");
 }
 
-/// Adds an anchor of the stay for each of these tasks.
+/// Adds an anchor for the stay of each of these tasks. The stays begin with `line`.
 fn add_anchors(sheet: &mut Sheet, line: u64, tasks: &[TaskId])
     ensures { Adds sheet.old sheet.new (anchors_text line tasks.now) }
 {
+    // For the proof only: texts that are added one after the other add up.
     klp_markup::laws::what_is_added_adds_up();
     for task in tasks {
         add_anchor(sheet, line, *task);
     }
 }
 
-/// Returns the verb for tasks that hold a transition up. If `to` is `None`, the tasks still hold it up at the end of
-/// the run.
+/// Returns the verb for `count` tasks that hold a transition up. The verb is in the present if they still do at the end
+/// of the run (`to` is `None`), otherwise in the past.
 fn holding(to: &Option<u64>, count: usize) -> &'static str
     ensures { result.now ≡ holding to.now count }
 {
@@ -93,8 +100,8 @@ fn holding(to: &Option<u64>, count: usize) -> &'static str
     }
 }
 
-/// Returns the verb for tasks that sleep in code that isn't called. If `to` is `None`, the tasks still sleep there at
-/// the end of the run.
+/// Returns the verb for `count` tasks that sleep in code that isn't called. The verb is in the present if they still do
+/// at the end of the run (`to` is `None`), otherwise in the past.
 fn sleeping(to: &Option<u64>, count: usize) -> &'static str
     ensures { result.now ≡ sleeping to.now count }
 {
@@ -104,8 +111,8 @@ fn sleeping(to: &Option<u64>, count: usize) -> &'static str
     }
 }
 
-/// Returns what it means that a task sleeps in code that isn't called. If `to` is `None`, the task still sleeps there
-/// at the end of the run.
+/// Returns what ends the sentence on tasks that sleep in code that isn't called. If they still do at the end of the run
+/// (`to` is `None`), it warns of unloading the code.
 fn warning(to: &Option<u64>) -> &'static str
     ensures { result.now ≡ warning to.now }
 {
@@ -115,8 +122,8 @@ fn warning(to: &Option<u64>) -> &'static str
     }
 }
 
-/// Adds that tasks hold a patch's transition up, in which function they sleep, and why this function blocks the
-/// transition. `verb` is `holds`, `hold` or `held`.
+/// Adds the rest of a sentence whose subject, the tasks, is added already: they hold a patch's transition up, asleep in
+/// `version`, and why this version blocks the transition. `verb` is `holds`, `hold` or `held`, between spaces.
 fn add_hold(
     sheet: &mut Sheet,
     catalog: &Catalog,
@@ -130,6 +137,7 @@ fn add_hold(
         ++ codes " up, asleep in " ++ version_text catalog.now version ++ codes ", "
         ++ why moving.now.target version ++ codes ".") }
 {
+    // For the proof only: texts that are added one after the other add up.
     klp_markup::laws::what_is_added_adds_up();
     sheet.markup(verb);
     add_patch(sheet, catalog, moving.patch);
@@ -140,8 +148,8 @@ fn add_hold(
     sheet.markup(".");
 }
 
-/// Adds what the sleepers of a sentence do: they hold a transition up, or sleep in code that isn't called. `count` is
-/// the number of sleepers.
+/// Adds the rest of a sentence whose subject, `count` sleepers, is added already: they hold a transition up, or sleep
+/// in code that isn't called.
 fn add_stay(
     sheet: &mut Sheet,
     catalog: &Catalog,
@@ -152,6 +160,7 @@ fn add_stay(
     requires { catalog.now.names ≡ modules.now.names }
     ensures { Adds sheet.old sheet.new (stay_text catalog.now sleepers.now.stay sleepers.now.to count) }
 {
+    // For the proof only: texts that are added one after the other add up.
     klp_markup::laws::what_is_added_adds_up();
     let to = &sleepers.to;
     match &sleepers.stay {
@@ -167,7 +176,8 @@ fn add_stay(
     }
 }
 
-/// Adds a sentence about sleepers. `line` is the line with which their stay begins.
+/// Adds a list item on tasks in the same stay: its lines and times, the tasks, and what they do. The stay begins with
+/// `line`. The catalog must have been assembled over these modules.
 pub(crate) fn add_sleepers(
     sheet: &mut Sheet,
     names: &Names,
@@ -179,6 +189,7 @@ pub(crate) fn add_sleepers(
     requires { catalog.now.names ≡ modules.now.names }
     ensures { Adds sheet.old sheet.new (said_text names.now catalog.now line (Slept sleepers.now)) }
 {
+    // For the proof only: texts that are added one after the other add up.
     klp_markup::laws::what_is_added_adds_up();
     let tasks = sleepers.tasks.as_slice();
     add_span(sheet, names, line, &sleepers.to);

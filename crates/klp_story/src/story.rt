@@ -15,7 +15,7 @@ use klp_modules::Modules;
 use klp_names::Names;
 use klp_timeline::{Fact, Said, Sentence, excess, is_left_out, left_out};
 
-/// Adds a list item for what a line did.
+/// Adds a list item on a fact: `line`, the line's time if it is known, and the sentence on what the line did.
 fn add_did(
     sheet: &mut Sheet,
     names: &Names,
@@ -27,6 +27,7 @@ fn add_did(
     requires { catalog.now.names ≡ modules.now.names }
     ensures { Adds sheet.old sheet.new (said_text names.now catalog.now line (Did fact.now)) }
 {
+    // For the proof only: texts that are added one after the other add up.
     klp_markup::laws::what_is_added_adds_up();
     add_linked(sheet, "<li>", "Line ", line);
     add_line_time(sheet, names, line);
@@ -34,7 +35,7 @@ fn add_did(
     add_fact(sheet, catalog, modules, fact);
 }
 
-/// Adds a list item for a sentence.
+/// Adds a list item for a sentence, be it on a fact or on a stay of tasks.
 fn add_sentence(
     sheet: &mut Sheet,
     names: &Names,
@@ -45,6 +46,7 @@ fn add_sentence(
     requires { catalog.now.names ≡ modules.now.names }
     ensures { Adds sheet.old sheet.new (sentence_text names.now catalog.now sentence.now) }
 {
+    // For the proof only: texts that are added one after the other add up.
     klp_markup::laws::what_is_added_adds_up();
     let line = sentence.line;
     match &sentence.said {
@@ -54,7 +56,7 @@ fn add_sentence(
     sheet.markup("\n");
 }
 
-/// Adds a list item for each sentence that the page shows.
+/// Adds a list item for each of a run's sentences that the page shows.
 fn add_shown(
     sheet: &mut Sheet,
     names: &Names,
@@ -65,9 +67,11 @@ fn add_shown(
     requires { catalog.now.names ≡ modules.now.names }
     ensures { Adds sheet.old sheet.new (sentences_text names.now catalog.now (shown sentences.now)) }
 {
+    // For the proof only: texts that are added one after the other add up.
     klp_markup::laws::what_is_added_adds_up();
     let mut excess = excess(sentences);
     for sentence in sentences {
+        // `excess` is how many sentences must still be left out.
         if is_left_out(excess, sentence) {
             excess -= 1;
         } else {
@@ -76,10 +80,12 @@ fn add_shown(
     }
 }
 
-/// Adds how many of the oldest sentences the page leaves out. Adds nothing if the page shows all sentences.
+/// Adds a list item with the number of sentences that the page leaves out. Adds nothing if it leaves out none (`count`
+/// is 0).
 fn add_earlier(sheet: &mut Sheet, count: usize)
     ensures { Adds sheet.old sheet.new (earlier_text count) }
 {
+    // For the proof only: texts that are added one after the other add up.
     klp_markup::laws::what_is_added_adds_up();
     if count > 0 {
         let behind = " earlier, which the lines below tell.\n";
@@ -87,8 +93,9 @@ fn add_earlier(sheet: &mut Sheet, count: usize)
     }
 }
 
-/// Adds a list item for each sentence that the page shows, in the order of their first lines. Then adds how many of the
-/// oldest sentences the page leaves out. The catalog must have been assembled over these modules.
+/// Adds a list item for each sentence that the page shows, in the order of their first lines, and an item that counts
+/// the sentences that the page leaves out. `sentences` are all sentences of the run. The catalog must have been
+/// assembled over these modules.
 pub fn add_story(
     sheet: &mut Sheet,
     names: &Names,
@@ -99,6 +106,7 @@ pub fn add_story(
     requires { catalog.now.names ≡ modules.now.names }
     ensures { Adds sheet.old sheet.new (story_text names.now catalog.now sentences.now) }
 {
+    // For the proof only: texts that are added one after the other add up.
     klp_markup::laws::what_is_added_adds_up();
     add_shown(sheet, names, catalog, modules, sentences);
     add_earlier(sheet, left_out(sentences));

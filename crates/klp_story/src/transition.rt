@@ -15,7 +15,7 @@ use klp_names::Names;
 use klp_timeline::{Course, Since, Stay, View};
 use klp_types::{PatchId, Transition};
 
-/// Returns the words for a transition to this target.
+/// Returns what follows a patch's name while the patch is in transition. `target` is true for patching.
 fn way(target: bool) -> &'static str
     ensures { result.now ≡ way target }
 {
@@ -26,10 +26,12 @@ fn way(target: bool) -> &'static str
     }
 }
 
-/// Adds the line and the time at which the transition got its present target. Adds nothing if the line isn't known.
+/// Adds since which line and time the transition has its target. Says `at least` if events were undone with this line:
+/// the transition may have had its target before. Adds nothing if it had its target already before the run (`None`).
 fn add_since(sheet: &mut Sheet, names: &Names, since: &Option<Since>)
     ensures { Adds sheet.old sheet.new (since_text names.now since.now) }
 {
+    // For the proof only: texts that are added one after the other add up.
     klp_markup::laws::what_is_added_adds_up();
     match *since {
         None => {}
@@ -47,14 +49,14 @@ fn add_since(sheet: &mut Sheet, names: &Names, since: &Option<Since>)
     }
 }
 
-/// Returns the words for a forced transition. Returns no words if the transition wasn't forced.
+/// Returns the words for a forced transition, or nothing if the transition wasn't forced.
 fn forced(is_forced: bool) -> &'static str
     ensures { result.now ≡ forced_text is_forced }
 {
     if is_forced { ", and was forced" } else { "" }
 }
 
-/// Returns how many tasks hold the transition up.
+/// Returns how many tasks hold the transition up. `stays` has the stay of each task.
 fn holding(stays: &[Option<Stay>]) -> usize
     ensures { result ≡ count_by is_holding stays.now }
 {
@@ -67,10 +69,12 @@ fn holding(stays: &[Option<Stay>]) -> usize
     count
 }
 
-/// Adds how many tasks hold the transition up.
+/// Ends the sentence on the transition under way, and adds the sentence on how many tasks hold it up. `count` is their
+/// number.
 fn add_held(sheet: &mut Sheet, count: usize)
     ensures { Adds sheet.old sheet.new (held_text count) }
 {
+    // For the proof only: texts that are added one after the other add up.
     klp_markup::laws::what_is_added_adds_up();
     if count == 0 {
         sheet.markup(". Nobody holds it up.");
@@ -85,8 +89,8 @@ fn add_held(sheet: &mut Sheet, count: usize)
     }
 }
 
-/// Adds the transition under way. Says its patch, its target, since when it has had this target, whether it was forced,
-/// and how many tasks hold it up.
+/// Adds two sentences on the transition under way. The first has its patch, its target, since when it has this target,
+/// and whether it was forced. The second has the number of tasks that hold it up, `holders`.
 fn add_moving(
     sheet: &mut Sheet,
     names: &Names,
@@ -98,6 +102,7 @@ fn add_moving(
     ensures { Adds sheet.old sheet.new (quoted_text catalog.now moving.now.patch ++ way moving.now.target
         ++ since_text names.now course.now.since ++ forced_text course.now.is_forced ++ held_text holders) }
 {
+    // For the proof only: texts that are added one after the other add up.
     klp_markup::laws::what_is_added_adds_up();
     add_patch(sheet, catalog, moving.patch);
     sheet.markup(way(moving.target));
@@ -106,10 +111,11 @@ fn add_moving(
     add_held(sheet, holders);
 }
 
-/// Adds the names of these patches, with a comma before each.
+/// Adds the names of patches that follow another patch in a list: a comma stands before each name.
 fn add_also(sheet: &mut Sheet, catalog: &Catalog, patches: &[PatchId])
     ensures { Adds sheet.old sheet.new (also_text catalog.now patches.now) }
 {
+    // For the proof only: texts that are added one after the other add up.
     klp_markup::laws::what_is_added_adds_up();
     for patch in patches {
         sheet.markup(", ");
@@ -117,10 +123,11 @@ fn add_also(sheet: &mut Sheet, catalog: &Catalog, patches: &[PatchId])
     }
 }
 
-/// Adds the sentence that lists the enabled patches, for a state without a transition.
+/// Adds the sentence that lists the enabled patches, or that no patch is enabled if there are none in `patches`.
 fn add_enabled(sheet: &mut Sheet, catalog: &Catalog, patches: &[PatchId])
     ensures { Adds sheet.old sheet.new (enabled_text catalog.now patches.now) }
 {
+    // For the proof only: texts that are added one after the other add up.
     klp_markup::laws::what_is_added_adds_up();
     match patches {
         [] => sheet.markup(" No patch is enabled."),
@@ -133,17 +140,20 @@ fn add_enabled(sheet: &mut Sheet, catalog: &Catalog, patches: &[PatchId])
     }
 }
 
-/// Adds the sentence that no transition is under way, and the sentence that lists the enabled patches.
+/// Adds what the heading says if no patch is in transition: a sentence for just that, and a sentence that lists the
+/// enabled patches, `patches`.
 fn add_rest(sheet: &mut Sheet, catalog: &Catalog, patches: &[PatchId])
     ensures { Adds sheet.old sheet.new (rest_text catalog.now patches.now) }
 {
+    // For the proof only: texts that are added one after the other add up.
     klp_markup::laws::what_is_added_adds_up();
     sheet.markup("No patch is in transition.");
     add_enabled(sheet, catalog, patches);
 }
 
-/// Adds the sentence on the transition under way. If no transition is under way, adds a sentence that says so and a
-/// sentence that lists the enabled patches.
+/// Adds the sentences on the transition under way. If no transition is under way, adds a sentence that says so and a
+/// sentence that lists the enabled patches. `view` is the state at the end of the run, and `course` the course of its
+/// transition.
 pub(crate) fn add_state(
     sheet: &mut Sheet,
     names: &Names,
@@ -153,8 +163,10 @@ pub(crate) fn add_state(
 )
     ensures { Adds sheet.old sheet.new (state_text names.now catalog.now view.now course.now view.now.moving) }
 {
+    // For the proof only: texts that are added one after the other add up.
     klp_markup::laws::what_is_added_adds_up();
     match &view.moving {
+        // Without a transition, the installed patches are the enabled ones.
         None => add_rest(sheet, catalog, view.installed.as_slice()),
         Some(moving) => {
             add_moving(sheet, names, catalog, moving, course, holding(&view.stays));
@@ -162,10 +174,11 @@ pub(crate) fn add_state(
     }
 }
 
-/// Adds how many tasks sleep in code that isn't called now. Adds nothing if no task does.
+/// Adds the sentence on how many tasks sleep in code that isn't called now. Adds nothing if `count` is 0.
 pub(crate) fn add_outdated(sheet: &mut Sheet, count: usize)
     ensures { Adds sheet.old sheet.new (outdated_text count) }
 {
+    // For the proof only: texts that are added one after the other add up.
     klp_markup::laws::what_is_added_adds_up();
     if count > 0 {
         add_counted(

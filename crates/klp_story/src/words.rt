@@ -13,13 +13,14 @@ use klp_types::{PatchId, Transition, Version};
 pub(crate) fn add_number(sheet: &mut Sheet, before: &'static str, number: u64, behind: &'static str)
     ensures { Adds sheet.old sheet.new (before.now ++ decimal number ++ behind.now) }
 {
+    // For the proof only: texts that are added one after the other add up.
     klp_markup::laws::what_is_added_adds_up();
     sheet.markup(before);
     sheet.number(number);
     sheet.markup(behind);
 }
 
-/// Adds the text `before`, a number, and a noun: `one` for the number 1, otherwise `more`.
+/// Adds the text `before`, a number, and the words that go with the number: `one` if it is 1, otherwise `more`.
 pub(crate) fn add_counted(
     sheet: &mut Sheet,
     before: &'static str,
@@ -32,11 +33,12 @@ pub(crate) fn add_counted(
     add_number(sheet, before, count as u64, plural(count, one, more));
 }
 
-/// Adds a link to a line: a word, and the line's number.
+/// Adds a link to the row of a line. The link's text is a word and the line's number, such as `line 7`.
 #[tactic(auto, unfolding(crate::specs::Words::link_text))]
 pub(crate) fn add_link(sheet: &mut Sheet, word: &'static str, line: u64)
     ensures { Adds sheet.old sheet.new (link_text word.now line) }
 {
+    // For the proof only: texts that are added one after the other add up.
     klp_markup::laws::what_is_added_adds_up();
     add_number(sheet, "<a href=\"#line-", line, "\">");
     sheet.markup(word);
@@ -49,13 +51,15 @@ pub(crate) fn add_link(sheet: &mut Sheet, word: &'static str, line: u64)
 pub(crate) fn add_patch(sheet: &mut Sheet, catalog: &Catalog, patch: PatchId)
     ensures { Adds sheet.old sheet.new (quoted_text catalog.now patch) }
 {
+    // For the proof only: texts that are added one after the other add up.
     klp_markup::laws::what_is_added_adds_up();
     sheet.markup("'");
     sheet.name(patch_name(catalog, patch));
     sheet.markup("'");
 }
 
-/// Returns the reason why a sleeper in this function holds the transition up.
+/// Returns why a task that sleeps in this version holds the transition up, as a clause about the version. `moving` is
+/// the transition.
 pub(crate) fn why(moving: &Transition, version: &Version) -> &'static str
     ensures { result.now ≡ why moving.now.target version.now }
 {

@@ -23,7 +23,8 @@ pub struct Course {
     pub is_forced: bool,
 }
 
-/// Returns the course after one more sentence. Only a fact about the transition changes the course.
+/// Returns the course after one more sentence. `course` is the course before the sentence. Only the start, the reversal
+/// or the force of a transition changes the course, or an undoing of events.
 fn after_said(course: Course, sentence: &Sentence) -> Course
     ensures { result ≡ after_said course sentence.now.line sentence.now.said }
 {
@@ -52,7 +53,9 @@ fn after_said(course: Course, sentence: &Sentence) -> Course
     }
 }
 
-/// Returns the course of the last transition that these sentences mention.
+/// Returns the course of the transition at the end of a run, or of the last transition if none is under way then.
+/// `sentences` are all sentences of the run. If none of them changes the course, `since` is `None`, and the transition
+/// counts as not forced.
 pub fn latest_course(sentences: &[Sentence]) -> Course
     ensures { result ≡ course_of sentences.now }
 {

@@ -10,7 +10,7 @@ use crate::stays::is_transition;
 use klp_types::{PatchId, Transition};
 use std::alloc::AllocError;
 
-/// Returns how many tasks sleep inside of code that their calls wouldn't run now.
+/// Returns how many tasks sleep in a version that their calls wouldn't run now ([`Stay::Outdated`]).
 pub fn outdated(stays: &[Option<Stay>]) -> usize
     ensures { result ≡ count_by is_outdated stays.now }
 {
@@ -23,8 +23,9 @@ pub fn outdated(stays: &[Option<Stay>]) -> usize
     count
 }
 
-/// Returns the change of the transition between two views. The transition may have started, completed, or been
-/// reversed. Returns `None` if the transition didn't change.
+/// Returns what a line did to the transition: started, completed or reversed it. `before` and `after` are the views
+/// before and after the line. Returns `None` if both show a transition with the same patch and target, or both show
+/// none.
 fn turn(before: &View, after: &View) -> Option<Fact>
     ensures { result ≡ turn before.now.moving after.now.moving after.now.stays }
 {
@@ -37,7 +38,7 @@ fn turn(before: &View, after: &View) -> Option<Fact>
     }
 }
 
-/// Whether the patch is in transition.
+/// Whether `moving` is a transition of this patch. False if `moving` is `None`: then no transition is under way.
 fn is_moving_patch(moving: &Option<Transition>, patch: PatchId) -> bool
     ensures { result ≡ is_moving_patch moving.now patch }
 {
@@ -47,7 +48,7 @@ fn is_moving_patch(moving: &Option<Transition>, patch: PatchId) -> bool
     }
 }
 
-/// Whether the patch is in the list.
+/// Whether the list has this patch.
 fn is_among(patch: PatchId, patches: &[PatchId]) -> bool
     ensures { result ≡ list_any (λ other. other == patch) patches.now }
 {
@@ -59,8 +60,9 @@ fn is_among(patch: PatchId, patches: &[PatchId]) -> bool
     false
 }
 
-/// Returns the fact that a patch was replaced. Returns `None` if the patch is still installed. Also returns `None` if
-/// the patch was in transition, since its completion is a separate fact.
+/// Returns the fact that a patch that was installed before a line was replaced: it isn't in `installed`, the patches
+/// that are installed after the line. Returns `None` if it is. Also returns `None` if the patch was in transition
+/// before the line (`moved`), since [`turn`] returns its completion.
 fn leave_of(patch: PatchId, moved: &Option<Transition>, installed: &[PatchId]) -> Option<Fact>
     ensures { option_to_list result ≡ leave_of moved.now installed.now patch }
 {
@@ -71,7 +73,7 @@ fn leave_of(patch: PatchId, moved: &Option<Transition>, installed: &[PatchId]) -
     }
 }
 
-/// If there is a fact, appends a sentence with this fact and this line.
+/// Appends the sentence that `line` did this fact. Appends nothing if there is no fact.
 fn add_fact(sentences: &mut Vec<Sentence>, fact: Option<Fact>, line: u64) -> Result<(), AllocError>
     ensures { OnOk result (sentences.new.items
         ≡ sentences.old.items ++ map (did line) (option_to_list fact)) }
@@ -83,7 +85,8 @@ fn add_fact(sentences: &mut Vec<Sentence>, fact: Option<Fact>, line: u64) -> Res
     Ok(())
 }
 
-/// Appends a sentence for each patch of the list `before` that was replaced.
+/// Appends a sentence for each patch that was replaced. `before` and `installed` are the patches that are installed
+/// before and after the line. `moved` is the transition before the line.
 fn add_leaving(
     sentences: &mut Vec<Sentence>,
     moved: &Option<Transition>,
@@ -100,7 +103,8 @@ fn add_leaving(
     Ok(())
 }
 
-/// Appends a sentence for each fact of a line. If the line undid events, the undoing is its only fact.
+/// Appends a sentence for each fact of a line: its effect that no view shows, what it did to the transition, and which
+/// patches were replaced. `before` is the view before the line. If the line undid events, the undoing is its only fact.
 pub(crate) fn add_facts(
     sentences: &mut Vec<Sentence>,
     before: &View,

@@ -35,7 +35,7 @@ impl Laggards {
         }
     }
 
-    /// Appends a task.
+    /// Appends a task. The list must have fewer than [`MAX_TASKS`] tasks.
     fn push(&mut self, task: TaskId)
         requires { length self.old < MAX_TASKS }
         ensures { self.new ≡ self.old ++ task ∷ [] }
@@ -52,7 +52,8 @@ impl Laggards {
     }
 }
 
-/// Whether a task lags in this mode. If the task lags without blocking the transition, `wait` is its mode.
+/// Whether a task lags in this mode without blocking the transition. `wait` is the mode of a task that lags so, and
+/// `None` for every other task.
 fn is_in(mode: Mode, wait: &Option<Mode>) -> bool
     ensures { result ≡ is_in mode wait.now }
 {
@@ -64,8 +65,8 @@ fn is_in(mode: Mode, wait: &Option<Mode>) -> bool
     }
 }
 
-/// Returns the tasks that lag in this mode without blocking the transition. For each task that lags without blocking
-/// the transition, `waits` has the task's mode.
+/// Returns the tasks that lag in this mode without blocking the transition, in the order of their numbers. `waits` has,
+/// by task number, the mode of each task that lags so, and `None` for every other task.
 pub fn lagging(mode: Mode, waits: &[Option<Mode>; MAX_TASKS]) -> Laggards
     ensures { result ≡ lagging mode waits.now }
 {

@@ -44,8 +44,8 @@ pub fn what_lasts_is_shown()
         → (length (shown all) ≤ MAX_SENTENCES) ⊎ All (λ one. is_lasting one ≡ true) (shown all) }
 {}
 
-/// The list of tasks that lag in a mode has exactly the tasks that lag in that mode. Its length is the number of these
-/// tasks.
+/// The list of tasks that lag in a mode has exactly the tasks that lag in that mode. Its length is the number of tasks
+/// that do.
 pub fn who_lags_is_named()
     ensures named { (waits : List (Option AnyMode)) → IsEachLaggardThere waits }
     ensures lags { (waits : List (Option AnyMode)) → IsNoLaggardMadeUp waits }

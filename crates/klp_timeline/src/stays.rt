@@ -14,7 +14,8 @@ pub(crate) fn is_transition(own: &Transition, other: &Transition) -> bool
     own.patch == other.patch && own.target == other.target
 }
 
-/// Whether two stays are the same.
+/// Whether two stays are the same. They must be of one kind and in one version. If they hold a transition up, its patch
+/// and target must be the same, too.
 pub(crate) fn is_stay(own: &Stay, other: &Stay) -> bool
     ensures { result ≡ is_stay own.now other.now }
 {
@@ -27,7 +28,8 @@ pub(crate) fn is_stay(own: &Stay, other: &Stay) -> bool
     }
 }
 
-/// Whether `other` is the stay `stay`. False if `other` is `None`.
+/// Whether a task is in the stay `stay`. `other` is the stay that a view shows for the task. False if it is `None`:
+/// then the task is in no stay.
 pub(crate) fn is_seen(stay: &Stay, other: &Option<Stay>) -> bool
     ensures { result ≡ is_seen stay.now other.now }
 {
@@ -37,8 +39,9 @@ pub(crate) fn is_seen(stay: &Stay, other: &Option<Stay>) -> bool
     }
 }
 
-/// Returns the last line of a stay that a task is in after `line`. `rest` has the lines after `line`. Returns `None` if
-/// the stay lasts until the end. The cost grows with the length of the stay.
+/// Returns the last line after which a task is still in `stay`, in which it is after `line`: `line` itself if the next
+/// line ends the stay. `rest` has the run's lines from the next line on. Returns `None` if no line of `rest` ends the
+/// stay. [`is_seen`] decides whether a stay is the same. The cost grows with the length of the stay.
 fn until(task: usize, stay: &Stay, line: u64, rest: &[Moment]) -> Option<u64>
     requires task { task < MAX_TASKS }
     requires lines { line + length rest.now < 2 ^ 64 }
@@ -54,7 +57,9 @@ fn until(task: usize, stay: &Stay, line: u64, rest: &[Moment]) -> Option<u64>
     None
 }
 
-/// Adds the stay of a task that begins with a line. Does nothing if no stay of the task begins with the line.
+/// Appends the stay of a task that begins with `line`, together with its last line. `before` and `stay` are the task's
+/// stays before and after the line. Appends nothing if the task is in no stay after the line, or was in the same stay
+/// before.
 fn add_sleep(
     sleeps: &mut Vec<Sleep>,
     task: usize,
@@ -81,8 +86,9 @@ fn add_sleep(
     Ok(())
 }
 
-/// Returns the stays that begin with a line. `before` has the stay of each task before the line, and `stays` has the
-/// stay of each task after it. A stay in `stays` begins with the line if the same task wasn't in this stay before.
+/// Returns the stays that begin with `line`, in the order of the task numbers. `before` has the stay of each task
+/// before the line, and `stays` the stay of each task after it. `rest` has the run's lines from the next line on. A
+/// stay in `stays` begins with the line unless the task was already in the same stay before.
 pub(crate) fn sleeps_begun(
     alloc: Global,
     before: &[Option<Stay>],

@@ -6,7 +6,7 @@ use crate::moment::{Moment, Stay, View};
 use crate::stays::{is_seen, is_transition};
 use klp_types::{PatchId, Transition};
 
-/// Whether both views show the same transition, or both show none.
+/// Whether both views show a transition with the same patch and target, or both show none.
 fn is_same_move(before: &Option<Transition>, after: &Option<Transition>) -> bool
     ensures { result ≡ is_same_move before.now after.now }
 {
@@ -17,7 +17,7 @@ fn is_same_move(before: &Option<Transition>, after: &Option<Transition>) -> bool
     }
 }
 
-/// Whether a task is in the same stay before and after, or in no stay at both times.
+/// Whether a task is in the same stay before and after a line, or in no stay both times.
 fn is_same_stay(before: &Option<Stay>, after: &Option<Stay>) -> bool
     ensures { result ≡ is_same_stay before.now after.now }
 {
@@ -27,7 +27,8 @@ fn is_same_stay(before: &Option<Stay>, after: &Option<Stay>) -> bool
     }
 }
 
-/// Whether each task is in the same stay before and after, or in no stay at both times.
+/// Whether each task is in the same stay before and after a line, or in no stay both times. Both lists are by task
+/// number. False if they differ in length.
 pub fn are_same(before: &[Option<Stay>], after: &[Option<Stay>]) -> bool
     ensures { result ≡ are_same before.now after.now }
 {
@@ -53,8 +54,9 @@ fn are_equal(before: &[PatchId], after: &[PatchId]) -> bool
     }
 }
 
-/// Whether there is nothing to say about a line. The line must have no effect that views don't show. Its view must show
-/// the same transition, patches and stays as the view before.
+/// Whether there is nothing to say about a line. `before` is the view before the line. The line must have no effect
+/// that views don't show, and both views must show the same transition, installed patches and stays. The tasks that lag
+/// without blocking the transition aren't compared.
 pub fn is_still(before: &View, moment: &Moment) -> bool
     ensures { result ≡ is_still before.now moment.now }
 {

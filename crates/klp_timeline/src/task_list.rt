@@ -28,7 +28,7 @@ impl TaskList {
         }
     }
 
-    /// Appends a task.
+    /// Appends a task, whose number must be higher than that of all tasks in the list.
     pub(crate) fn push(&mut self, task: TaskId) -> Result<(), AllocError>
         ensures { OnOk result (self.new ≡ self.old ++ task ∷ []) }
     {
@@ -36,7 +36,7 @@ impl TaskList {
         Ok(())
     }
 
-    /// Returns the tasks.
+    /// Returns the tasks, in the order of their numbers.
     pub fn as_slice(&self) -> &[TaskId]
         ensures { result.now ≡ self.now }
     {

@@ -9,7 +9,7 @@ use crate::stays::{is_stay, sleeps_begun};
 use crate::task_list::TaskList;
 use std::alloc::{AllocError, Global};
 
-/// Whether two stays end with the same line, or both last until the end.
+/// Whether two stays end with the same line, or both last until the end of the run (`None`).
 fn is_end(own: &Option<u64>, other: &Option<u64>) -> bool
     ensures { result ≡ is_end own.now other.now }
 {
@@ -20,15 +20,15 @@ fn is_end(own: &Option<u64>, other: &Option<u64>) -> bool
     }
 }
 
-/// Whether two stays that begin with the same line are alike. Alike stays are the same stay, and end with the same
-/// line.
+/// Whether two stays that begin with the same line are alike, so that one sentence has both tasks. They must be the
+/// same stay, and end with the same line.
 fn is_alike(own: &Sleep, other: &Sleep) -> bool
     ensures { result ≡ is_alike own.now other.now }
 {
     is_stay(&own.stay, &other.stay) && is_end(&own.to, &other.to)
 }
 
-/// Whether the list has a stay that is alike to `own`.
+/// Whether a stay in `sleeps` is alike to `own`.
 fn has_alike(own: &Sleep, sleeps: &[Sleep]) -> bool
     ensures { result ≡ list_any (is_alike own.now) sleeps.now }
 {
@@ -40,7 +40,7 @@ fn has_alike(own: &Sleep, sleeps: &[Sleep]) -> bool
     false
 }
 
-/// Returns the tasks of all stays in the list that are alike to `own`.
+/// Returns the tasks of all stays in `sleeps` that are alike to `own`, in the order of `sleeps`.
 fn tasks_alike(alloc: Global, own: &Sleep, sleeps: &[Sleep]) -> Result<TaskList, AllocError>
     ensures { IfOk result (λ tasks. tasks ≡ tasks_alike own.now sleeps.now) }
 {
@@ -53,7 +53,8 @@ fn tasks_alike(alloc: Global, own: &Sleep, sleeps: &[Sleep]) -> Result<TaskList,
     Ok(tasks)
 }
 
-/// Appends one sentence for all stays in the list that are alike to `own`.
+/// Appends one sentence with the tasks of all stays in `sleeps` that are alike to `own`. All these stays begin with
+/// `line`.
 fn add_alike(
     sentences: &mut Vec<Sentence>,
     alloc: Global,
@@ -72,7 +73,8 @@ fn add_alike(
     Ok(())
 }
 
-/// Appends one sentence for each group of alike stays in the list, in the order of the groups' first stays.
+/// Appends one sentence for each group of alike stays, in the order of the groups' first stays. `sleeps` has the stays
+/// that begin with `line`.
 fn add_slept(
     sentences: &mut Vec<Sentence>,
     alloc: Global,
@@ -83,6 +85,7 @@ fn add_slept(
 {
     for index in 0..sleeps.len() {
         let own = &sleeps[index];
+        // Otherwise the sentence on an earlier stay has this stay's task, too.
         if !has_alike(own, &sleeps[..index]) {
             add_alike(sentences, alloc, own, sleeps, line)?;
         }
@@ -90,7 +93,8 @@ fn add_slept(
     Ok(())
 }
 
-/// Appends the sentences of a line: first its facts, and then the stays that begin with the line.
+/// Appends the sentences of a line: first its facts, and then the stays that begin with the line. `before` is the view
+/// before the line, and `rest` has the run's lines from the next line on.
 fn add_line(
     sentences: &mut Vec<Sentence>,
     alloc: Global,
@@ -108,9 +112,9 @@ fn add_line(
     add_slept(sentences, alloc, &sleeps, line)
 }
 
-/// Returns all sentences on a run that begins with the view `opening`. Each line has first its facts, and then the
-/// stays that begin with it, in the order of the lines. Stays that are alike share a sentence. The cost of a line grows
-/// with the length of the line's stays. An error means that memory ran out.
+/// Returns all sentences on a run that begins with the view `opening`, in the order of the lines. Each line has first
+/// its facts, and then the stays that begin with it. Stays that are alike share a sentence. The cost of a line grows
+/// with the length of the stays that begin with it. Returns `Err` if memory runs out.
 pub fn sentences(alloc: Global, opening: &View, run: &[Moment]) -> Result<Vec<Sentence>, AllocError>
     ensures { IfOk result (λ sentences. sentences.items ≡ sentences_of opening.now run.now) }
 {

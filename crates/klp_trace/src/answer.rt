@@ -15,7 +15,8 @@ use klp_model::{Refusal, Reply};
 use klp_words::{LineWords, Separators, number64, shadow_value, signed};
 use std::alloc::{AllocError, Global};
 
-/// Reads the word behind `pending`: the number of tasks that aren't at the target.
+/// Reads the word after `pending`: how many tasks aren't at the target, a number below 256. Returns `None` if there is
+/// no such word.
 fn pending_of(words: &mut LineWords<'_>) -> Option<Reply>
     ensures { result ≡ option_map Pending (next_as (decimal_of (2 ^ 8)) words.old) }
 {
@@ -23,14 +24,16 @@ fn pending_of(words: &mut LineWords<'_>) -> Option<Reply>
     Some(Reply::Pending(tasks))
 }
 
-/// Reads the word behind `completed`: 1 if the patch was enabled, 0 if it was disabled.
+/// Reads the word after `completed`: `1` if the patch was enabled, `0` if it was disabled. Returns `None` if there is
+/// no such word.
 fn completed_of(words: &mut LineWords<'_>) -> Option<Reply>
     ensures { result ≡ option_map Completed (next_as flag_of words.old) }
 {
     Some(Reply::Completed(flag_of(words.next()?)?))
 }
 
-/// Reads the words behind `prefailed`: a patch, an object and a status.
+/// Reads the words after `prefailed`: the patch and the object whose callback failed, and the callback's status.
+/// Returns `None` if a word is missing or misspelled, or if the catalog has no such patch or object.
 fn pre_failed_of(words: &mut LineWords<'_>, manager: &Manager) -> Option<Reply>
     ensures { result ≡ pre_failed_of manager.now words.old }
 {
@@ -43,14 +46,15 @@ fn pre_failed_of(words: &mut LineWords<'_>, manager: &Manager) -> Option<Reply>
     Some(Reply::PreFailed(patch, object, signed(status)?))
 }
 
-/// Reads the word behind `value`: the value of a shadow variable.
+/// Reads the word after `value`: the value of a shadow variable. Returns `None` if there is no such word.
 fn value_of(words: &mut LineWords<'_>) -> Option<Reply>
     ensures { result ≡ option_map Value (next_as shadow_value_of words.old) }
 {
     Some(Reply::Value(shadow_value(words.next()?)?))
 }
 
-/// Reads the word behind `freed`: how many shadow variables were freed.
+/// Reads the word after `freed`: how many shadow variables were freed, a number below 65536. Returns `None` if there is
+/// no such word.
 fn freed_of(words: &mut LineWords<'_>) -> Option<Reply>
     ensures { result ≡ option_map Freed (next_as (decimal_of (2 ^ 16)) words.old) }
 {
@@ -58,15 +62,16 @@ fn freed_of(words: &mut LineWords<'_>) -> Option<Reply>
     Some(Reply::Freed(count))
 }
 
-/// Reads the words behind `woken`: the functions that the task was inside of.
+/// Reads the words after `woken`: the functions that the woken task was inside of, innermost last. Returns `None` if a
+/// word spells no function, or if there are more words than a task can have frames.
 fn woken_of(words: &mut LineWords<'_>, manager: &Manager) -> Option<Reply>
     ensures { result ≡ option_map Woken (frames_of manager.now words.old) }
 {
     Some(Reply::Woken(frames_of(words, manager)?))
 }
 
-/// Reads the reply that begins with the word `first`. Ignores surplus words: once the reply is known, the whole text is
-/// compared with what the console writes.
+/// Reads a reply: its first word, and from `words` what must follow it. Returns `None` if they spell no reply. Ignores
+/// surplus words, since `as_written` compares the whole text with what the console writes for the reply.
 fn reply_with(first: &[u8], words: &mut LineWords<'_>, manager: &Manager) -> Option<Reply>
     ensures { result ≡ reply_with manager.now first.now words.old }
 {
@@ -93,8 +98,8 @@ fn reply_with(first: &[u8], words: &mut LineWords<'_>, manager: &Manager) -> Opt
     }
 }
 
-/// Reads the reply that a text spells, however the numbers in the text are spelled. Doesn't compare the text with what
-/// the console writes.
+/// Reads the reply that a text spells, even if the text has surplus words, spaces or zeros. Returns `None` if the text
+/// spells no reply. `as_written` compares the text with what the console writes.
 fn reply_in(text: &[u8], manager: &Manager) -> Option<Reply>
     ensures { result ≡ reply_in manager.now (words_between (separates Spaces) text.now) }
 {
@@ -113,8 +118,8 @@ fn is_line_of(text: &[u8], line: &[u8]) -> bool
     }
 }
 
-/// Returns the reply as an answer if the console writes exactly this text for it, else `None`. Returns `Err` if memory
-/// runs out.
+/// Returns the reply as an answer if the console writes exactly this text for it. Returns `None` if the console writes
+/// another text or there is no reply, and `Err` if memory runs out.
 fn as_written(
     alloc: Global,
     text: &[u8],
@@ -136,7 +141,7 @@ fn as_written(
 }
 
 /// Returns the refusal for which the console writes exactly this text. Returns `None` if there is no such refusal.
-/// There are few refusals, so each is tried.
+/// Tries each refusal, since there are few.
 fn refusal_of(text: &[u8]) -> Option<Refusal>
     ensures { result ≡ refusal_of text.now }
 {
@@ -145,8 +150,8 @@ fn refusal_of(text: &[u8]) -> Option<Refusal>
         .copied()
 }
 
-/// Returns the answer for which the console writes exactly this text. Returns `None` if there is no such answer, and
-/// `Err` if memory runs out.
+/// Reads a kernel's answer: a refusal, or a reply. Returns the answer for which the console writes exactly this text.
+/// Returns `None` if there is no such answer, and `Err` if memory runs out.
 pub(crate) fn answer_of(
     alloc: Global,
     text: &[u8],

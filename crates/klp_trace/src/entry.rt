@@ -21,8 +21,8 @@ pub struct Timed<T> {
 /// The meaning of a line of a trace: an item, and its time if the line has one.
 pub type Entry = Timed<Observed>;
 
-/// Puts a time beside an item. Returns `None` if there is no item. The borrow checker doesn't cover a function that has
-/// this type of item, [`Observed`], so the function is generic.
+/// Puts the time of a line beside the line's item. Returns `None` if there is no item. The function is generic, since
+/// the borrow checker doesn't cover a function that has the type [`Observed`] of the items.
 fn with_time<T: Drop>(item: Option<T>, time: Option<Microseconds>) -> Option<Timed<T>>
     ensures { result ≡ option_map (λ own. record { item = own; time = time }) item }
 {
@@ -32,8 +32,8 @@ fn with_time<T: Drop>(item: Option<T>, time: Option<Microseconds>) -> Option<Tim
     }
 }
 
-/// Reads an item. `time` is the time of the item's line, if the line has one. Returns `None` if the text is no item,
-/// and `Err` if memory runs out.
+/// Reads an item from a line without its time, and puts `time`, the line's time, beside it. Returns `None` if the text
+/// is no item, and `Err` if memory runs out.
 fn entry_at(
     alloc: Global,
     text: &[u8],
@@ -60,8 +60,9 @@ fn entry_of(alloc: Global, line: &[u8], manager: &Manager) -> Result<Option<Entr
     }
 }
 
-/// Reads a line that follows other lines. `last` is the last time among the lines before. If the line has no item, if
-/// its time is before `last`, or if memory runs out, returns the kind of the fault as `Err`.
+/// Reads one line of a trace. `last` is the time of the nearest earlier line that has a time, or 0 if there is none.
+/// Returns the kind of the fault as `Err` if the line has no item, if its time is misspelled or before `last`, or if
+/// memory runs out.
 pub(crate) fn entry_behind(
     alloc: Global,
     last: Microseconds,
@@ -75,6 +76,7 @@ pub(crate) fn entry_behind(
     let Some(entry) = entry_of(alloc, line, manager)? else {
         return Err(TraceFaultKind::BadItem);
     };
+    // A line without a time is never out of order.
     if entry.time.unwrap_or(last).is_before(last) {
         return Err(TraceFaultKind::OutOfOrder);
     }

@@ -50,7 +50,7 @@ pub fn lines_are_items()
     ensures no_task { (manager : Journaled) → item_of manager (codes "saw 64 0") ≡ None }
 {}
 
-/// A time stands in front of its line's item, in seconds.
+/// A line may begin with `@`, a time in seconds and a space. Its item follows.
 pub fn a_line_may_have_its_time()
     ensures time { (manager : Journaled) → entry_of manager (codes "@12.345 poll")
         ≡ Some (record { item = Item (Happens Poll); time = Some 12_345_000 }) }

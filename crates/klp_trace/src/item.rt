@@ -14,7 +14,8 @@ use klp_watch::Observed;
 use klp_words::{LineWords, Separators};
 use std::alloc::{AllocError, Global};
 
-/// Reads the words that follow `call`: a task, and the symbol that it calls.
+/// Reads the words that follow `call`: a task, and the symbol that it calls. Returns `None` if a word is missing,
+/// misspelled or surplus, or if there is no such symbol.
 fn call_of(words: &mut LineWords<'_>, manager: &Manager) -> Option<Observed>
     ensures { result ≡ call_of manager.now words.old }
 {
@@ -25,7 +26,8 @@ fn call_of(words: &mut LineWords<'_>, manager: &Manager) -> Option<Observed>
     Some(Observed::Seen(Seen::Call(task, site_of(symbol, manager)?)))
 }
 
-/// Reads the word that follows `return`: a task.
+/// Reads the word that follows `return`: the task that returns. Returns `None` if there isn't exactly one word, or if
+/// it is no task's number.
 fn return_of(words: &mut LineWords<'_>) -> Option<Observed>
     ensures { result ≡ return_of words.old }
 {
@@ -35,8 +37,9 @@ fn return_of(words: &mut LineWords<'_>) -> Option<Observed>
     Some(Observed::Seen(Seen::Return(task_of(task)?)))
 }
 
-/// Reads an item that has no answer. If the text asks for an event as a console line, `event` is that event. Names are
-/// looked up in the manager's catalog. The manager's state isn't used.
+/// Reads an item that has no answer: a call, a return, a sight or an event. `event` is the event that the text asks for
+/// as a console line, if it asks for one. Returns `None` if the text is no item. Looks names up in the manager's
+/// catalog, and doesn't use the manager's state.
 fn item_alone(text: &[u8], event: Option<Event>, manager: &Manager) -> Option<Observed>
     requires { event ≡ event_of manager.now text.now }
     ensures { result ≡ item_alone manager.now text.now }
@@ -60,8 +63,9 @@ fn item_alone(text: &[u8], event: Option<Event>, manager: &Manager) -> Option<Ob
     }
 }
 
-/// Reads the kernel's answer to an event. If the answer is `?`, it isn't known, and the item is the event alone.
-/// Returns `None` if the console writes no such answer, and `Err` if memory runs out.
+/// Reads the kernel's answer to an event, and returns the event with it as an item. If the answer is `?`, it isn't
+/// known, and the item is the event alone. Returns `None` if the console writes no such answer, and `Err` if memory
+/// runs out.
 fn event_answered(
     alloc: Global,
     event: Event,
@@ -77,8 +81,8 @@ fn event_answered(
     Ok(answer.map(|answer| Observed::Answered(event, answer)))
 }
 
-/// Reads an event with its answer. Returns `None` if the text asks for no event or if `answer` isn't an answer. Returns
-/// `Err` if memory runs out.
+/// Reads an event from `text` and the kernel's answer to it from `answer`. Returns `None` if `text` asks for no event
+/// or if `answer` isn't an answer, and `Err` if memory runs out.
 fn item_answered(
     alloc: Global,
     text: &[u8],
@@ -93,7 +97,8 @@ fn item_answered(
     }
 }
 
-/// Reads a text as an item. Returns `None` if the text is no item, and `Err` if memory runs out.
+/// Reads the item of a line, with its answer if it has one. `text` is the line without its time. Returns `None` if the
+/// text is no item, and `Err` if memory runs out.
 pub(crate) fn item_of(
     alloc: Global,
     text: &[u8],

@@ -19,8 +19,8 @@ pub struct LineParts<'a> {
     pub answer: Option<&'a [u8]>,
 }
 
-/// If a text has `> ` right behind its first `=`, splits the text there into an item and its answer. Otherwise the
-/// whole text is the item, and there is no answer.
+/// Splits a text at its first `=` into an item and its answer, if `> ` follows this `=`. Otherwise returns the whole
+/// text as the item, and no answer. The spaces before `=` stay part of the item.
 pub(crate) fn item_and_answer(text: &[u8]) -> (&[u8], Option<&[u8]>)
     ensures { MatchOption result.1
         ((starts_with nat_eq (after_first is_equals_sign text.now) (codes "> ") ≡ false) × (result.0.now ≡ text.now))
@@ -35,8 +35,8 @@ pub(crate) fn item_and_answer(text: &[u8]) -> (&[u8], Option<&[u8]>)
     }
 }
 
-/// Splits a line that begins with `@` into its time and the text after the time. The time ends at the first space.
-/// Returns `None` if the line has no time.
+/// Splits a line that begins with `@` at its first space, into its time and the text after the time. Returns `None` if
+/// the line doesn't begin with `@`, so it has no time. Doesn't check the spelling of the time.
 pub(crate) fn time_and_rest(line: &[u8]) -> Option<(&[u8], &[u8])>
     ensures { MatchOption result (starts_with nat_eq line.now (codes "@") ≡ false)
         (λ parts. (starts_with nat_eq line.now (codes "@") ≡ true)
@@ -48,7 +48,7 @@ pub(crate) fn time_and_rest(line: &[u8]) -> Option<(&[u8], &[u8])>
 }
 
 impl<'a> LineParts<'a> {
-    /// Splits a line into its parts, even if the line has no item. The function is used for messages to people, and has
+    /// Splits a line into its parts, even if a part is misspelled. The function is used for messages to people, and has
     /// no contract.
     pub fn of(line: &'a [u8]) -> LineParts<'a> {
         let (time, text) = match time_and_rest(line) {

@@ -20,7 +20,8 @@ pub(crate) fn task_of(word: &[u8]) -> Option<TaskId>
     }
 }
 
-/// Reads the name of a patch. Returns `None` if the catalog has no such patch.
+/// Reads the name of a patch, which needn't be installed. Returns `None` if the word is no name, or if the catalog has
+/// no such patch.
 pub(crate) fn patch_of(word: &[u8], manager: &Manager) -> Option<PatchId>
     ensures { result ≡ patch_of manager.now word.now }
 {
@@ -30,10 +31,12 @@ pub(crate) fn patch_of(word: &[u8], manager: &Manager) -> Option<PatchId>
     manager.catalog().patch(text(word))
 }
 
-/// Reads the name of an object, which needn't be loaded. Returns `None` if the catalog has no such object.
+/// Reads the name of an object, which needn't be loaded. Returns `None` if the word is no name, or if the catalog has
+/// no such object.
 pub(crate) fn object_of(word: &[u8], manager: &Manager) -> Option<ObjId>
     ensures { result ≡ object_of manager.now word.now }
 {
+    // For the proof only: the contract of catalog says that the catalog has the names of the image.
     let _for_its_clause = manager.catalog();
     if !is_name(word) {
         return None;
@@ -42,7 +45,7 @@ pub(crate) fn object_of(word: &[u8], manager: &Manager) -> Option<ObjId>
 }
 
 /// Reads `PATCH:INDEX`, a new function of a patch. Doesn't check that the patch has this function. Returns `None` if
-/// the catalog has no such patch.
+/// the catalog has no such patch, or if the index is no number below 65536.
 fn new_function_of(word: &[u8], manager: &Manager) -> Option<Version>
     ensures { result ≡ new_function_of manager.now word.now }
 {
@@ -52,8 +55,8 @@ fn new_function_of(word: &[u8], manager: &Manager) -> Option<Version>
     Some(Version::New(patch, index))
 }
 
-/// Reads a function as `task sleep` spells it: the original function of a symbol, or a new function of a patch. Returns
-/// `None` if the word spells no function.
+/// Reads a function as `task sleep` spells it. The spelling of a symbol means its original function, and `PATCH:INDEX`
+/// means a new function of a patch. Returns `None` if the word spells no function.
 pub(crate) fn version_of(word: &[u8], manager: &Manager) -> Option<Version>
     ensures { result ≡ version_of manager.now word.now }
 {
@@ -64,7 +67,7 @@ pub(crate) fn version_of(word: &[u8], manager: &Manager) -> Option<Version>
 }
 
 /// Reads the functions that a task is inside of, innermost last. Returns `None` if a word spells no function, or if
-/// there are more than 32 words.
+/// there are more words than a task can have frames, 32.
 pub(crate) fn frames_of(words: &mut LineWords<'_>, manager: &Manager) -> Option<Frames>
     ensures { result ≡ frames_of manager.now words.old }
 {
@@ -91,7 +94,7 @@ pub(crate) fn site_of_version(version: Version, manager: &Manager) -> Option<Sit
     }
 }
 
-/// Reads the contents of a task's `patch_state` file: `-1`, `0` or `1`.
+/// Reads the contents of a task's `patch_state` file: `-1`, `0` or `1`. Returns `None` for any other word.
 pub(crate) fn state_of(word: &[u8]) -> Option<PatchState>
     ensures { result ≡ state_of word.now }
 {
@@ -106,7 +109,8 @@ pub(crate) fn state_of(word: &[u8]) -> Option<PatchState>
     }
 }
 
-/// Reads the contents of a patch's file: `0` or `1`.
+/// Reads a word that is `0` or `1`, such as the contents of a patch's file `enabled`. Returns `None` for any other
+/// word.
 pub(crate) fn flag_of(word: &[u8]) -> Option<bool>
     ensures { result ≡ flag_of word.now }
 {

@@ -31,9 +31,10 @@ pub struct Trace {
     pub times: Vec<Option<Microseconds>>,
 }
 
-/// Adds an item that was read, with its time. Returns the last time so far, which is the item's time, or `last` if the
-/// item has none. If no item was read or memory runs out, returns the fault as `Err`. The borrow checker doesn't cover
-/// a function that has this type of item, [`Observed`], so the function is generic.
+/// Adds the item and the time that were read from a line to the lists of a trace. Returns the item's time, or `last` if
+/// the item has none: the `last` for the next line. If no item was read or memory runs out, returns the fault as `Err`.
+/// The function is generic, since the borrow checker doesn't cover a function that has the type [`Observed`] of the
+/// items.
 fn take<T: Drop>(
     items: &mut Vec<T>,
     times: &mut Vec<Option<Microseconds>>,
@@ -57,13 +58,14 @@ fn take<T: Drop>(
 }
 
 impl Trace {
-    /// Reads a trace, which has one item on each line. If a line is at fault, returns the first such line as `Err`.
-    /// Names are looked up in the manager's catalog. The manager's state isn't used. Memory is allocated for the items
-    /// as they are read.
+    /// Reads a trace from its text, which has one item on each line. If a line is at fault, returns the first such line
+    /// as `Err`. Looks names up in the manager's catalog, and doesn't use the manager's state. Allocates memory for the
+    /// items as they are read.
     pub fn read(alloc: Global, text: &[u8], manager: &Manager) -> Result<Trace, TraceFault>
         ensures read { IfOk result (λ trace. IsTraceOf manager.now text.now trace.items.items trace.times.items) }
         ensures fault { IfErr result (λ fault. IsTraceFault manager.now (lines text.now) fault.line fault.kind) }
     {
+        // For the borrow checker only: names the types that are parts of an item.
         let _parts: Option<(Happening, Showing, Named)> = None;
         let mut items = Vec::new(alloc);
         let mut times = Vec::new(alloc);

@@ -17,8 +17,8 @@ fn count(rows: &[Row]) -> u64
     count as u64
 }
 
-/// Returns the number of the first row at which the kernel differs from the rules, counted from 1. Returns 0 if there
-/// is no such row.
+/// Returns the number, from 1, of the first row at which the kernel differs from the rules. Returns 0 if there is no
+/// such row.
 fn first(rows: &[Row]) -> u64
     ensures { result ≡ first_from 1 rows.now }
 {
@@ -30,7 +30,8 @@ fn first(rows: &[Row]) -> u64
     0
 }
 
-/// Returns the number of rows at which the kernel differs from the rules, and the number of the first such row.
+/// Returns at how many rows the kernel differs from the rules, and the number of the first of them, or 0 if there is
+/// none.
 pub(crate) fn differing_in(rows: &[Row]) -> Differing
     ensures { result ≡ differing_in rows.now }
 {

@@ -4,7 +4,7 @@ ghost use Rattle.klp_trace_page.specs.Traced.{untimed, item_text};
 
 use klp_words::cut;
 
-/// Returns the line without its time.
+/// Returns a line of a trace without the time at its front, `@SECONDS `. A line without a time is returned whole.
 fn untimed(line: &[u8]) -> &[u8]
     ensures { result.now ≡ untimed line.now }
 {
@@ -14,12 +14,14 @@ fn untimed(line: &[u8]) -> &[u8]
     }
 }
 
-/// Returns what happened or was seen in this line: the line without its time and without the kernel's answer.
+/// Returns what happened or was seen in a line of a trace: the line without its time and without the kernel's answer,
+/// which follows `=> `.
 pub(crate) fn item_text(line: &[u8]) -> &[u8]
     ensures { result.now ≡ item_text line.now }
 {
     let text = untimed(line);
     let (item, behind) = cut(text, b'=');
+    // Only `=> ` begins an answer.
     if behind.starts_with(b"> ".as_slice()) {
         item
     } else {

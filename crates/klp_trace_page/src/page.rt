@@ -14,8 +14,8 @@ use klp_watch::Observed;
 use std::alloc::{AllocError, Global};
 use std::io::Write;
 
-/// Plays a trace on a manager that was just booted, and returns the text of its page. `items` are the items of the
-/// trace. `Err` if memory runs out.
+/// Plays a trace on a manager that was just booted, and returns the text of its page. `name` is the page's title.
+/// `items` are the items of the trace, one for each line. `Err` if memory runs out.
 fn paged(
     alloc: Global,
     manager: &mut Manager,
@@ -44,8 +44,8 @@ fn paged(
     )
 }
 
-/// Reads a trace with the names of a manager that was just booted, plays the trace, and returns the text of its page.
-/// If a line is faulty, returns the first such line as `Err`. Also returns `Err` if memory runs out.
+/// Reads a trace with the names of a manager that was just booted, plays it, and returns the text of its page. `name`
+/// is the page's title. Returns the first faulty line as `Err`, and also `Err` if memory runs out.
 fn read_and_paged(
     alloc: Global,
     manager: &mut Manager,
@@ -86,9 +86,9 @@ impl PageSource for TraceRun<'_> {
     }
 }
 
-/// Plays a trace by the rules on a manager that is booted over the catalog's text, and returns the page as
-/// [`page_over`] does, with a row for each line. `name` is the page's title. If lines of the trace are faulty, returns
-/// the first such line as `Err`.
+/// Plays a trace by the rules on a manager that is booted over the catalog's text, and returns the page, with a row for
+/// each line. `name` is the page's title. Returns the first faulty line of the trace as `Err`. The catalog, and what
+/// else `Err` means, are as for [`page_over`].
 pub fn page_over_trace(
     alloc: Global,
     catalog: &[u8],
@@ -103,7 +103,7 @@ pub fn page_over_trace(
     page_over(alloc, catalog, names, &run)
 }
 
-/// Writes the page of a trace to `out`, as [`write_over`] does.
+/// Writes the page of a trace to `out`, as [`write_over`] does. `name` is the page's title.
 pub fn write_trace_page<W: Write>(
     alloc: Global,
     catalog: &[u8],

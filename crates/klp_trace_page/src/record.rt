@@ -20,7 +20,8 @@ use klp_timeline::{Moment, View};
 use klp_watch::{Observed, Sight};
 use std::alloc::{AllocError, Global};
 
-/// Adds the kernel's answer to a row that has the answer of the rules. If the two answers differ, marks the row.
+/// Adds the kernel's answer, `seen`, to a row that has the answer of the rules. If the two differ, marks the row, so
+/// that it isn't folded away.
 fn compare(row: &mut Row, seen: Vec<u8>)
     ensures row { row.new ≡ record row.old {
       is_quiet = row.old.is_quiet && not row.new.differs;
@@ -35,8 +36,9 @@ fn compare(row: &mut Row, seen: Vec<u8>)
     row.seen = seen;
 }
 
-/// Does the event that a console line asks for, by the rules. Returns the line's row and moment. `Err` if memory runs
-/// out.
+/// Does the event that the console line `text` asks for, by the rules, and returns the line's row and moment. A trace
+/// takes no event back, so the journal is sealed if it is full. `before` is the view before the line. `Err` if memory
+/// runs out.
 fn event_row(
     alloc: Global,
     manager: &mut Manager,
@@ -51,8 +53,8 @@ fn event_row(
     record_line(alloc, manager, text, before, layout)
 }
 
-/// Does an event as [`event_row`] does. Adds the kernel's answer to the row, beside the answer of the rules. `Err` if
-/// memory runs out.
+/// Does an event as [`event_row`] does, and adds the kernel's answer to the row, beside the answer of the rules. `Err`
+/// if memory runs out.
 fn answered_row(
     alloc: Global,
     manager: &mut Manager,
@@ -71,8 +73,8 @@ fn answered_row(
     Ok((row, moment))
 }
 
-/// Returns the row and the moment of an item that changes nothing. `rules` is what the rules say about the item, and
-/// `seen` what the kernel showed. `Err` if memory runs out.
+/// Returns the row and the moment of an item that changes nothing. `rules` is what the rules say in place of the item,
+/// and `seen` what the kernel showed. If the two differ, the row is marked. `Err` if memory runs out.
 fn still_row(
     alloc: Global,
     manager: &Manager,
@@ -104,7 +106,8 @@ fn still_row(
     Ok((row, moment))
 }
 
-/// Returns the row and the moment of a sight, which is what the kernel showed. `Err` if memory runs out.
+/// Returns the row and the moment of a sight, which is what the kernel showed and changes nothing. `Err` if memory runs
+/// out.
 fn sight_row(
     alloc: Global,
     manager: &Manager,
@@ -129,7 +132,8 @@ fn sight_row(
     )
 }
 
-/// Plays an event without an answer, a call or a return. Returns the item's row and moment. `Err` if memory runs out.
+/// Plays an item to which the trace has no answer: an event, a call or a return. Returns the item's row and moment.
+/// `Err` if memory runs out.
 fn seen_row(
     alloc: Global,
     manager: &mut Manager,
@@ -144,11 +148,13 @@ fn seen_row(
 {
     match seen {
         Seen::Event(_) => event_row(alloc, manager, text, before, layout),
+        // A call or a return changes nothing that a page shows.
         _ => still_row(alloc, manager, text, "", "", before, layout),
     }
 }
 
-/// Plays one item of a trace. Returns the item's row and moment. `Err` if memory runs out.
+/// Plays one item of a trace. Returns the item's row and moment. `text` is the item's words, and `before` the view
+/// before the item. `Err` if memory runs out.
 fn item_row(
     alloc: Global,
     manager: &mut Manager,
@@ -159,6 +165,7 @@ fn item_row(
 ) -> Result<(Row, Moment), AllocError>
     ensures { IfOk result (λ made. IsTracedRow manager.old manager.new before.now text.now item.now made.0 made.1) }
 {
+    // For the proof only: the contract of mark says that the manager is well-formed.
     let _for_its_clause = manager.mark();
     match item {
         Observed::Seen(seen) => seen_row(alloc, manager, text, seen, before, layout),
@@ -169,7 +176,8 @@ fn item_row(
     }
 }
 
-/// Plays one line of a trace, and adds its row and its moment to `recorded`. `Err` if memory runs out.
+/// Plays one line of a trace, and adds its row and its moment to `recorded`. `item` is the line's item, and `opening`
+/// the view before the trace. `Err` if memory runs out.
 fn add_line(
     alloc: Global,
     manager: &mut Manager,
@@ -190,8 +198,8 @@ fn add_line(
     Ok(())
 }
 
-/// Plays a trace. `items` are the items of its lines. Returns a row for each line, and the effect of each line. `Err`
-/// if memory runs out.
+/// Plays a trace. `items` are the items of its lines, one for each line, and `opening` is the view before the trace.
+/// Returns a row for each line, and each line's effect with the state after it. `Err` if memory runs out.
 pub(crate) fn record_trace(
     alloc: Global,
     manager: &mut Manager,
@@ -211,6 +219,7 @@ pub(crate) fn record_trace(
     let mut lines = Lines::new(text);
     let mut rest = items;
     while let Some(line) = lines.next() {
+        // There are as many items as lines, so this doesn't happen.
         let [item, others @ ..] = rest else {
             return Ok(recorded);
         };

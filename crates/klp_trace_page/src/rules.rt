@@ -14,21 +14,22 @@ use klp_types::{PatchId, PatchState, Site, TaskId, Version};
 use klp_watch::{PatchFiles, Sight};
 use std::alloc::{AllocError, Global};
 
-/// Returns what a file of a patch reads for this flag.
+/// Returns what a file of a patch, `enabled` or `transition`, reads for this flag.
 fn flag_text(flag: bool) -> &'static str
     ensures { result.now ≡ flag_text flag }
 {
     if flag { "1" } else { "0" }
 }
 
-/// Returns the word for a site that is hooked or isn't hooked.
+/// Returns the word for a site that is hooked, or that isn't.
 fn hook_text(is_hooked: bool) -> &'static str
     ensures { result.now ≡ hook_text is_hooked }
 {
     if is_hooked { "hooked" } else { "plain" }
 }
 
-/// Returns what the two files of a patch read, as `ENABLED TRANSITION`. Returns `gone` if the files don't exist.
+/// Returns what the two files of a patch read, as `ENABLED TRANSITION`. Returns `gone` if the files don't exist
+/// (`None`). `Err` if memory runs out.
 fn files_text(alloc: Global, files: Option<PatchFiles>) -> Result<String, AllocError>
     ensures { IfOk result (λ text. string_bytes text ≡ files_text files) }
 {
@@ -41,7 +42,8 @@ fn files_text(alloc: Global, files: Option<PatchFiles>) -> Result<String, AllocE
     Ok(text)
 }
 
-/// Returns what the files of a patch read by the rules. Returns `None` if the patch isn't installed.
+/// Returns what the files of a patch read by the rules. Returns `None` if the patch isn't installed, so that there are
+/// no files.
 fn files_of(manager: &Manager, patch: PatchId) -> Option<PatchFiles>
     ensures { result ≡ files_of manager.now.managed.state patch }
 {
@@ -51,7 +53,8 @@ fn files_of(manager: &Manager, patch: PatchId) -> Option<PatchFiles>
     })
 }
 
-/// Returns a task's patch state, as `/proc/<pid>/patch_state` reads. Returns `no task` if there is no such task.
+/// Returns a task's patch state as `/proc/<pid>/patch_state` reads. Returns `no task` if there is no such task
+/// (`None`). `Err` if memory runs out.
 fn state_text(alloc: Global, state: Option<i8>) -> Result<String, AllocError>
     ensures { IfOk result (λ text. string_bytes text ≡ state_text state) }
 {
@@ -61,7 +64,7 @@ fn state_text(alloc: Global, state: Option<i8>) -> Result<String, AllocError>
     }
 }
 
-/// Returns the number of the patch state that was seen. Returns `None` if no such task was seen.
+/// Returns the number of a patch state that was seen. Returns `None` if no such task was seen (`None`).
 fn number_of(state: Option<PatchState>) -> Option<i8>
     ensures { result ≡ state }
 {
@@ -71,7 +74,8 @@ fn number_of(state: Option<PatchState>) -> Option<i8>
     }
 }
 
-/// Returns the words for a version that a task runs if it calls a site: `PATCH:INDEX`, or the words for the original.
+/// Returns the words for a version that a task runs if it calls a site: `PATCH:INDEX`, or `the original`. `Err` if
+/// memory runs out.
 fn version_text(alloc: Global, manager: &Manager, version: Version) -> Result<String, AllocError>
     ensures { IfOk result (λ text. string_bytes text ≡ picked_text manager.now.managed.catalog (Some version)) }
 {
@@ -86,8 +90,8 @@ fn version_text(alloc: Global, manager: &Manager, version: Version) -> Result<St
     }
 }
 
-/// Returns the words for a version, as [`version_text`] does. `None` means that the task can't call anything at the
-/// site.
+/// Returns the words for the version that the rules pick, as [`version_text`] does. Returns `no call` if the task can't
+/// call anything at the site (`None`). `Err` if memory runs out.
 fn picked_text(
     alloc: Global,
     manager: &Manager,
@@ -101,7 +105,8 @@ fn picked_text(
     }
 }
 
-/// Returns the version that the rules pick for a task at a site.
+/// Returns the version that the rules pick for a task at a site. Returns `None` if there is no such task, or if nothing
+/// can be called there.
 fn version_of(manager: &Manager, task: TaskId, site: Site) -> Option<Version>
     ensures { result ≡ option_map (λ (t : AnyTarget). t.version)
         (pick (setting_of manager.now.managed) manager.now.managed.state task site) }
@@ -109,8 +114,8 @@ fn version_of(manager: &Manager, task: TaskId, site: Site) -> Option<Version>
     Some(manager.pick(task, site)?.version)
 }
 
-/// Returns the word for whether a site is hooked by the rules. If the site's object isn't loaded, returns the words
-/// that say so.
+/// Returns the word for whether a site is hooked by the rules. If the site's object isn't loaded, returns words that
+/// say so.
 fn text_text(manager: &Manager, site: Site) -> &'static str
     ensures { result.now ≡ text_text
         (is_site_loaded (setting_of manager.now.managed) manager.now.managed.state site)
@@ -122,7 +127,7 @@ fn text_text(manager: &Manager, site: Site) -> &'static str
     }
 }
 
-/// Returns what the rules say in place of this sight.
+/// Returns what the rules say in place of this sight, in the words that [`sight_text`] uses. `Err` if memory runs out.
 pub(crate) fn rules_text(
     alloc: Global,
     manager: &Manager,
@@ -140,7 +145,7 @@ pub(crate) fn rules_text(
     }
 }
 
-/// Returns what this sight shows, in the words that [`rules_text`] uses.
+/// Returns what the kernel showed in this sight, in the words that [`rules_text`] uses. `Err` if memory runs out.
 pub(crate) fn sight_text(
     alloc: Global,
     manager: &Manager,

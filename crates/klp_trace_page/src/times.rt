@@ -5,8 +5,8 @@ use klp_names::Names;
 use klp_trace::LineParts;
 use std::alloc::{AllocError, Global};
 
-/// Returns a text of names, with the times of the trace's lines behind it. [`Names::read`] reads the result, so the
-/// function has no contract.
+/// Returns a text of names, followed by one line, `line NUMBER TIME`, for each line of the trace that has a time.
+/// [`Names::read`] checks the result, so the function has no contract. `Err` if memory runs out.
 fn with_lines(alloc: Global, names: &[u8], trace: &[u8]) -> Result<Vec<u8>, AllocError> {
     let mut text = Vec::from_slice(alloc, names)?;
     if !names.is_empty() && !names.ends_with(b"\n".as_slice()) {
@@ -26,9 +26,9 @@ fn with_lines(alloc: Global, names: &[u8], trace: &[u8]) -> Result<Vec<u8>, Allo
     Ok(text)
 }
 
-/// Reads a text of names, and adds the times of the trace's lines. If the text has times of its own, or if a time of
-/// the trace is faulty, reads the text alone. The function has no contract. Returns `None` if memory runs out, or if
-/// the text is faulty.
+/// Reads a text of names, together with the times of the trace's lines. If the text and the times can't be read
+/// together, since the text has times of its own or a time of the trace is faulty, reads the text alone. Returns `None`
+/// if memory runs out, or if the text is faulty. The function has no contract.
 pub fn timed_names(alloc: Global, names: &[u8], trace: &[u8]) -> Option<Names> {
     let text = with_lines(alloc, names, trace).ok()?;
     match Names::read(alloc, &text) {

@@ -21,10 +21,10 @@ use crate::watching::{functions_are_in_objects, has_task, watch_item};
 use klp_core::Manager;
 use klp_model::Refusal;
 
-/// Does the events, calls and returns of the items, as [`watch`](crate::watch) does, on a manager without tasks.
-/// Compares the kernel's answers with those of the rules. Compares what the kernel showed with the manager's state at
-/// that moment. Returns the first item that differs from the rules or breaks a premise. If an event does both, returns
-/// the premise.
+/// Compares a kernel with the rules, item by item. Does the events, calls and returns on the manager, as
+/// [`watch`](crate::watch) does. Compares the kernel's answers with the manager's, and the kernel's sights with the
+/// manager's state at that moment. Returns the first item that differs from the rules or breaks a premise as `Err`. If
+/// an event does both, returns the premise. If the manager has a task, returns item 0 with [`Cause::NotOpening`].
 ///
 /// The returned item changes nothing. If it is an event, it is taken back by its own records, but its callbacks have
 /// run. All items before it are done, and agree with the rules. The journal is sealed whenever it has no room for one
@@ -45,10 +45,12 @@ pub fn compare_whole(manager: &mut Manager, items: &[Observed]) -> Result<Refuse
     ensures setting { setting_of manager.new.managed ≡ setting_of manager.old.managed }
     ensures well_formed { IsWellFormed manager.new }
 {
+    // For the proof only: the calls do nothing, and their contracts are laws.
     klp_model::consistency::frames_are_current();
     klp_model::consistency::none_has_left();
     klp_model::consistency::none_is_mixed();
     functions_are_in_objects(manager);
+    // For the proof only: the contract of mark says that the manager is well-formed.
     let _for_its_clause = manager.mark();
     if has_task(manager) {
         return Err(Differs {
@@ -59,7 +61,9 @@ pub fn compare_whole(manager: &mut Manager, items: &[Observed]) -> Result<Refuse
     compare_each(manager, items)
 }
 
-/// Compares the items in order. At first there is no task.
+/// Does or compares the items in order. Returns the first that differs from the rules or breaks a premise as `Err`, and
+/// else the events that the rules refuse, and whose answer the trace doesn't have. Begins with no task inside of any
+/// function, so its clauses hold for a manager without tasks.
 fn compare_each(manager: &mut Manager, items: &[Observed]) -> Result<RefusedEvents, Differs>
     requires { IsWellFormed manager.old }
     ensures compared { IfOk result (λ _. HasNoTask manager.old.managed.state
@@ -71,6 +75,7 @@ fn compare_each(manager: &mut Manager, items: &[Observed]) -> Result<RefusedEven
     ensures setting { setting_of manager.new.managed ≡ setting_of manager.old.managed }
     ensures well_formed { IsWellFormed manager.new }
 {
+    // For the proof only: the calls do nothing, and their contracts are laws.
     klp_model::laws::states_stay_allowed();
     klp_model::consistency::state_is_that_of_the_events();
     klp_core::laws::events_go_on_where_they_end();
@@ -91,8 +96,9 @@ fn compare_each(manager: &mut Manager, items: &[Observed]) -> Result<RefusedEven
     Ok(refused)
 }
 
-/// Compares one item. `inside` has the versions that each task is inside of. Returns the refusal of an event that is
-/// refused, and whose answer the trace doesn't have.
+/// Does one item on the manager, or compares it with the manager's state if it is a sight. Returns `Err` if the item
+/// differs from the rules or breaks a premise. Otherwise returns the refusal if the item is an event that the rules
+/// refuse, and whose answer the trace doesn't have. `inside` has the versions that each task is inside of.
 fn compare_item(
     manager: &mut Manager,
     inside: &mut Inside,
@@ -107,6 +113,7 @@ fn compare_item(
     ensures setting { setting_of manager.new.managed ≡ setting_of manager.old.managed }
     ensures well_formed { IsWellFormed manager.new }
 {
+    // For the proof only: the contract of mark says that the manager is well-formed.
     let _for_its_clause = manager.mark();
     match item {
         Observed::Seen(item) => {

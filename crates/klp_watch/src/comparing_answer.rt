@@ -14,9 +14,9 @@ use klp_core::Manager;
 use klp_model::{Event, Refusal, Reply};
 use klp_types::{Frames, ShadowValue};
 
-/// Passes an event to the manager. If the manager refuses the event, the kernel must have refused it for the same
-/// reason. If the manager accepts the event, but the event breaks a premise or the kernel gave another answer, takes
-/// the event back by its own records.
+/// Does an event on the manager, and compares the kernel's `answer` with the manager's. Returns `Err` if the answers
+/// differ or the event breaks a premise. Then the event changes nothing: if the manager accepted it, it is taken back
+/// by its own records.
 pub(crate) fn take_answered(
     manager: &mut Manager,
     inside: &mut Inside,
@@ -34,6 +34,7 @@ pub(crate) fn take_answered(
     let mark = manager.mark();
     let own = manager.apply_lent(event);
     let is_so = is_same(&own, answer);
+    // A refused event changes nothing, so it breaks no premise and needn't be taken back.
     if own.is_err() {
         return if is_so {
             Ok(())
@@ -42,6 +43,7 @@ pub(crate) fn take_answered(
         };
     }
     if let Some(difference) = difference(manager, inside, event, is_so) {
+        // Rewinding can't fail, since the journal has one group more than at the mark.
         let _ = manager.rewind(mark);
         return Err(difference);
     }
@@ -49,9 +51,9 @@ pub(crate) fn take_answered(
     Ok(())
 }
 
-/// Returns how an accepted event differs from the rules. If the event breaks a premise, returns the premise. Otherwise
-/// returns `Answer` if the kernel's answer isn't that of the rules. Returns `None` if nothing differs. `is_so` says
-/// whether the answers agree.
+/// Returns how an event that the manager accepted differs from the rules. If the event breaks a premise, returns the
+/// premise. Otherwise returns `Answer` if the kernel's answer isn't the manager's. Returns `None` if nothing differs.
+/// `is_so` says whether the two answers are the same.
 fn difference(manager: &Manager, inside: &Inside, event: &Event, is_so: bool) -> Option<Difference>
     ensures found { IfSome result (λ difference. (stacks : Stacks) → AreInside inside.now.rows stacks
         → IsFound (setting_of manager.now.managed) stacks event.now is_so difference) }
@@ -65,6 +67,7 @@ fn difference(manager: &Manager, inside: &Inside, event: &Event, is_so: bool) ->
     }
 }
 
+/// Whether the manager's answer and the kernel's are the same: the same reply, or a refusal for the same reason.
 fn is_same(own: &Result<Reply, Refusal>, other: &Result<Reply, Refusal>) -> bool
     ensures { IsTrue result ↔ (own.now ≡ other.now) }
 {
@@ -75,12 +78,14 @@ fn is_same(own: &Result<Reply, Refusal>, other: &Result<Reply, Refusal>) -> bool
     }
 }
 
+/// Whether two refusals are for the same reason. Compares their numbers, since each reason has its own.
 fn is_same_refusal(own: Refusal, other: Refusal) -> bool
     ensures { IsTrue result ↔ (own ≡ other) }
 {
     own as u8 == other as u8
 }
 
+/// Whether two replies are of the same kind, and have the same contents.
 fn is_same_reply(own: &Reply, other: &Reply) -> bool
     ensures { IsTrue result ↔ (own.now ≡ other.now) }
 {
@@ -100,12 +105,14 @@ fn is_same_reply(own: &Reply, other: &Reply) -> bool
     }
 }
 
+/// Whether two values of shadow variables have the same bytes.
 fn is_same_value(own: &ShadowValue, other: &ShadowValue) -> bool
     ensures { IsTrue result ↔ (own.now ≡ other.now) }
 {
     own.bytes() == other.bytes()
 }
 
+/// Whether two woken tasks were inside of the same versions, in the same order.
 fn is_same_frames(own: &Frames, other: &Frames) -> bool
     ensures { IsTrue result ↔ (own.now ≡ other.now) }
 {

@@ -13,8 +13,8 @@ use crate::observed::{PatchFiles, Sight};
 use klp_core::Manager;
 use klp_types::{PatchId, PatchState, Site, TaskId, Version};
 
-/// Whether the state shows what was seen. The cost is a look-up. For a patch, the list of installed patches is searched
-/// too.
+/// Whether the manager's state shows what the kernel showed. The cost is that of a look-up. For a patch, the list of
+/// installed patches is searched too.
 pub fn holds_in_state(manager: &Manager, sight: &Sight) -> bool
     ensures { IsTrue result ↔ Shows (setting_of manager.now.managed) manager.now.managed.state sight.now }
 {
@@ -26,7 +26,7 @@ pub fn holds_in_state(manager: &Manager, sight: &Sight) -> bool
     }
 }
 
-/// Returns the difference to report if the state doesn't show this sight.
+/// Returns the difference to report if the manager's state doesn't show this sight. Each kind of sight has its own.
 pub(crate) fn other_than(sight: &Sight) -> Difference
     ensures { result ≡ other_than sight.now }
 {
@@ -38,7 +38,7 @@ pub(crate) fn other_than(sight: &Sight) -> Difference
     }
 }
 
-/// Whether a task has this patch state. If `state` is `None`, returns whether there is no such task.
+/// Whether a task has this patch state in the manager. If `state` is `None`, whether the manager has no such task.
 fn is_in_state(manager: &Manager, task: TaskId, state: Option<PatchState>) -> bool
     ensures { IsTrue result
         ↔ (option_map (λ (t : AnyTask). t.state) (task_at manager.now.managed.state.tasks task) ≡ state) }
@@ -50,7 +50,8 @@ fn is_in_state(manager: &Manager, task: TaskId, state: Option<PatchState>) -> bo
     }
 }
 
-/// Whether the files of a patch read as in `files`. If `files` is `None`, returns whether the patch has no files.
+/// Whether the files of a patch read as in `files`, by the manager's state. If `files` is `None`, whether the patch has
+/// no files, because it isn't installed.
 fn is_reading(manager: &Manager, patch: PatchId, files: Option<PatchFiles>) -> bool
     ensures { IsTrue result ↔ (files_of manager.now.managed.state patch ≡ files) }
 {
@@ -63,7 +64,8 @@ fn is_reading(manager: &Manager, patch: PatchId, files: Option<PatchFiles>) -> b
     }
 }
 
-/// Whether a call of a task at a site would run this version.
+/// Whether a task would run this version if it called the site's function now. The result is false if there is no such
+/// task, or if the site isn't in a loaded object.
 fn is_running(manager: &Manager, task: TaskId, site: Site, version: Version) -> bool
     ensures { IsTrue result
         ↔ (option_map (λ (t : AnyTarget). t.version)
@@ -75,7 +77,9 @@ fn is_running(manager: &Manager, task: TaskId, site: Site, version: Version) -> 
     }
 }
 
-/// Whether a site's object is loaded, and the site is hooked if `hooked` is true, and not hooked if `hooked` is false.
+/// Whether a site is hooked if `hooked` is true, or not hooked if `hooked` is false. The result is false in both cases
+/// if the site isn't in a loaded object, since the site then has no text. A site is hooked if an entry is on top of its
+/// function stack.
 fn is_text(manager: &Manager, site: Site, hooked: bool) -> bool
     ensures { IsTrue result
         ↔ ((is_site_loaded (setting_of manager.now.managed) manager.now.managed.state site ≡ true)

@@ -14,8 +14,8 @@ use klp_core::Manager;
 use klp_model::{Event, Refusal};
 use klp_types::Frames;
 
-/// Returns the premise that an accepted event breaks. Returns `None` if it breaks no premise. The versions that the
-/// tasks are inside of decide this.
+/// Returns the premise that an accepted event breaks, judged by the versions that the tasks are inside of. Returns
+/// `None` if the event breaks no premise.
 pub(crate) fn against(manager: &Manager, inside: &Inside, event: &Event) -> Option<Cause>
     ensures found { IfSome result (λ cause. (stacks : Stacks) → AreInside inside.now.rows stacks
         → IsAgainst (setting_of manager.now.managed) stacks event.now cause) }
@@ -33,7 +33,8 @@ pub(crate) fn against(manager: &Manager, inside: &Inside, event: &Event) -> Opti
     }
 }
 
-/// Stores that a new task is inside of nothing, whatever an earlier task with its number was inside of.
+/// If an event makes a task, stores that the task is inside of no function, whatever an earlier task with its number
+/// was inside of. Does nothing for other events.
 pub(crate) fn begin(inside: &mut Inside, event: &Event)
     ensures { (stacks : Stacks) → AreInside inside.old.rows stacks
         → AreInside inside.new.rows (begun event.now stacks) }
@@ -44,9 +45,10 @@ pub(crate) fn begin(inside: &mut Inside, event: &Event)
     }
 }
 
-/// Passes an event to the manager. A refusal is no fault, and is returned. If an accepted event breaks a premise, the event is taken
-/// back by its own records, so that no later item sees its effect. The manager is well formed, so it is known to which
-/// state these records lead back.
+/// Does an event of a trace on the manager. If the manager refuses the event, returns the refusal as `Ok`, since a
+/// refusal is no fault. If the event breaks a premise, takes it back by its own records, so that no later item sees its
+/// effect, and returns the premise as `Err`. Only of a well-formed manager it is known that these records lead back to
+/// the state before.
 pub(crate) fn happen(
     manager: &mut Manager,
     inside: &mut Inside,
@@ -68,6 +70,7 @@ pub(crate) fn happen(
         return Ok(Some(refusal));
     }
     if let Some(cause) = against(manager, inside, event) {
+        // Rewinding can't fail, since the journal has one group more than at the mark.
         let _ = manager.rewind(mark);
         return Err(cause);
     }

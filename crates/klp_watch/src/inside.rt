@@ -17,7 +17,7 @@ pub(crate) struct Inside {
 }
 
 impl Inside {
-    /// Makes the value in which no task is inside of anything.
+    /// Makes the value in which no task is inside of any function.
     pub(crate) fn new() -> Self
         ensures { result.rows ≡ replicate MAX_TASKS [] }
     {
@@ -47,7 +47,8 @@ impl Inside {
         }
     }
 
-    /// Whether any task is inside of the object, in any of its frames. The call checks all versions of all tasks.
+    /// Whether any task is inside of a version that is in this object, innermost or not. Checks all versions of all
+    /// tasks.
     pub(crate) fn is_entered(&self, manager: &Manager, object: ObjId) -> bool
         ensures { result ≡ list_any (are_in (setting_of manager.now.managed) object) self.now.rows }
     {
@@ -60,6 +61,7 @@ impl Inside {
     }
 }
 
+/// Whether any of these versions, which one task is inside of, is in the object.
 fn are_in(manager: &Manager, object: ObjId, frames: &[Version]) -> bool
     ensures { result ≡ are_in (setting_of manager.now.managed) object frames.now }
 {
@@ -71,6 +73,7 @@ fn are_in(manager: &Manager, object: ObjId, frames: &[Version]) -> bool
     false
 }
 
+/// Whether a version is in the object. The result is false for a version that neither the image nor the catalog has.
 fn is_in(manager: &Manager, object: ObjId, version: Version) -> bool
     ensures { result ≡ is_object object (object_of_version (setting_of manager.now.managed) version) }
 {

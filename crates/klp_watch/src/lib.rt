@@ -4,8 +4,8 @@
 //! manager, and stores which versions each task is inside of. If no item is at fault, the list is an honest observed
 //! run (`specs/Watching`). So at every moment each task ran one version of each function, and no task was inside of
 //! code that had left the function stacks (`klp_model::consistency`). If an item breaks a premise, [`watch`] returns
-//! the first such item with its [`Cause`]. This item changes nothing. [`compare_whole`] also compares the kernel's answers
-//! and sights with the rules (`specs/Compared`), for a trace of any length (`specs/ComparedWhole`).
+//! the first such item with its [`Cause`]. This item changes nothing. [`compare_whole`] also compares the kernel's
+//! answers and sights with the rules (`specs/Compared`), for a trace of any length (`specs/ComparedWhole`).
 #![tactic(auto)]
 
 mod cause;

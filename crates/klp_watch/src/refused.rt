@@ -22,7 +22,7 @@ pub struct RefusedEvents {
 }
 
 impl RefusedEvents {
-    /// No event, before the first item.
+    /// Returns the value before the first item of a trace: no event is refused yet.
     pub(crate) fn none() -> RefusedEvents
         ensures { result ≡ no_refusal }
     {
@@ -32,7 +32,8 @@ impl RefusedEvents {
         }
     }
 
-    /// Adds what became of the item with this number: why it is refused, if it is an event and refused.
+    /// Counts the item with this number if `refusal` says why the rules refuse it, and stores the first such item. Does
+    /// nothing if `refusal` is `None`. Items are added in order.
     pub(crate) fn add(&mut self, item: usize, refusal: Option<Refusal>)
         requires { self.old.count < item }
         ensures added { self.new ≡ with_refusal self.old item refusal }

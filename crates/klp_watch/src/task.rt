@@ -14,7 +14,8 @@ use crate::inside::Inside;
 use klp_core::Manager;
 use klp_types::{Mode, Site, TaskId};
 
-/// Whether a task runs in the kernel. Only a task in the kernel can call and return.
+/// Whether a task runs in the kernel, so that it can call and return. The result is false for a task in user space or
+/// asleep, and if there is no such task.
 fn is_in_kernel(manager: &Manager, task: TaskId) -> bool
     ensures mode { result ≡ is_in Kernel (task_at manager.now.managed.state.tasks task) }
     ensures rows { length manager.now.managed.state.tasks ≡ MAX_TASKS }
@@ -25,7 +26,9 @@ fn is_in_kernel(manager: &Manager, task: TaskId) -> bool
     }
 }
 
-/// A task calls a site's function, and is afterwards inside of the version that the call runs.
+/// Stores in `inside` that a task calls a site's function. Afterwards the task is inside of the version that the
+/// manager picks for the call. Returns `Err` and stores nothing if the task can't call: it isn't in the kernel, the
+/// site isn't in a loaded object, or there is no room for one more version.
 pub(crate) fn call(
     manager: &Manager,
     inside: &mut Inside,
@@ -54,7 +57,8 @@ pub(crate) fn call(
     Ok(())
 }
 
-/// A task returns from the function that it called last.
+/// Stores in `inside` that a task returns from the function that it called last. Returns `Err` and stores nothing if
+/// the task isn't in the kernel, or if it is inside of no function.
 pub(crate) fn come_back(manager: &Manager, inside: &mut Inside, task: TaskId) -> Result<(), Cause>
     ensures returned { IfOk result (λ _. (stacks : Stacks) → AreInside inside.old.rows stacks
         → (may_return (moment_of manager.now stacks) task ≡ true)

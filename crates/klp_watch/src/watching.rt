@@ -17,10 +17,11 @@ use klp_core::Manager;
 use klp_model::{Refusal, Seen};
 use klp_types::{MAX_TASKS, TaskId};
 
-/// Does the items of a trace in order, on a manager without tasks. Returns the first item that isn't honest. Such an
-/// item breaks a premise of the consistency model, or there is no room for it. If several [`Cause`]s apply, returns the
-/// first. A refused event counts as done. The call allocates nothing. An item costs as much as its event or its
-/// look-up. When a module is unloaded, all versions that tasks are inside of are checked too.
+/// Does the items of a trace in order. Returns the first item that isn't honest as `Err`. Such an item breaks a premise
+/// of the consistency model, or there is no room for it. If several [`Cause`]s apply, returns the first. If the manager
+/// has a task, returns item 0 with [`Cause::NotOpening`]. A refused event counts as done. The call allocates nothing.
+/// An item costs as much as its event or its look-up. When a module is unloaded, all versions that tasks are inside of
+/// are checked too.
 ///
 /// All items before the returned item are done. The returned item changes nothing. If it is an event, its records are
 /// put back, but its callbacks have run.
@@ -34,10 +35,12 @@ pub fn watch(manager: &mut Manager, items: &[Seen]) -> Result<(), NotHonest>
     ensures setting { setting_of manager.new.managed ≡ setting_of manager.old.managed }
     ensures well_formed { IsWellFormed manager.new }
 {
+    // For the proof only: the calls do nothing, and their contracts are laws.
     klp_model::consistency::frames_are_current();
     klp_model::consistency::none_has_left();
     klp_model::consistency::none_is_mixed();
     functions_are_in_objects(manager);
+    // For the proof only: the contract of mark says that the manager is well-formed.
     let _for_its_clause = manager.mark();
     if has_task(manager) {
         return Err(NotHonest {
@@ -48,15 +51,19 @@ pub fn watch(manager: &mut Manager, items: &[Seen]) -> Result<(), NotHonest>
     watch_all(manager, items)
 }
 
-/// Shows that each function of the catalog is in the object of the function that it replaces.
+/// For the proof only: does nothing, but promises that each site of a patch's function is in the function's object. The
+/// laws of the consistency model need this.
 pub(crate) fn functions_are_in_objects(manager: &Manager)
     ensures { IsInPlace (setting_of manager.now.managed) }
 {
+    // For the proof only: the call does nothing, and its contract is a law.
     klp_core::laws::functions_are_in_their_objects();
+    // For the proof only: the contract of catalog says that the catalog has the names of the image.
     let _named = manager.catalog();
 }
 
-/// Watches the items in order. At first there is no task.
+/// Does the items in order, and returns the first that isn't honest as `Err`. Begins with no task inside of any
+/// function, so its clauses hold for a manager without tasks.
 fn watch_all(manager: &mut Manager, items: &[Seen]) -> Result<(), NotHonest>
     ensures watched { IfOk result
         (λ _. HasNoTask manager.old.managed.state → AreWatched manager.old manager.new items.now) }
@@ -65,9 +72,11 @@ fn watch_all(manager: &mut Manager, items: &[Seen]) -> Result<(), NotHonest>
     ensures setting { setting_of manager.new.managed ≡ setting_of manager.old.managed }
     ensures well_formed { IsWellFormed manager.new }
 {
+    // For the proof only: the calls do nothing, and their contracts are laws.
     klp_model::laws::states_stay_allowed();
     klp_model::consistency::state_is_that_of_the_events();
     klp_core::laws::events_go_on_where_they_end();
+    // For the proof only: the contract of mark says that the manager is well-formed.
     let _for_its_clause = manager.mark();
     let mut inside = Inside::new();
     for (done, item) in items.iter().enumerate() {
@@ -81,7 +90,7 @@ fn watch_all(manager: &mut Manager, items: &[Seen]) -> Result<(), NotHonest>
     Ok(())
 }
 
-/// Whether any task exists. No task has a number from [`MAX_TASKS`] on.
+/// Whether the manager has any task. Checks all numbers below [`MAX_TASKS`], since no task has another.
 pub(crate) fn has_task(manager: &Manager) -> bool
     ensures there { result ≡ true → (task : ℕ) × (is_there manager.now.managed.state task ≡ true) }
     ensures nobody { result ≡ false → HasNoTask manager.now.managed.state }
@@ -94,8 +103,8 @@ pub(crate) fn has_task(manager: &Manager) -> bool
     false
 }
 
-/// Watches one item. `inside` has the versions that each task is inside of. Returns the refusal of an event that is
-/// refused.
+/// Does one item on the manager. Returns `Err` if the item isn't honest; then it changes nothing. Otherwise returns the
+/// refusal if the item is an event that the manager refuses. `inside` has the versions that each task is inside of.
 pub(crate) fn watch_item(
     manager: &mut Manager,
     inside: &mut Inside,
@@ -110,6 +119,7 @@ pub(crate) fn watch_item(
     ensures setting { setting_of manager.new.managed ≡ setting_of manager.old.managed }
     ensures well_formed { IsWellFormed manager.new }
 {
+    // For the proof only: the contract of mark says that the manager is well-formed.
     let _for_its_clause = manager.mark();
     match item {
         Seen::Event(event) => happen(manager, inside, event),

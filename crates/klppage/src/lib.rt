@@ -16,10 +16,10 @@ use std::io::{Input, Write};
 /// The name of the program in its messages.
 const NAME: &str = "klppage";
 
-/// The exit status of a fault.
+/// The exit status if a file is faulty or can't be read.
 const FAULT: u8 = 1;
 
-/// Returns the last part of a path.
+/// Returns the part of a path after its last slash.
 fn file_name(path: &str) -> &str {
     match path.rsplit_once('/') {
         Some((_, name)) => name,
@@ -27,7 +27,7 @@ fn file_name(path: &str) -> &str {
     }
 }
 
-/// Writes the page of a script or a trace to `out`.
+/// Writes the page of the second file, a script or a trace, to `out`. The page's title is the name of that file.
 fn write<W: Write>(
     alloc: Global,
     inputs: &Inputs<'_>,
@@ -42,8 +42,8 @@ fn write<W: Write>(
     }
 }
 
-/// Writes hints at the inputs to `err`, and the page to `out`. If there is a fault, writes what is wrong to `err`.
-/// Returns the exit status.
+/// Writes hints at the inputs to `err`, and the page to `out`. If there is a fault, writes to `err` what is wrong and
+/// where. Returns the exit status.
 fn show<W: Write, E: Write>(
     alloc: Global,
     inputs: &Inputs<'_>,
@@ -61,7 +61,8 @@ fn show<W: Write, E: Write>(
     }
 }
 
-/// Reads the names of this text. If there is a trace, adds the times of its lines.
+/// Reads the text of a file of names. If there is a trace, adds the times of its lines, unless they can't be read.
+/// Returns the first faulty line of the text as `Err`.
 fn names_of(alloc: Global, text: &[u8], trace: Option<&[u8]>) -> Result<Names, NamesFault> {
     let names = Names::read(alloc, text)?;
     match trace {
@@ -70,8 +71,9 @@ fn names_of(alloc: Global, text: &[u8], trace: Option<&[u8]>) -> Result<Names, N
     }
 }
 
-/// Reads the file of names, if one is given, and adds the times of the trace, if there is one. If the file can't be
-/// read or has a faulty line, writes that to `err`, and returns the exit status as `Err`.
+/// Reads the file of names, if one is given, and adds the times of the trace, if there is one. Without a file, there
+/// are no names. If the file can't be read or has a faulty line, says so on `err`, and returns the exit status as
+/// `Err`.
 fn names_in<E: Write>(
     rt: &HostRuntime,
     file: Option<&str>,
@@ -105,7 +107,8 @@ fn kind_of(files: PageWords<'_>) -> FileKind {
     }
 }
 
-// Returns the program's exit status. Returns it as `Err` if the arguments are refused, or if a file can't be read.
+/// Reads the arguments and the files, and writes the page. Returns the exit status. Returns it as `Err` if the
+/// arguments are refused or ask for help, or if a file can't be read.
 fn status_in(rt: &HostRuntime) -> Result<u8, u8> {
     let (mut out, mut err) = (io::writer(rt), rt.stderr());
     let given = given_words(rt, Program::Klppage, &mut out, &mut err)?;
@@ -133,7 +136,7 @@ fn status_in(rt: &HostRuntime) -> Result<u8, u8> {
     Ok(show(rt.alloc(), &inputs, &names, &mut out, &mut err))
 }
 
-/// Runs the program, and returns the exit status.
+/// Runs the program, and returns its exit status.
 pub fn run(rt: &HostRuntime) -> u8 {
     let (Ok(status) | Err(status)) = status_in(rt);
     status

@@ -3,9 +3,11 @@
 //! it also writes a catalog, a trace, the names of the tasks and a page there.
 #![tactic(auto)]
 
+mod faults;
 mod files;
 
-use crate::files::write_files;
+use crate::faults::FaultyLine;
+use crate::files::{Source, write_files};
 use klp_arguments::{Program, SeeWords, given_words, see_words};
 use klp_capture::Capture;
 use klp_capture_answer::{Report, print_json, print_report, report_of};
@@ -18,10 +20,8 @@ use std::io::{Input, Write};
 
 const NAME: &str = "klpsee";
 
-/// The exit status of faulty files and lines. Behind it follows that of a log that no run of the rules shows.
+/// The exit status of faulty files and lines, and if the answer can't be written.
 const FAULTY: u8 = 1;
-
-const REFUTED: u8 = 3;
 
 /// Writes the report in the form that is asked for.
 fn print<W: Write>(
@@ -51,8 +51,7 @@ fn answer<W: Write>(
     };
     match print(alloc, words, &report, out) {
         Err(_) => FAULTY,
-        Ok(()) if found.is_refuted() => REFUTED,
-        Ok(()) => 0,
+        Ok(()) => report.status(),
     }
 }
 
@@ -69,7 +68,7 @@ fn see<W: Write, E: Write>(
     let capture = match Capture::read(alloc, log) {
         Ok(capture) => capture,
         Err(fault) => {
-            let _ = writeln!(err, "{NAME}: {name}: {fault}");
+            let _ = writeln!(err, "{NAME}: {name}: {}", FaultyLine { fault, log });
             return FAULTY;
         }
     };
@@ -80,8 +79,12 @@ fn see<W: Write, E: Write>(
             return FAULTY;
         }
     };
+    let source = Source {
+        file: words.log,
+        capture: &capture,
+    };
     if let Some(folder) = words.folder
-        && let Err(error) = write_files(rt, folder, &found)
+        && let Err(error) = write_files(rt, folder, source, &found)
     {
         let folder = Escaped(folder.as_bytes());
         let _ = writeln!(err, "{NAME}: {folder}: {error}");

@@ -12,7 +12,7 @@ use std::io::{Input, Write};
 
 const NAME: &str = "klpwatch";
 
-// Judges the trace, and writes to `err` what is wrong with it. Returns the exit status.
+/// Judges the trace, writes the verdict to `out`, and writes hints and what is wrong to `err`. Returns the exit status.
 fn watch<W: Write, E: Write>(alloc: Global, inputs: &Inputs<'_>, out: &mut W, err: &mut E) -> u8 {
     inputs.hint(err);
     match watch_trace(alloc, inputs.catalog.bytes, inputs.second.bytes, out) {
@@ -24,7 +24,8 @@ fn watch<W: Write, E: Write>(alloc: Global, inputs: &Inputs<'_>, out: &mut W, er
     }
 }
 
-// Returns the program's exit status. Returns it as `Err` if the arguments are refused, or if a file can't be read.
+/// Reads the arguments and the two files, and judges the trace. Returns the exit status. Returns it as `Err` if the
+/// trace isn't judged: help was asked for, the arguments are refused, or a file can't be read.
 fn status_in(rt: &HostRuntime) -> Result<u8, u8> {
     let (mut out, mut err) = (io::writer(rt), rt.stderr());
     let given = given_words(rt, Program::Klpwatch, &mut out, &mut err)?;
@@ -46,7 +47,7 @@ fn status_in(rt: &HostRuntime) -> Result<u8, u8> {
     Ok(watch(rt.alloc(), &inputs, &mut out, &mut err))
 }
 
-/// Runs the program, and returns the exit status.
+/// Runs klpwatch with the arguments of the process, and returns the exit status.
 pub fn run(rt: &HostRuntime) -> u8 {
     let (Ok(status) | Err(status)) = status_in(rt);
     status

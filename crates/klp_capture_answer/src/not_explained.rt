@@ -1,7 +1,8 @@
-//! The sample that none of the tried runs shows: the state in the log at this sample, and the state by the rules.
-use crate::report::RefusedReport;
+//! The sample to which none of the tried runs leads: the state in the log at this sample, and the state by the rules.
+use crate::report::NotExplainedReport;
 use klp_capture::{Capture, Text};
-use klp_capture_run::{Explained, Followed};
+use klp_capture_run::Explained;
+use klp_capture_search::Followed;
 use klp_diagnostics::{NamedSight, Sides, TaskNames, TaskNumbers, sides_in};
 use klp_messages::line_at;
 use klp_program::Verdict;
@@ -115,17 +116,18 @@ fn both_sides(
     Ok((log, rules))
 }
 
-/// Returns the sample that none of the tried runs shows, or `None` if there is no such sample.
-pub(crate) fn refused_of(
+/// Returns the sample to which none of the tried runs leads, or `None` if there is no such sample.
+pub(crate) fn not_explained_of(
     alloc: Global,
     capture: &Capture<'_>,
     found: &Explained<'_>,
-) -> Result<Option<RefusedReport>, AllocError> {
-    let Some(sample) = found.failed.and_then(|failed| capture.samples.get(failed)) else {
+) -> Result<Option<NotExplainedReport>, AllocError> {
+    let number = found.failed.or(found.unjudged).or(found.unshown);
+    let Some(sample) = number.and_then(|number| capture.samples.get(number)) else {
         return Ok(None);
     };
     let (log, rules) = both_sides(alloc, found)?;
-    Ok(Some(RefusedReport {
+    Ok(Some(NotExplainedReport {
         from_us: sample.line.from.0,
         to_us: sample.line.to.0,
         log,

@@ -6,17 +6,53 @@
 //! `explain` checks the trace that the search finds.
 ghost use Rattle.klp_core.specs.Journaled.{IsWellFormed};
 
-use crate::fits::fits;
+use crate::attempt::{Attempt, Pose};
 use crate::followed::Followed;
+use crate::moves::{Move, PatchFiles, detours, straight_way};
+use crate::step::Step;
+use crate::threads::{FollowedThreads, OTHERS, ThreadKey, followed_in};
 use klp_capture::{BootTime, Capture, PatchRow, Sample, Thread};
 use klp_capture_catalog::{Files, Functions, SeenTransition, TransitionEnd, since_when};
 use klp_core::Manager;
-use klp_types::MAX_GROUPS;
+use klp_types::{MAX_GROUPS, Mode};
 use std::alloc::{AllocError, Global};
 
 /// How many events the journal may have before a sample. If it has more, the journal is sealed first, so that there is
 /// room for the events of the sample.
 const MAX_BEFORE_A_SAMPLE: u32 = MAX_GROUPS as u32 / 2;
+
+/// A sample that the run is to reach.
+#[derive(Drop)]
+pub(crate) struct Reach<'a> {
+    pub(crate) step: Step<'a>,
+    /// What the patches' files read in the sample.
+    pub(crate) after: Vec<Files>,
+    /// The objects that were loaded since the last sample.
+    pub(crate) comings: Vec<usize>,
+    /// The objects that went since the last sample.
+    pub(crate) goings: Vec<usize>,
+}
+
+/// Lines that were tried.
+#[derive(Drop)]
+struct Found {
+    text: String,
+    poses: Vec<Pose>,
+    /// Whether the lines lead to the sample.
+    fits: bool,
+}
+
+impl Found {
+    fn of(attempt: Attempt<'_, '_>) -> Found {
+        let Attempt {
+            text,
+            poses,
+            fits,
+            ..
+        } = attempt;
+        Found { text, poses, fits }
+    }
+}
 
 /// The run as far as it was found.
 #[derive(Drop)]
@@ -25,13 +61,17 @@ pub struct Run<'a> {
     pub functions: Functions<'a>,
     /// The tasks that the log follows, by their numbers in the trace.
     pub tasks: Vec<Followed<'a>>,
+    /// The threads that get a number in the trace.
+    pub(crate) threads: Vec<ThreadKey>,
+    /// The mode of the task `OTHERS`. `None` before the first sample.
+    pub(crate) mode_of_others: Option<Mode>,
     /// For each patch, what its files read in the last sample. `None` if the patch wasn't installed.
     pub files: Vec<Files>,
     /// For each object, whether it is loaded.
     pub(crate) loaded: Vec<bool>,
     /// The trace so far.
     pub trace: String,
-    /// How many of the tasks that the log follows were left out. The rules have no numbers for these tasks.
+    /// How many of the threads that the log follows have no number in the trace.
     pub left_out: u64,
     /// How many samples were left out because a patch changed while they were taken.
     pub torn: u64,
@@ -44,7 +84,13 @@ pub struct Run<'a> {
 }
 
 impl<'a> Run<'a> {
-    pub(crate) fn new(alloc: Global, functions: Functions<'a>) -> Result<Run<'a>, AllocError> {
+    /// Returns a run before its first sample.
+    pub fn new(
+        alloc: Global,
+        capture: &Capture<'a>,
+        functions: Functions<'a>,
+    ) -> Result<Run<'a>, AllocError> {
+        let FollowedThreads { followed, left_out } = followed_in(alloc, capture, &functions)?;
         let mut files = Vec::new(alloc);
         for _patch in &functions.patches {
             files.push(None)?;
@@ -56,10 +102,12 @@ impl<'a> Run<'a> {
         Ok(Run {
             functions,
             tasks: Vec::new(alloc),
+            threads: followed,
+            mode_of_others: None,
             files,
             loaded,
             trace: String::new(alloc),
-            left_out: 0,
+            left_out,
             torn: 0,
             shown: 0,
             transitions: Vec::new(alloc),
@@ -68,7 +116,7 @@ impl<'a> Run<'a> {
     }
 
     /// Returns the threads that have a number in the trace.
-    pub(crate) fn threads(&self, alloc: Global) -> Result<Vec<Thread>, AllocError> {
+    pub fn threads(&self, alloc: Global) -> Result<Vec<Thread>, AllocError> {
         let mut threads = Vec::new(alloc);
         for (number, task) in self.tasks.iter().enumerate() {
             threads.push(Thread {
@@ -80,27 +128,96 @@ impl<'a> Run<'a> {
         Ok(threads)
     }
 
-    /// Returns the objects that were loaded since the last sample.
-    fn loads_in(&self, alloc: Global, rows: &[PatchRow<'a>]) -> Result<Vec<usize>, AllocError> {
-        let mut loads = Vec::new(alloc);
-        let mut object = None;
-        for row in rows {
-            match row {
-                PatchRow::Object(name) => {
-                    object = self.functions.objects.iter().position(|own| own == name);
-                }
-                PatchRow::Loaded => {
-                    if let Some(number) = object
-                        && self.loaded.get(number) == Some(&false)
-                        && !loads.contains(&number)
-                    {
-                        loads.push(number)?;
-                    }
-                }
+    /// Returns what changed of the objects since the last sample: those that were loaded, and those that went.
+    fn objects_changed(
+        &self,
+        alloc: Global,
+        rows: &[PatchRow<'a>],
+    ) -> Result<(Vec<usize>, Vec<usize>), AllocError> {
+        let (mut comings, mut goings) = (Vec::new(alloc), Vec::new(alloc));
+        // The first object is the kernel itself.
+        for number in 1..self.functions.objects.len() {
+            let was_loaded = self.loaded.get(number) == Some(&true);
+            match self.functions.is_loaded_in(rows, number) {
+                Some(true) if !was_loaded => comings.push(number)?,
+                Some(false) if was_loaded => goings.push(number)?,
                 _ => {}
             }
         }
-        Ok(loads)
+        Ok((comings, goings))
+    }
+
+    /// Returns what the patches' files read before the sample, and which patches are cumulative.
+    fn files_before(&self, alloc: Global) -> Result<PatchFiles, AllocError> {
+        let mut before = PatchFiles {
+            files: Vec::new(alloc),
+            are_cumulative: Vec::new(alloc),
+        };
+        before.files.extend_from_slice(&self.files)?;
+        for patch in &self.functions.patches {
+            before.are_cumulative.push(patch.is_cumulative)?;
+        }
+        Ok(before)
+    }
+
+    /// Tries to lead the run to a sample by these events. Returns the lines that were tried, and what they did.
+    fn attempt<'r>(
+        &'r self,
+        alloc: Global,
+        manager: &mut Manager,
+        reach: &'r Reach<'a>,
+        way: &[Move],
+    ) -> Result<Attempt<'r, 'a>, AllocError>
+        requires { IsWellFormed manager.old }
+    {
+        let mut attempt = Attempt::new(alloc, self, &reach.step, &reach.after)?;
+        attempt.prepare(alloc, manager, &reach.comings, &reach.goings)?;
+        for (number, event) in way.iter().enumerate() {
+            // For the proof only: the contract of mark says that the manager is well-formed.
+            let _for_its_clause = manager.mark();
+            if attempt.fits {
+                let rest = way.get(number.saturating_add(1)..).unwrap_or(&[]);
+                attempt.go(alloc, manager, *event, rest)?;
+            }
+        }
+        // For the proof only: the contract of mark says that the manager is well-formed.
+        let _for_its_clause = manager.mark();
+        attempt.see_all(alloc, manager)?;
+        Ok(attempt)
+    }
+
+    /// Tries the straight way to a sample, and then detours. Returns the lines that lead there, or the lines that were
+    /// tried first.
+    fn found(
+        &self,
+        alloc: Global,
+        manager: &mut Manager,
+        reach: &Reach<'a>,
+    ) -> Result<Found, AllocError>
+        requires { IsWellFormed manager.old }
+    {
+        let mark = manager.mark();
+        let before = self.files_before(alloc)?;
+        let straight = straight_way(alloc, &before, &reach.after)?;
+        let none = Vec::new(alloc);
+        let first = match &straight {
+            Some(way) => Found::of(self.attempt(alloc, manager, reach, way)?),
+            None => Found::of(self.attempt(alloc, manager, reach, &none)?),
+        };
+        if first.fits {
+            return Ok(first);
+        }
+        for way in &detours(alloc, &before, &reach.after)? {
+            let _ = manager.rewind(mark);
+            // For the proof only: the contract of mark says that the manager is well-formed.
+            let _for_its_clause = manager.mark();
+            let found = Found::of(self.attempt(alloc, manager, reach, way)?);
+            if found.fits {
+                return Ok(found);
+            }
+        }
+        let _ = manager.rewind(mark);
+        Ok(first)
     }
 
     /// Looks for lines that lead to a sample, passes their events to the manager, and adds them to the trace. Returns
@@ -119,41 +236,38 @@ impl<'a> Run<'a> {
     {
         let rows = sample.patches.of(&capture.rows);
         let after = self.files_at(alloc, rows)?;
-        let loads = self.loads_in(alloc, rows)?;
+        let (comings, goings) = self.objects_changed(alloc, rows)?;
         if self.last.is_none() {
             self.stand(&after);
         }
-        let step = self.step(alloc, capture, number, sample, &after)?;
+        let step = self.step(alloc, capture, number, sample)?;
+        let reach = Reach {
+            step,
+            after,
+            comings,
+            goings,
+        };
         if manager.mark() > MAX_BEFORE_A_SAMPLE {
             manager.seal();
         }
-        let mark = manager.mark();
-        let first = self.lines(alloc, &step, &after, &loads, None)?;
-        let mut found = None;
-        if fits(alloc, manager, &first) {
-            self.trace.push_str(&first)?;
-            found = Some(());
+        // For the proof only: the contract of mark says that the manager is well-formed.
+        let _for_its_clause = manager.mark();
+        let found = self.found(alloc, manager, &reach)?;
+        if found.fits || capture.is_whole {
+            self.add_lines(&found.text, reach.step.at)?;
         }
-        for place in 0..step.places() {
-            if found.is_some() {
-                break;
-            }
-            let _ = manager.rewind(mark);
-            let lines = self.lines(alloc, &step, &after, &loads, Some(place))?;
-            if fits(alloc, manager, &lines) {
-                self.trace.push_str(&lines)?;
-                found = Some(());
-            }
+        if found.fits {
+            self.settle(reach, &found.poses);
         }
-        if found.is_none() {
-            let _ = manager.rewind(mark);
-            if capture.is_whole {
-                self.trace.push_str(&first)?;
-            }
-            return Ok(false);
+        Ok(found.fits)
+    }
+
+    /// Adds lines to the trace, each with the sample's time.
+    fn add_lines(&mut self, text: &str, at: BootTime) -> Result<(), AllocError> {
+        for line in text.lines() {
+            writeln!(self.trace, "@{at} {line}")?;
         }
-        self.settle(step, after, &loads);
-        Ok(true)
+        Ok(())
     }
 
     /// Whether the last transition so far is that of this patch to this target, and isn't known to have ended.
@@ -235,6 +349,8 @@ impl<'a> Run<'a> {
         for number in 0..self.tasks.len() {
             let lag = lags.get(number).copied().unwrap_or(None);
             if let Some(task) = self.tasks.get_mut(number) {
+                // A task that isn't followed any longer is only awake in the run so that it may do anything.
+                let lag = if task.is_left { None } else { lag };
                 task.note_lag(lag, transition, sample.line.from)?;
             }
         }
@@ -243,7 +359,7 @@ impl<'a> Run<'a> {
 
     /// Leads the run from sample to sample, up to this time. Returns the number of the first sample to which nothing
     /// leads.
-    pub(crate) fn explore(
+    pub fn explore(
         &mut self,
         alloc: Global,
         manager: &mut Manager,
@@ -257,7 +373,7 @@ impl<'a> Run<'a> {
             if until.is_some_and(|until| sample.line.to >= until) {
                 break;
             }
-            if !capture.is_settled(sample) {
+            if !sample.is_settled() {
                 self.torn = self.torn.saturating_add(1);
             } else if !self.advance(alloc, manager, capture, number, sample)? {
                 return Ok(Some(number));
