@@ -128,8 +128,9 @@ def lint_objects(out):
 
 def in_words(told):
     """The line of words for an object that klplint tells."""
+    word = "finding" if told["finding"] else "remark"
     place = f": line {told['line']}: {told['patch']}" if "patch" in told else ""
-    return f"{told['catalog']}{place}: {told['sentence']}\n"
+    return f"{word}: {told['catalog']}{place}: {told['sentence']}\n"
 
 
 def unsaid(told):
@@ -169,7 +170,7 @@ def lint_escapes():
         with open(path, "wb") as it:
             it.write(read("lint/clean.catalog"))
         told = lint_objects(run(["klplint", "--json", path])[1])
-        return None if [it["catalog"] for it in told] == [path] else f"{told}"
+        return None if [it["catalog"] for it in told] == [path, path] else f"{told}"
 
 
 def lints():

@@ -5,8 +5,12 @@ each is run alone, and the variable has to have the values that klplint tells. A
 what the premises come to when they are counted out over all variables that there may be.
 
 Each patch is then loaded alone, over each other one, and over each pair that stands, and klpsim has to answer what klplint
-tells of that. Behind each cumulative patch that takes out another one and is disabled, those variables have to be left that
-klplint tells."""
+tells of that. Each cumulative patch is loaded over each other one that it takes out, and disabled: klpsim shows after each
+step which variables are left, and which are lost, and the system states are counted out here. Functions that are lost or
+hidden are counted out too. klplint has to tell exactly these.
+
+Without a script klplint has to say of the two worlds what it says of each of them with a script that makes it. And it has to
+answer each example of docs/LINT.md as that page says."""
 import itertools
 import json
 import random
@@ -16,7 +20,7 @@ import tempfile
 from collections import namedtuple
 
 sys.path.insert(0, __file__.rsplit("/", 2)[0])
-from testing.run import run_itself  # noqa: E402
+from testing.run import TOP, run_itself  # noqa: E402
 
 KINDS = ("pre", "post", "preun", "postun")
 OBJECTS = ("vmlinux", "m", "n")
@@ -35,7 +39,9 @@ PLACED = [f"{it}.{symbol}" for it, symbol in SYMBOLS.items()]
 PATCHES = "/sys/kernel/livepatch"
 DUMP = [f"text {it}" for it in OBJECTS] + [f"stack .klp.sym.{it},0" for it in PLACED] + [f"shadow get {o} {i}" for o, i in KEYS] + [f"ls {PATCHES}"]
 # What is said of the round trip.
-JUDGED = ("clean", "not-judged", "not-undone", "not-apart")
+JUDGED = ("clean", "not-undone", "not-apart")
+# What isn't said of a world that is judged without a script.
+OF_SCRIPTS = ("not-judged", "summary", "together")
 # The answer to a line that nobody understands.
 NOT_UNDERSTOOD = "error 22 BadLine\n"
 NOT_UNDONE = re.compile(
@@ -99,7 +105,7 @@ def target(draw):
     for done, back in (("pre", "postun"), ("post", "preun")):
         if draw.random() < 0.6:
             status = -16 if done == "pre" and draw.random() < 0.1 else 0
-            edits = [edit(draw) for _ in range(draw.choice((0, 1, 1, 1, 2)))] + [state_edit(draw)] * (draw.random() < 0.2)
+            edits = [edit(draw) for _ in range(draw.choice((0, 1, 1, 1, 2)))] + [state_edit(draw)] * (draw.random() < 0.4)
             callbacks[done] = Callback(status, [] if status else edits)
         if draw.random() < 0.6:
             callbacks[back] = undoing(draw, callbacks.get(done, NOTHING))
@@ -157,7 +163,11 @@ def check_one(room, patches, loaded, variables, said):
     lines = [f"insmod {it}" for it in loaded if it != "vmlinux"] + [f"shadow alloc {o} {i} {v}" for (o, i), v in variables.items()]
     text, wrong, clean, faulty = catalog(patches), [], 0, 0
     for number, (targets, _, _) in enumerate(patches):
-        told = [it["sentence"] for it in said if it.get("patch") == f"p{number}" and it["kind"] in JUDGED]
+        own = [it for it in said if it.get("patch") == f"p{number}"]
+        left_out = {it["object"] for it in own if it["kind"] == "not-judged"}
+        if left_out != {name for name, callbacks in targets if callbacks and name not in loaded}:
+            wrong.append(f"p{number}: {sorted(left_out)} aren't judged")
+        told = [it["sentence"] for it in own if it["kind"] in JUDGED]
         if len(told) != 1:
             wrong.append(f"p{number}: {len(told)} lines")
             continue
@@ -242,7 +252,7 @@ def answer_told(told):
     return f"prefailed {told['patch']} {fails[1]} {fails[2]}" if fails else "error 22 Incompatible"
 
 
-def check_together(room, patches, lines, said):
+def check_together(room, patches, loaded, lines, said):
     """What is wrong with what was said of patches that are loaded over others, and how many combinations were tried."""
     text, combined, wrong = catalog(patches), combinations(patches), []
     told = {(it["patch"], tuple(it.get("others", ()))): answer_told(it) for it in said if it["kind"] in ("not-started", "not-over")}
@@ -259,29 +269,116 @@ def check_together(room, patches, lines, said):
         counted = [answers.count("started"), len(answers)]
         if counted != [int(it or 0) for it in summary.groups()[2 * size:2 * size + 2]]:
             wrong.append(f"{summary[0]}: {counted} over {size}")
-    return wrong + check_replacing(room, patches, lines, said, came), sum(it is not None for it in came.values())
+    wrong += check_replacing(room, patches, loaded, lines, said, came)
+    wrong += check_hiding(patches, said, standing(room, text, lines, came))
+    return wrong, sum(it is not None for it in came.values())
 
 
-def check_replacing(room, patches, lines, said, came):
+def keys_of(room, text, lines, *cycles):
+    """Which variables are there behind each of these lists of lines, each behind those before."""
+    asked = [*lines, *itertools.chain(*[[*cycle, *[f"shadow get {o} {i}" for o, i in KEYS]] for cycle in cycles])]
+    answers, found = iter(served(room, text, asked)[len(lines):]), []
+    for cycle in cycles:
+        for _ in cycle:
+            next(answers)
+        found.append({key for key in KEYS if next(answers).strip() != "none"})
+    return found
+
+
+def lost_variables(room, text, lines, own, other):
+    """The variables that a patch adds and that are left, and those that it frees and that are lost, once a cumulative one took
+    it out and is gone too: at each step from the end of the first transition on."""
+    off = f"echo 0 > {PATCHES}/{{}}/enabled"
+    before, *behind = keys_of(room, text, lines, [], [f"load {other}", "poll"], [f"load {own}"], ["poll"], [off.format(own)], ["poll"])
+    _, alone = keys_of(room, text, lines, [], [f"load {other}", "poll", off.format(other), "poll"])
+    left = set.intersection(*behind) - before
+    return left, (before - set.union(*behind)) & alone
+
+
+def edits_of_state(patch, loaded, number):
+    """The edits of a system state that a patch's callbacks make while it is applied, in order."""
+    made = [callbacks[kind] for kind in ("pre", "post") for name, callbacks in patch.targets if name in loaded and kind in callbacks]
+    return [it for callback in made if callback.status == 0 for it in callback.edits if it[0] in ("set", "takeprev") and it[1] == number]
+
+
+def value_alone(patch, loaded, number):
+    """The value of a system state of a patch that is loaded alone: there is nothing to take over."""
+    values = [it[2] for it in edits_of_state(patch, loaded, number) if it[0] == "set"]
+    return values[-1] if values else 0
+
+
+def states_lost(patch, other, loaded):
+    """The system states of a patch that a cumulative one takes over, and those that it forgets."""
+    named = {number for number, _ in patch.states} & {number for number, _ in other.states}
+    edits = {number: edits_of_state(patch, loaded, number) for number in named}
+    taken = {it for it in named if edits[it] and edits[it][-1][0] == "takeprev"}
+    return taken, {it for it in named if not edits[it] and value_alone(other, loaded, it) != 0}
+
+
+def check_replacing(room, patches, loaded, lines, said, came):
     """What is wrong with what was said of cumulative patches."""
     text, wrong = catalog(patches), []
-    left = {(it["patch"], *it["others"], *it["key"]) for it in said if it["kind"] == "leaves-variable"}
-    gone = {(it["patch"], other) for it in said if it["kind"] == "takes-out" for other in it["others"]}
+
+    def told(kind, own, other, part):
+        return {tuple(it[part]) if part == "key" else it[part] for it in said
+                if (it["kind"], it.get("patch")) == (kind, own) and other in it["others"]}
+
     for (own, below), answer in came.items():
         if len(below) != 1 or not patches[int(own[1:])].replace or answer != "started":
             continue
         other, = below
-        cycle = [f"load {other}", "poll", f"load {own}", "poll", f"ls {PATCHES}", f"echo 0 > {PATCHES}/{own}/enabled", "poll"]
-        asked = [*lines, *[f"shadow get {o} {i}" for o, i in KEYS], *cycle, *[f"shadow get {o} {i}" for o, i in KEYS]]
-        answers = [it.strip() for it in served(room, text, asked)[len(lines):]]
-        was, is_now, listed = answers[:len(KEYS)], answers[-len(KEYS):], answers[len(KEYS) + 4]
-        if (listed == own) != ((own, other) in gone):
+        listed = served(room, text, [*lines, f"load {other}", "poll", f"load {own}", "poll", f"ls {PATCHES}"])[-1].strip()
+        if (listed == own) != bool(told("takes-out", own, other, "patch")):
             wrong.append(f"{own} over {other}: served, {listed} is installed")
-        added = {key for _, callbacks in patches[int(other[1:])].targets for kind in ("pre", "post")
-                 for word, *key in (callbacks[kind].edits if kind in callbacks else ()) if word == "alloc" for key in [tuple(key[:2])]}
-        is_left = {(own, other, *key) for key, it, now in zip(KEYS, was, is_now) if it == "none" and now != "none" and key in added}
-        if is_left != {it for it in left if it[:2] == (own, other)}:
-            wrong.append(f"{own} over {other}: served, {sorted(is_left)} is left")
+        if listed != own:
+            continue
+        left, lost = lost_variables(room, text, lines, own, other)
+        taken, forgotten = states_lost(patches[int(own[1:])], patches[int(other[1:])], loaded)
+        functions = {name for name, _ in patches[int(other[1:])].targets} - {name for name, _ in patches[int(own[1:])].targets}
+        for kind, part, wanted in (("leaves-variable", "key", left), ("loses-variable", "key", lost), ("takes-over", "state", taken),
+                                   ("forgets-state", "state", forgotten), ("loses-functions", "object", functions)):
+            if told(kind, own, other, part) != wanted:
+                wrong.append(f"{own} over {other}: {kind}: {sorted(wanted)}, where {sorted(told(kind, own, other, part))} is told")
+    return wrong
+
+
+def check_hiding(patches, said, stands):
+    """What is wrong with what was said of functions that two patches change. Each patch has one function for each target."""
+    wrong = []
+    for older, newer in itertools.combinations([f"p{it}" for it in range(len(patches))], 2):
+        one, other = patches[int(older[1:])], patches[int(newer[1:])]
+        wanted = {name for name, _ in one.targets} & {name for name, _ in other.targets}
+        if one.replace or other.replace or not {(older, newer), (newer, older)} & stands:
+            wanted = set()
+        told = {it["object"] for it in said if it["kind"] == "same-function" and it["patch"] == newer and older in it["others"]}
+        if told != wanted:
+            wrong.append(f"{newer} and {older}: both change {sorted(wanted)}, where {sorted(told)} is told")
+    return wrong
+
+
+def standing(room, text, lines, came):
+    """The pairs of which the second stays loaded over the first."""
+    pairs = [(below[0], own) for (own, below), answer in came.items() if len(below) == 1 and answer == "started"]
+    return {(other, own) for other, own in pairs
+            if served(room, text, [*lines, f"load {other}", "poll", f"load {own}", "poll"])[-1].strip() == "completed 1"}
+
+
+def place_of(told):
+    """What a finding is about, for two runs to be held against each other."""
+    return json.dumps({key: told[key] for key in ("kind", "line", "patch", "object", "key", "state", "others") if key in told})
+
+
+def check_worlds(room):
+    """Whether klplint says without a script what it says behind scripts that make the two worlds."""
+    wrong, words = [], ["klplint", "--json", f"{room}/own.catalog"]
+    both = [json.loads(line) for line in run_itself(words)[1].decode().splitlines()]
+    for lines, world in (("", "without-modules"), ("".join(f"insmod {it}\n" for it in OBJECTS[1:]), "with-modules")):
+        with open(f"{room}/world.script", "w", encoding="ascii") as it:
+            it.write(lines)
+        said = [json.loads(line) for line in run_itself([*words, f"{room}/world.script"])[1].decode().splitlines()]
+        wanted = {place_of(it) for it in said if it["kind"] not in OF_SCRIPTS}
+        told = {place_of(it) for it in both if it.get("world", world) == world and it["kind"] not in OF_SCRIPTS}
+        wrong += [f"{world}: {it} is told in one way alone" for it in sorted(wanted ^ told)]
     return wrong
 
 
@@ -291,9 +388,27 @@ def patch(draw):
     return Patch(targets, draw.random() < 0.25, states)
 
 
+def check_page(room):
+    """How many examples docs/LINT.md has, and which of them klplint doesn't answer as it says there. Each stands behind the page's
+    first catalog, and klplint's line is the block behind it."""
+    with open(f"{TOP}/docs/LINT.md", encoding="utf-8") as it:
+        head, *blocks = re.findall(r"^```text\n(.*?)^```\n", it.read(), re.M | re.S)
+    wrong = []
+    for text, answer in zip(blocks[::2], blocks[1::2]):
+        with open(f"{room}/page.catalog", "w", encoding="ascii") as it:
+            it.write(head + text)
+        lines = run_itself(["klplint", f"{room}/page.catalog"])[1].decode().replace(f" {room}/page.catalog:", "")
+        if answer not in lines:
+            wrong.append(f"docs/LINT.md: {answer.strip()!r} isn't said, but {lines}")
+    return len(blocks) // 2, wrong
+
+
 def check_all(count, seed):
     draw, wrong, clean, faulty, tried = random.Random(seed), 0, 0, 0, 0
     with tempfile.TemporaryDirectory(prefix="lint-") as room:
+        pages, faults = check_page(room)
+        wrong += len(faults)
+        print(*faults, f"docs/LINT.md: {pages} examples", sep="\n", flush=True)
         for number in range(count):
             patches = [patch(draw) for _ in range(draw.choice((1, 2, 3)))]
             loaded = ["vmlinux", *[it for it in ("m", "n") if draw.random() < 0.7]]
@@ -309,8 +424,8 @@ def check_all(count, seed):
                 faults = [f"status {status}: {err}"]
             else:
                 faults, well, ill = check_one(room, patches, loaded, variables, said)
-                more, combined = check_together(room, patches, lines, said)
-                faults, clean, faulty, tried = faults + more, clean + well, faulty + ill, tried + combined
+                more, combined = check_together(room, patches, loaded, lines, said)
+                faults, clean, faulty, tried = faults + more + check_worlds(room), clean + well, faulty + ill, tried + combined
             for it in faults:
                 wrong += 1
                 print(f"catalog {number} of seed {seed}: {it}", flush=True)

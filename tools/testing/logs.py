@@ -23,7 +23,6 @@ DISHONEST = 3
 VERDICTS = {EXPLAINED: "explained", BROKEN: "broken", NOT_EXPLAINED: "not_explained", NOT_SEEN: "not_seen"}
 # The kernel names a task that it couldn't switch, with the old name of the function.
 SLEEPS = re.compile(r"^log ([\d.]+) livepatch: klp_try_switch_task: .*:(\d+) is sleeping on function (\S+)$", re.M)
-KERNEL_NAMES = re.compile(r"^  the kernel's log names .*\[(\d+)\] as a holder, asleep in ", re.M)
 SAMPLE = re.compile(r"^sample ([\d.]+) ([\d.]+) ", re.M)
 HELD = re.compile(r"^  .*\[(\d+)\].* held it up, asleep in (\S+), from ([\d.]+) s to ([\d.]+) s$", re.M)
 # How the answers end that have nothing to refuse: by status.
@@ -34,6 +33,8 @@ WHOLE = {
     NOT_SEEN: re.compile(rb"^so it isn't known who holds a transition up, or would: record again\n\Z", re.M),
     NOT_EXPLAINED: re.compile(rb"^  the log may lack the kernel's line of a force, which would explain it\nthis accuses nobody:", re.M),
 }
+# Threads of one process that sleep in one function share a line.
+GROUP = re.compile(r"^  .*\[(\d+)\]: (\d+) threads h(?:old|eld) it up", re.M)
 HOLDS = re.compile(r"^  .*\[(\d+)\].* holds it up: asleep \([^)]*\) in (\S+) since ([\d.]+) s or before, for ([\d.]+) s$", re.M)
 
 
@@ -45,11 +46,18 @@ def holders(said):
     return held
 
 
-def differs_from_kernel(log, said):
+def held_by(report):
+    """The same, as it is told for programs: in microseconds, and of the threads of one process each."""
+    all_stays = [it for transition in report["transitions"] for it in transition["holders"]]
+    return {it["task"]["thread"]: (it["function"], it["from_us"], it["to_us"]) for it in all_stays}
+
+
+def differs_from_kernel(log, report):
     """What klpsee says of the holders, and the kernel's own log doesn't. A stay ends between two samples."""
-    told, named = holders(said), {task: (float(at), old) for at, task, old in SLEEPS.findall(log)}
-    for task in KERNEL_NAMES.findall(said):
-        named.pop(task)
+    told = {task: (function, first / 1e6, last / 1e6) for task, (function, first, last) in held_by(report).items()}
+    named = {int(task): (float(at), old) for at, task, old in SLEEPS.findall(log)}
+    for holder in report["kernel_holders"]:
+        named.pop(holder["thread"])
     if " is sleeping on function " not in log:
         return None
     if set(named) != set(told):
@@ -60,6 +68,12 @@ def differs_from_kernel(log, said):
         if not first <= at <= end or not function.endswith(old):
             return f"task {task} is in {function} from {first} to {last}, and the kernel has it in {old} at {at}"
     return None
+
+
+def for_programs(name):
+    """What klpsee says of a log, for programs, with its status and its standard error."""
+    status, text, err = run(["klpsee", "--json", f"captures/{name}.log"])
+    return json.loads(text), status, err
 
 
 def judged_anew(room, status):
@@ -80,7 +94,7 @@ def captured(name):
         wrong = fault(run(["klpsee", f"captures/{name}.log", "-o", room]), (status, stored, ""))
         if wrong or name == "preflight":
             return wrong
-        wrong = None if status else differs_from_kernel(log, stored.decode())
+        wrong = None if status else differs_from_kernel(log, for_programs(name)[0])
         return wrong or judged_anew(room, DISHONEST if status else 0)
 
 
@@ -258,30 +272,41 @@ def not_followed():
 
 def named_and(word, runs):
     """A sample names a task that is switched, and says behind it that the task is gone or left. Then the transition ends. The
-    task had run since the sample before, or was switched while it slept."""
+    task had run since the sample before, or was switched while it slept. Five more held it up that the log only counts."""
     task, frames = "task 90 90 401 S {} {} 1 0 billing\n", "frame do_sys_poll+0x1/0x2\n"
-    text = f"{HEAD}{task.format(0, 1)}{frames}sample 8.56 8.72 51 0 0 0 0\n{task.format(1, runs)}"
+    text = f"{HEAD}{task.format(0, 1)}{frames}sample 8.56 8.72 51 0 0 0 5\n{task.format(1, runs)}"
     text += f"{'frames =' if runs == 1 else frames.strip()}\n{word} 90\nsample 9.00 9.10 51 0 0 0 0\n{patches('1 0')}"
     text += "sample 9.40 9.50 0 0 0 0 0\nsample 9.60 9.70 0 0 0 0 0\n"
     status, out, err = seen(f"{text}{SYMBOLS}end over\n")
-    return None if (status, err) == (0, "") and b"shows each of " in out else f"{status}, {out} and {err}"
+    is_well = (status, err) == (0, "") and b"shows each of " in out and b"\n  up to 5 more were unswitched inside of patched " in out
+    return None if is_well else f"{status}, {out} and {err}"
 
 
-def for_programs(name):
-    """--json says what the words say."""
+def begun_reversed():
+    """A log begins while a cumulative patch goes back to the patch that it was to replace. So it was never complete."""
+    log = thinned.parse(read("captures/replace_reversed.log").decode())
+    kept = [number for number, it in enumerate(log.samples) if "patch nap_fix 0 1" in it.patches]
+    status, out, err = seen(thinned.text(log, kept))
+    words = f"a run of the rules shows each of {len(kept)} samples\n"
+    return None if (status, err) == (0, "") and words in out.decode() else f"{status}, {out.decode()} and {err}"
+
+
+def said_for_programs(name):
+    """--json says what the words say. Of threads of one process that sleep in one function, the words say how many they are."""
     status, words, err = run(["klpsee", f"captures/{name}.log"])
-    other, text, other_err = run(["klpsee", "--json", f"captures/{name}.log"])
-    if (other, other_err) != (status, err):
-        return f"status {other} and {other_err}, in words {status} and {err}"
-    report = json.loads(text)
-    found = {
-        holder["task"]["thread"]: (holder["function"], holder["from_us"] // 10_000, holder["to_us"] // 10_000)
-        for transition in report["transitions"] for holder in transition["holders"]
-    }
+    report, *other = for_programs(name)
+    if other != [status, err]:
+        return f"status and standard error {other}, in words {[status, err]}"
+    groups = [(it["process"], it["threads"]) for moved in report["transitions"] for it in moved["groups"] if it["threads"] > 1]
+    grouped = {it["task"]["thread"] for moved in report["transitions"] for it in moved["holders"]
+               if it["task"]["process"] in dict(groups)}
+    found = {task: (function, first // 10_000, last // 10_000)
+             for task, (function, first, last) in held_by(report).items() if task not in grouped}
     told = {int(task): (function, round(first * 100), round(last * 100))
             for task, (function, first, last) in holders(words.decode()).items()}
-    is_same = found == told and report["verdict"] == VERDICTS[status]
-    return None if is_same else f"{found} and {report['verdict']}, in words {told} and {status}"
+    told_groups = [(int(process), int(threads)) for process, threads in GROUP.findall(words.decode())]
+    is_same = (found, groups, report["verdict"]) == (told, told_groups, VERDICTS[status])
+    return None if is_same else f"{found}, {groups}, {report['verdict']}, in words {told}, {told_groups}, {status}"
 
 
 def long_name(length):
@@ -427,7 +452,7 @@ def cases():
     logs = sorted(it for it in os.listdir(f"{EXAMPLES}/captures") if it.endswith(".log"))
     names = [it.removesuffix(".log") for it in logs]
     made = [(f"captures/{it}.log", functools.partial(captured, it)) for it in names]
-    made += [(f"captures/{it}.log, --json", functools.partial(for_programs, it)) for it in names]
+    made += [(f"captures/{it}.log, --json", functools.partial(said_for_programs, it)) for it in names]
     made += [(f"captures/{it}.log, cut off", functools.partial(cut_off, it)) for it in CUT]
     made += [(f"captures/{it}.log, some samples", functools.partial(subsets, it)) for it in names if it not in ("refused", "preflight")]
     made += [(it, functools.partial(broken, *LIES[it])) for it in LIES]
@@ -440,6 +465,7 @@ def cases():
     made += [(f"a patch of {it} functions", functools.partial(many_functions, it)) for it in (62, 600)]
     made += [("samples in the wrong order", swapped), ("many samples", many_samples)]
     made += [("62 threads of one process", functools.partial(one_process, 62)), ("a task that isn't followed any longer", not_followed)]
+    made += [("a log that begins with a reversed cumulative patch", begun_reversed)]
     made += [("the kernel's log against the samples", kernel_says_otherwise), ("a function that can't be placed", unplaced)]
     made += [(f"a task that is named, and {word} with {runs} runs", functools.partial(named_and, word, runs)) for word in ("left", "gone") for runs in (1, 2)]
     made += [("an idle task", idle), ("a log with an older force", forced_before), ("a page's head", headed)]

@@ -20,6 +20,9 @@ use klp_core::Lag;
 use klp_types::{Mode, Version};
 use std::alloc::{AllocError, Global};
 
+/// The microseconds in a second.
+const SECOND: u64 = 1_000_000;
+
 /// Bytes of a log as text.
 pub(crate) fn text_of(alloc: Global, bytes: &[u8]) -> Result<String, AllocError> {
     format!(in alloc; "{}", Text(bytes))
@@ -257,6 +260,18 @@ fn end_of(found: &Explained<'_>, moved: &SeenTransition, is_last: bool) -> Optio
     }
 }
 
+/// Returns the most tasks that a sample of the transition counts inside of patched functions without naming them.
+fn counted_inside(capture: &Capture<'_>, moved: &SeenTransition) -> u64 {
+    let mut most: u64 = 0;
+    for sample in &capture.samples {
+        let line = sample.line;
+        if moved.from <= line.from && line.from <= moved.to {
+            most = most.max(line.inside.unwrap_or(0));
+        }
+    }
+    most
+}
+
 fn transition_of(
     alloc: Global,
     capture: &Capture<'_>,
@@ -297,6 +312,7 @@ fn transition_of(
         holders,
         unplaced: unplaced_of(alloc, run, number)?,
         lagging,
+        counted_inside: counted_inside(capture, moved),
     })
 }
 
@@ -352,6 +368,12 @@ fn broken_of(
     }))
 }
 
+/// Returns when the machine booted, in seconds since 1970, by the two clocks of a log.
+fn booted(capture: &Capture<'_>) -> Option<u64> {
+    let clock = capture.clock?;
+    Some(clock.epoch.saturating_sub(clock.uptime.0 / SECOND))
+}
+
 /// Gathers the findings about a log.
 pub fn report_of(
     alloc: Global,
@@ -374,6 +396,8 @@ pub fn report_of(
     Ok(Report {
         schema: SCHEMA,
         kernel: text_of(alloc, capture.kernel)?,
+        host: text_of(alloc, capture.host)?,
+        booted: booted(capture),
         verdict,
         not_seen,
         broken,

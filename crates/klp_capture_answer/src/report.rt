@@ -123,6 +123,9 @@ pub struct TransitionReport {
     pub(crate) unplaced: Vec<UnplacedReport>,
     /// The tasks that lag in the last sample without holding the transition up.
     pub(crate) lagging: Vec<LaggingReport>,
+    /// The most tasks that a sample of the transition counts inside of patched functions, unswitched and without lines of
+    /// their own.
+    pub(crate) counted_inside: u64,
 }
 
 /// A task that a force leaves asleep in a function that is no longer called.
@@ -236,6 +239,10 @@ pub struct Report {
     /// The version of this list of fields.
     pub(crate) schema: u32,
     pub(crate) kernel: String,
+    /// The machine's name. Empty if the log doesn't have it.
+    pub(crate) host: String,
+    /// When the machine booted, in seconds since 1970. `None` if the log doesn't say that.
+    pub(crate) booted: Option<u64>,
     pub(crate) verdict: VerdictReport,
     /// What couldn't be read. If there is anything, no other field counts.
     pub(crate) not_seen: Vec<NotSeen>,

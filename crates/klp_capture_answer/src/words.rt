@@ -5,6 +5,7 @@ use crate::report::{
     KernelLogReport, LaggingReport, NotExplainedReport, NotSeen, Report, TaskReport,
     TransitionReport, UnplacedReport, VerdictReport, WhyLags, seconds,
 };
+use httpdate::HttpDate;
 use klp_capture::Elapsed;
 use klp_messages::Escaped;
 use std::io::Write;
@@ -191,6 +192,19 @@ fn ending(transition: &TransitionReport, end: EndReport) -> &'static str {
     }
 }
 
+/// Writes how many tasks a log only counts that held up a transition which has ended. As long as it goes on, they are
+/// among the others.
+fn print_counted<W: Write>(transition: &TransitionReport, out: &mut W) -> io::Result<()> {
+    let counted = transition.counted_inside;
+    if transition.end.is_none() || counted == 0 {
+        return Ok(());
+    }
+    writeln!(
+        out,
+        "  up to {counted} more were unswitched inside of patched functions: the log counts them without a line of their own"
+    )
+}
+
 fn print_transition<W: Write>(transition: &TransitionReport, out: &mut W) -> io::Result<()> {
     let (name, way) = (shown(&transition.patch), transition.becomes);
     let since = seconds(transition.since_us);
@@ -220,6 +234,7 @@ fn print_transition<W: Write>(transition: &TransitionReport, out: &mut W) -> io:
     }
     print_holders(transition, false, out)?;
     print_holders(transition, true, out)?;
+    print_counted(transition, out)?;
     for unplaced in transition.unplaced.iter().take(SHOWN) {
         print_unplaced(unplaced, out)?;
     }
@@ -462,6 +477,16 @@ impl Report {
         )
     }
 
+    /// Writes by which time of day the times are to be read, if the log says that.
+    fn print_boot<W: Write>(&self, out: &mut W) -> io::Result<()> {
+        if let Some(booted) = self.booted
+            && let Ok(date) = HttpDate::from_unix_secs(booted)
+        {
+            writeln!(out, "second 0 was {date}")?;
+        }
+        Ok(())
+    }
+
     /// Writes what couldn't be read, and what to do.
     fn print_not_seen<W: Write>(&self, out: &mut W) -> io::Result<()> {
         for lacking in &self.not_seen {
@@ -567,5 +592,6 @@ pub fn print_report<W: Write>(report: &Report, out: &mut W) -> io::Result<()> {
         }
     }
     report.print_transitions(out)?;
-    report.print_verdict(out)
+    report.print_verdict(out)?;
+    report.print_boot(out)
 }

@@ -32,6 +32,7 @@ impl<'c, 'a> Scan<'c, 'a> {
         for thread in sample.gone.of(&self.capture.gone) {
             self.threads.note_gone(*thread, count);
         }
+        let count = self.threads.all.len();
         for thread in sample.left.of(&self.capture.left) {
             self.threads.note_gone(*thread, count);
         }

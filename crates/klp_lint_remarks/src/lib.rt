@@ -1,26 +1,20 @@
-//! Reports about a catalog's patches before any patch is loaded. A report has three parts: whether each patch would
-//! leave a trace after it was withdrawn, which parts of a patch can't work or do nothing, and what happens to patches
-//! that are loaded over others.
+//! What `klplint` writes: the findings about a catalog's patches (`klp_lint_findings`) in words or as JSON.
 //!
-//! [`lint_over_text`] boots a manager with the catalog, and serves a script. It reports on the state after the script,
-//! in words or as JSON ([`Form`]). `judging` goes through the patches. For one patch alone, `idle` finds the parts that
-//! do nothing, and `limits` the parts that are near a limit. `loaded_over` loads patches over others. `replacing`
-//! reports what a cumulative patch does to the patches that it removes. `state_conflict` finds the system state that
-//! keeps a patch from being loaded. `orders` counts the orders in which all patches can be loaded. `klp_lint` decides
-//! whether a patch leaves a trace. The reports have no contract.
+//! [`lint_over_text`] reads a catalog, has its patches judged, and writes the list. Words are in `words.rt` and the
+//! modules that it names, JSON is in `json.rt`, and `writing.rt` writes the list.
 #![tactic(auto)]
 
-mod idle;
-mod judging;
-mod limits;
-mod loaded_over;
-mod orders;
-mod remark;
-mod replacing;
-mod scripts;
-mod state_conflict;
+mod alone_words;
+mod count_words;
+mod json;
+mod lint;
+mod load_words;
+mod mark_words;
+mod shown;
 mod words;
+mod writing;
 
-pub use judging::lint_over_text;
-pub use remark::Form;
-pub use words::CatalogText;
+pub use klp_lint_findings::{LintInput, NamedText};
+pub use klp_lint_together::LintFault;
+pub use lint::{lint_over_text, print_mark_fault};
+pub use writing::Form;

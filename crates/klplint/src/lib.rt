@@ -5,10 +5,12 @@
 
 use klp_arguments::{LintWords, Program, given_words, lint_words};
 use klp_diagnostics::{FileKind, FileText, Inputs, file_in};
-use klp_lint_remarks::{CatalogText, Form, lint_over_text};
+use klp_lint_remarks::{Form, LintFault, LintInput, NamedText, lint_over_text, print_mark_fault};
 use std::alloc::Global;
+use std::env::FillError;
 use std::io;
-use std::io::Write;
+use std::io::{IsTerminal, Write};
+use std::rt::Env;
 
 /// The name of the program in its messages.
 const NAME: &str = "klplint";
@@ -18,9 +20,27 @@ const CLEAN: u8 = 0;
 
 const FINDINGS: u8 = 3;
 
-/// Returns the form of the answer: for programs, or in words.
-fn form_of(is_json: bool) -> Form {
-    if is_json { Form::Json } else { Form::Words }
+/// The exit status of a faulty mark, as of each other fault.
+const FAULT: u8 = 1;
+
+// Whether the user wants no colours, at any terminal: the variable NO_COLOR is set, and not empty.
+fn has_no_color(rt: &HostRuntime) -> bool {
+    let mut first = [0u8; 1];
+    !matches!(
+        rt.var("NO_COLOR", &mut first),
+        Err(FillError::NotPresent) | Ok(0)
+    )
+}
+
+// Returns the form of the answer: for programs, or in words, which are coloured at a terminal.
+fn form_of(rt: &HostRuntime, is_json: bool) -> Form {
+    if is_json {
+        Form::Json
+    } else if rt.stdout().is_terminal() && !has_no_color(rt) {
+        Form::ColoredWords
+    } else {
+        Form::Words
+    }
 }
 
 // Returns the bytes of the script. Returns no bytes if there is no script.
@@ -31,20 +51,38 @@ fn script_in<E: Write>(rt: &HostRuntime, script: Option<&str>, err: &mut E) -> R
     }
 }
 
+/// What is judged: the catalog, behind the script if one is given.
+fn input_of<'a>(inputs: &Inputs<'a>, has_script: bool) -> LintInput<'a> {
+    let FileText { name, bytes } = inputs.catalog;
+    let catalog = NamedText { name, bytes };
+    let FileText { name, bytes } = inputs.second;
+    let script = NamedText { name, bytes };
+    LintInput {
+        catalog,
+        script: if has_script { Some(script) } else { None },
+    }
+}
+
 // Writes the findings to `out`. If there is a fault, writes to `err` where it is. Returns the exit status.
 fn lint<W: Write, E: Write>(
     alloc: Global,
     inputs: &Inputs<'_>,
+    input: LintInput<'_>,
     form: Form,
     out: &mut W,
     err: &mut E,
 ) -> u8 {
-    let FileText { name, bytes } = inputs.catalog;
-    let catalog = CatalogText { name, bytes, form };
-    match lint_over_text(alloc, catalog, inputs.second.bytes, out) {
-        Ok(0) => CLEAN,
-        Ok(_) => FINDINGS,
-        Err(fault) => inputs.print_fault(alloc, fault, err),
+    if input.script.is_some() {
+        inputs.hint_line(alloc, err);
+    }
+    match lint_over_text(alloc, input, form, out) {
+        Ok(true) => CLEAN,
+        Ok(false) => FINDINGS,
+        Err(LintFault::Program(fault)) => inputs.print_fault(alloc, fault, err),
+        Err(LintFault::Mark(fault)) => {
+            print_mark_fault(NAME, input, fault, err);
+            FAULT
+        }
     }
 }
 
@@ -71,7 +109,15 @@ fn status_in(rt: &HostRuntime) -> Result<u8, u8> {
         },
         kind: FileKind::Script,
     };
-    Ok(lint(rt.alloc(), &inputs, form_of(is_json), &mut out, &mut err))
+    let input = input_of(&inputs, script.is_some());
+    Ok(lint(
+        rt.alloc(),
+        &inputs,
+        input,
+        form_of(rt, is_json),
+        &mut out,
+        &mut err,
+    ))
 }
 
 /// Runs the program, and returns the exit status.

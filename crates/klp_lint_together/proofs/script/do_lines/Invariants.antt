@@ -1,5 +1,5 @@
 use Rattle.std.proofs.Common.{length}
-use Rattle.klp_lint_remarks.proofs.judging.do_lines.Given as goal
+use Rattle.klp_lint_together.proofs.script.do_lines.Given as goal
 
 -- the ledger is that of its blank
 abbrev pub ghosts-do_line : goal.ghosts-do_line

@@ -1,0 +1,103 @@
+//! Finds parts of a patch that can't work, or do nothing, whatever the state is.
+
+use crate::finding::{Finding, IdleReason, PartFinding};
+use crate::findings::Findings;
+use crate::linted::{Linted, names_state};
+use crate::marks::is_assumed;
+use klp_catalog_text::{PlanCallback, PlanPatch, PlanTarget};
+use klp_modules::place_in;
+use klp_types::{Edit, PatchId};
+use std::alloc::AllocError;
+
+/// Returns the system state of an edit that does nothing, whatever is installed, and why it does nothing. Returns
+/// `None` if the edit may do something.
+fn idle_state(patch: &PlanPatch, patches: &[PlanPatch], edit: &Edit) -> Option<(u64, IdleReason)> {
+    match *edit {
+        Edit::SetData(id, _) | Edit::TakePrev(id) if !names_state(patch, id) => {
+            Some((id, IdleReason::Unnamed))
+        }
+        Edit::TakePrev(id) => {
+            let count = patches.iter().filter(|it| names_state(it, id)).count();
+            if count > 1 {
+                None
+            } else {
+                Some((id, IdleReason::Alone))
+            }
+        }
+        _ => None,
+    }
+}
+
+/// Adds the edits of a callback that do nothing.
+fn find_idle_edits(
+    found: &mut Findings<'_>,
+    patch: PatchId,
+    place: usize,
+    callback: &PlanCallback,
+) -> Result<(), AllocError> {
+    let patches = found.linted.patches;
+    let Some(own) = found.linted.patch(patch) else {
+        return Ok(());
+    };
+    for edit in callback.script.edits.as_slice() {
+        if let Some((id, why)) = idle_state(own, patches, edit) {
+            let idle = PartFinding::Idle {
+                place,
+                which: callback.which,
+                id,
+                why,
+            };
+            found.add(Finding::Part(patch, idle))?;
+        }
+    }
+    Ok(())
+}
+
+/// Adds the edits of a patch that do nothing.
+pub fn find_idle(found: &mut Findings<'_>, patch: PatchId) -> Result<(), AllocError> {
+    let Some(own) = found.linted.patch(patch) else {
+        return Ok(());
+    };
+    for (place, target) in own.targets.iter().enumerate() {
+        for callback in target.callbacks.iter() {
+            find_idle_edits(found, patch, place, callback)?;
+        }
+    }
+    Ok(())
+}
+
+/// The finding about a function of a target whose name and position pick no symbol. `None` if they pick one.
+fn no_symbol(
+    linted: &Linted<'_>,
+    target: &PlanTarget,
+    place: usize,
+    function: usize,
+) -> Option<PartFinding> {
+    let object = linted.objects.get(usize::from(target.object.0))?;
+    let own = target.functions.as_slice().get(function)?;
+    match place_in(object, own.symbol.as_str(), own.sympos) {
+        Ok(_) => None,
+        Err(fault) => Some(PartFinding::NoSymbol {
+            place,
+            function,
+            fault,
+            is_assumed: is_assumed(linted.marks, usize::from(target.object.0)),
+        }),
+    }
+}
+
+/// Adds the functions of a patch whose name and position pick no symbol.
+pub fn find_unpicked(found: &mut Findings<'_>, patch: PatchId) -> Result<(), AllocError> {
+    let linted = found.linted;
+    let Some(own) = linted.patch(patch) else {
+        return Ok(());
+    };
+    for (place, target) in own.targets.iter().enumerate() {
+        for function in 0..target.functions.len() {
+            if let Some(finding) = no_symbol(&linted, target, place, function) {
+                found.add(Finding::Part(patch, finding))?;
+            }
+        }
+    }
+    Ok(())
+}

@@ -1,0 +1,38 @@
+//! What can be said about the patches of a catalog, as values, and what is found about each patch alone.
+//!
+//! A [`Finding`] (`src/finding.rt`) has numbers and places, and no words. `findings.rt` has the list of findings,
+//! `about.rt` says which line and which patches a finding is about, and `deciding.rt` which findings make the status 3.
+//!
+//! `tracing.rt` asks `klp_lint` whether a patch leaves a trace. `idle.rt` finds parts that do nothing, and `limits.rt`
+//! parts near a limit. `marks.rt` reads the marks by which a catalog says how well it is known, and `known.rt` what they
+//! mean for a patch's callbacks.
+#![tactic(auto)]
+
+mod about;
+mod deciding;
+mod finding;
+mod findings;
+mod idle;
+mod known;
+mod limits;
+mod linted;
+mod lists;
+mod marks;
+mod scripts;
+mod tracing;
+
+pub use about::{About, callbacks_of};
+pub use finding::{
+    CountFinding, ErrorText, Finding, FindingKind, IdleReason, Judged, JudgedWorlds, LoadFinding,
+    Orders, PartFinding, RefusedLine, ReplaceFinding, StateConflict, Tally, Together, TraceFinding,
+    WhyNotLoaded, WhyStays,
+};
+pub use findings::{Findings, PARTS, Part, Said, World};
+pub use known::{callback_mark, is_understood};
+pub use linted::{LintInput, Linted, NamedText, names_state, patch_id};
+pub use lists::{FunctionSet, PatchList};
+pub use marks::{
+    MARK_PREFIX, Mark, MarkFault, MarkFaultKind, MarkWord, NoMarks, left_out_by, read_marks,
+};
+pub use scripts::edits_for;
+pub use tracing::judge_alone;

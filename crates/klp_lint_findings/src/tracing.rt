@@ -1,0 +1,230 @@
+//! Judges each patch by itself: whether it could be enabled now, and withdrawn later, without leaving a trace.
+ghost use Rattle.std.specs.Prelude.{◌≡◌, true, IfSome, IfNone};
+ghost use Rattle.std.specs.List.{list_any};
+ghost use Rattle.klp_manager_state.specs.Managed.{setting_of};
+ghost use Rattle.klp_model.specs.Company.{IsFairStart};
+ghost use Rattle.klp_lint.specs.Premises.{ArePatchesOf, Fails, HoldEverywhere};
+ghost use Rattle.klp_lint.specs.declared.premise.Premise.TheVariants.{NotUndone};
+ghost use Rattle.klp_lint_findings.specs.Deciding.{is_unknown};
+ghost use Rattle.klp_lint_findings.specs.Traces.{Claims};
+
+use crate::finding::{Finding, TraceFinding};
+use crate::findings::{Findings, World};
+use crate::idle::{find_idle, find_unpicked};
+use crate::known::{KINDS, MarkedCallback, callback_mark, first_marked, is_understood};
+use crate::limits::{find_alike, find_near, find_room};
+use crate::linted::{Linted, patch_id};
+use crate::marks::{MarkWord, mark_at};
+use klp_catalog_text::{PlanCallback, PlanTarget};
+use klp_core::Manager;
+use klp_lint::{Pair, Premise, found_by, holds_everywhere, leaves_no_trace, left_behind};
+use klp_types::{PatchId, ShadowKey};
+use std::alloc::AllocError;
+
+/// The callbacks of a patch for a target. There are none if there is no such target.
+fn callbacks_at<'a>(linted: &Linted<'a>, patch: PatchId, place: usize) -> &'a [PlanCallback] {
+    match linted.target(patch, place) {
+        Some(target) => &target.callbacks,
+        None => &[],
+    }
+}
+
+/// The finding about a pair of callbacks that don't undo each other.
+fn not_undone(
+    linted: &Linted<'_>,
+    manager: &Manager,
+    patch: PatchId,
+    place: usize,
+    pair: Pair,
+    key: ShadowKey,
+) -> TraceFinding
+    ensures { Fails (setting_of manager.now.managed) patch manager.now.managed.state (NotUndone place pair key)
+        → Claims (setting_of manager.now.managed) patch manager.now.managed.state result }
+{
+    let callbacks = callbacks_at(linted, patch, place);
+    let found = found_by(callbacks, pair, key, manager.shadow_get(key));
+    let left = left_behind(callbacks, pair, key, manager.shadow_get(key));
+    TraceFinding::NotUndone {
+        place,
+        pair,
+        key,
+        found,
+        left,
+    }
+}
+
+/// The finding about a premise that fails.
+fn failing(linted: &Linted<'_>, manager: &Manager, patch: PatchId, premise: Premise) -> TraceFinding
+    ensures { Fails (setting_of manager.now.managed) patch manager.now.managed.state premise
+        → Claims (setting_of manager.now.managed) patch manager.now.managed.state result }
+{
+    match premise {
+        Premise::Moving => TraceFinding::Moving,
+        Premise::Installed => TraceFinding::Installed,
+        Premise::NotUndone { place, pair, key } => {
+            not_undone(linted, manager, patch, place, pair, key)
+        }
+        Premise::NotApart { first, second, key } => TraceFinding::NotApart { first, second, key },
+    }
+}
+
+/// Whether an object has callbacks that aren't judged, since the object isn't loaded.
+fn is_left_out(manager: &Manager, target: &PlanTarget) -> bool {
+    !target.callbacks.is_empty() && !manager.modules().is_loaded(target.object)
+}
+
+/// The targets of a patch are judged unless they aren't loaded. Returns whether all that have callbacks are loaded.
+fn are_all_judged(linted: &Linted<'_>, manager: &Manager, patch: PatchId) -> bool {
+    match linted.patch(patch) {
+        Some(own) => own
+            .targets
+            .iter()
+            .all(|target| !is_left_out(manager, target)),
+        None => true,
+    }
+}
+
+/// Whether the premises hold for a patch in each world that has none of its variables.
+fn is_clean_everywhere(linted: &Linted<'_>, manager: &Manager, patch: PatchId) -> bool
+    ensures { ArePatchesOf (setting_of manager.now.managed) linted.now.patches.now
+        → result ≡ true → HoldEverywhere (setting_of manager.now.managed) patch manager.now.managed.state }
+{
+    holds_everywhere(manager, linted.patches, patch).is_ok()
+}
+
+/// What is found about a patch whose premises hold: that it leaves no trace, or that it leaves none if guesses are
+/// right. `None` if a callback isn't understood.
+fn trace_without_fault(
+    linted: &Linted<'_>,
+    manager: &Manager,
+    patch: PatchId,
+    is_scripted: bool,
+) -> Option<TraceFinding>
+    ensures claims { ArePatchesOf (setting_of manager.now.managed) linted.now.patches.now
+        → IsFairStart (setting_of manager.now.managed) patch manager.now.managed.state
+        → IfSome result (Claims (setting_of manager.now.managed) patch manager.now.managed.state) }
+    ensures unknown { IfNone result (list_any is_unknown linted.now.marks.now ≡ true) }
+{
+    if !is_understood(linted, manager, patch) {
+        return None;
+    }
+    if let Some(guessed) = first_marked(linted, manager, patch, MarkWord::Guessed) {
+        let MarkedCallback { place, which, mark } = guessed;
+        return Some(TraceFinding::Guessed { place, which, mark });
+    }
+    Some(TraceFinding::Clean {
+        is_everywhere: is_clean_everywhere(linted, manager, patch),
+        is_partial: is_scripted && !are_all_judged(linted, manager, patch),
+    })
+}
+
+/// Whether the patch would leave a trace. `None` if a callback isn't understood, and no premise fails otherwise.
+fn trace_of(
+    linted: &Linted<'_>,
+    manager: &Manager,
+    patch: PatchId,
+    is_scripted: bool,
+) -> Option<TraceFinding>
+    ensures claims { ArePatchesOf (setting_of manager.now.managed) linted.now.patches.now
+        → IfSome result (Claims (setting_of manager.now.managed) patch manager.now.managed.state) }
+    ensures unknown { IfNone result (list_any is_unknown linted.now.marks.now ≡ true) }
+{
+    match leaves_no_trace(manager, linted.patches, patch) {
+        Ok(()) => trace_without_fault(linted, manager, patch, is_scripted),
+        Err(premise) => Some(failing(linted, manager, patch, premise)),
+    }
+}
+
+/// Adds the objects of a patch whose callbacks aren't judged, since they aren't loaded.
+fn find_unjudged(
+    found: &mut Findings<'_>,
+    manager: &Manager,
+    patch: PatchId,
+) -> Result<(), AllocError> {
+    let Some(own) = found.linted.patch(patch) else {
+        return Ok(());
+    };
+    for (place, target) in own.targets.iter().enumerate() {
+        if is_left_out(manager, target) {
+            found.add(Finding::Trace(patch, TraceFinding::NotLoaded { place }))?;
+        }
+    }
+    Ok(())
+}
+
+/// Adds the callbacks for a target that aren't understood.
+fn find_unknown_for(
+    found: &mut Findings<'_>,
+    patch: PatchId,
+    place: usize,
+    target: &PlanTarget,
+) -> Result<(), AllocError> {
+    for which in KINDS {
+        if let Some(mark) = callback_mark(&found.linted, target, which, MarkWord::Unknown) {
+            let unknown = TraceFinding::NotUnderstood { place, which, mark };
+            found.add(Finding::Trace(patch, unknown))?;
+        }
+    }
+    Ok(())
+}
+
+/// Adds the callbacks of a patch for loaded objects that aren't understood. Also adds that it isn't known whether the
+/// patch is cumulative.
+fn find_unknown(
+    found: &mut Findings<'_>,
+    manager: &Manager,
+    patch: PatchId,
+) -> Result<(), AllocError> {
+    let linted = found.linted;
+    let Some(own) = linted.patch(patch) else {
+        return Ok(());
+    };
+    for word in [MarkWord::Unknown, MarkWord::Guessed] {
+        if let Some(mark) = mark_at(linted.marks, word, own.line) {
+            found.add(Finding::Trace(patch, TraceFinding::MaybeCumulative { mark }))?;
+        }
+    }
+    for (place, target) in own.targets.iter().enumerate() {
+        if manager.modules().is_loaded(target.object) {
+            find_unknown_for(found, patch, place, target)?;
+        }
+    }
+    Ok(())
+}
+
+/// Adds whether a patch would leave a trace. Behind a script, objects that aren't loaded are added too. Without one,
+/// they are judged in the other world.
+fn find_trace(
+    found: &mut Findings<'_>,
+    manager: &Manager,
+    patch: PatchId,
+) -> Result<(), AllocError> {
+    let is_scripted = found.world == World::Each;
+    if let Some(trace) = trace_of(&found.linted, manager, patch, is_scripted) {
+        found.add(Finding::Trace(patch, trace))?;
+    }
+    find_unknown(found, manager, patch)?;
+    if is_scripted && manager.enabled(patch).is_none() && manager.moving().is_none() {
+        find_unjudged(found, manager, patch)?;
+    }
+    Ok(())
+}
+
+/// Adds what is found about the parts of a patch, whatever the state is.
+fn find_parts(found: &mut Findings<'_>, patch: PatchId) -> Result<(), AllocError> {
+    find_idle(found, patch)?;
+    find_unpicked(found, patch)?;
+    find_near(found, patch)?;
+    find_room(found, patch)?;
+    find_alike(found, patch)
+}
+
+/// Judges each patch by itself.
+pub fn judge_alone(found: &mut Findings<'_>, manager: &Manager) -> Result<(), AllocError> {
+    for number in 0..found.linted.patches.len() {
+        let patch = patch_id(number);
+        find_trace(found, manager, patch)?;
+        find_parts(found, patch)?;
+    }
+    Ok(())
+}

@@ -1,0 +1,225 @@
+//! Finds functions that two patches change, and functions that a cumulative patch loses. A function is known by its
+//! site: the symbol that it replaces.
+
+use crate::loading::Outcomes;
+use klp_catalog_text::PlanTarget;
+use klp_core::Manager;
+use klp_lint_findings::{Finding, Findings, FunctionSet, Linted, LoadFinding, PatchList, patch_id};
+use klp_types::{MAX_SITES, PatchId, Site};
+use std::alloc::{AllocError, Global};
+
+/// The sites that a patch changes.
+#[derive(Clone, Copy)]
+struct SiteSet {
+    flags: [bool; MAX_SITES],
+}
+
+/// The sites that a patch of the manager changes.
+fn sites_of(manager: &Manager, patch: PatchId) -> SiteSet {
+    let mut flags = [false; MAX_SITES];
+    for number in 0..manager.functions(patch) {
+        if let Some(site) = manager.site_of(patch, number) {
+            if let Some(flag) = flags.get_mut(usize::from(site.0)) {
+                *flag = true;
+            }
+        }
+    }
+    SiteSet { flags }
+}
+
+/// The sites that each patch changes.
+#[derive(Drop)]
+pub(crate) struct ChangedSites {
+    sets: Vec<SiteSet>,
+}
+
+impl ChangedSites {
+    /// The sites that each of the first `count` patches of the manager changes.
+    pub(crate) fn new(
+        alloc: Global,
+        manager: &Manager,
+        count: usize,
+    ) -> Result<ChangedSites, AllocError> {
+        let mut sets = Vec::new(alloc);
+        for number in 0..count {
+            sets.push(sites_of(manager, patch_id(number)))?;
+        }
+        Ok(ChangedSites { sets })
+    }
+
+    /// Whether a patch changes a site.
+    fn has(&self, patch: PatchId, site: Site) -> bool {
+        match self.sets.get(usize::from(patch.0)) {
+            Some(set) => set.flags.get(usize::from(site.0)).copied().unwrap_or(false),
+            None => false,
+        }
+    }
+}
+
+/// How many functions a patch has for the targets before this one.
+fn functions_before(linted: &Linted<'_>, patch: PatchId, place: usize) -> usize {
+    let mut count = 0usize;
+    if let Some(own) = linted.patch(patch) {
+        for target in own.targets.iter().take(place) {
+            count = count.saturating_add(target.functions.len());
+        }
+    }
+    count
+}
+
+/// The site that a function of a target replaces. `None` if its name and position pick no symbol.
+fn site_in(
+    linted: &Linted<'_>,
+    manager: &Manager,
+    patch: PatchId,
+    place: usize,
+    function: usize,
+) -> Option<Site> {
+    let first = functions_before(linted, patch, place);
+    manager.site_of(patch, first.saturating_add(function))
+}
+
+/// Those functions of a target of `gone` that another patch doesn't change.
+pub(crate) fn lost_functions(
+    linted: &Linted<'_>,
+    manager: &Manager,
+    changed: &ChangedSites,
+    gone: PatchId,
+    place: usize,
+    by: PatchId,
+) -> FunctionSet {
+    let mut lost = FunctionSet::new();
+    let Some(target) = linted.target(gone, place) else {
+        return lost;
+    };
+    for number in 0..target.functions.len() {
+        if let Some(site) = site_in(linted, manager, gone, place, number) {
+            if !changed.has(by, site) {
+                lost.insert(number);
+            }
+        }
+    }
+    lost
+}
+
+/// Whether two patches may be installed at the same time: one is loaded over the other, which may be installed already.
+fn may_both_stand(manager: &Manager, outcomes: &Outcomes, patch: PatchId, other: PatchId) -> bool {
+    if manager.enabled(other).is_some() {
+        return outcomes.stands(None, patch);
+    }
+    outcomes.stands(Some(other), patch) || outcomes.stands(Some(patch), other)
+}
+
+/// The patches whose functions a patch may hide, or that may hide those of the patch: both may be installed, and
+/// neither is cumulative. Of two patches that aren't installed, only the earlier one of the catalog is a rival of the
+/// other.
+fn rivals_of(
+    linted: &Linted<'_>,
+    manager: &Manager,
+    outcomes: &Outcomes,
+    patch: PatchId,
+) -> PatchList {
+    let mut rivals = PatchList::new();
+    for (number, own) in linted.patches.iter().enumerate() {
+        let other = patch_id(number);
+        let is_first = number < usize::from(patch.0) || manager.enabled(other).is_some();
+        if is_first && !own.replace && may_both_stand(manager, outcomes, patch, other) {
+            rivals.push(other);
+        }
+    }
+    rivals
+}
+
+/// Those of these patches that change a site.
+fn changing(changed: &ChangedSites, rivals: &PatchList, site: Option<Site>) -> PatchList {
+    let mut others = PatchList::new();
+    if let Some(site) = site {
+        for rival in rivals.as_slice() {
+            if changed.has(*rival, site) {
+                others.push(*rival);
+            }
+        }
+    }
+    others
+}
+
+/// A target of a patch, and what its functions are compared with.
+#[derive(Clone, Copy)]
+struct Compared<'l, 'm, 'c, 'r> {
+    linted: Linted<'l>,
+    manager: &'m Manager,
+    changed: &'c ChangedSites,
+    rivals: &'r PatchList,
+    patch: PatchId,
+    place: usize,
+}
+
+impl Compared<'_, '_, '_, '_> {
+    /// The rivals that change what a function of the target changes.
+    fn others(&self, function: usize) -> PatchList {
+        let linted = self.linted;
+        let site = site_in(&linted, self.manager, self.patch, self.place, function);
+        changing(self.changed, self.rivals, site)
+    }
+
+    /// The functions of the target that these rivals change, and no other rival.
+    fn functions(&self, target: &PlanTarget, others: &PatchList) -> FunctionSet {
+        let mut functions = FunctionSet::new();
+        for number in 0..target.functions.len() {
+            if self.others(number) == *others {
+                functions.insert(number);
+            }
+        }
+        functions
+    }
+
+    /// Adds the functions of the target that rivals change too. Functions that the same rivals change are one finding.
+    fn find(&self, found: &mut Findings<'_>, target: &PlanTarget) -> Result<(), AllocError> {
+        let mut done = FunctionSet::new();
+        let (patch, place) = (self.patch, self.place);
+        for number in 0..target.functions.len() {
+            let others = self.others(number);
+            if !others.as_slice().is_empty() && !done.contains(number) {
+                let functions = self.functions(target, &others);
+                done.insert_all(&functions);
+                let same = LoadFinding::SameFunctions {
+                    others,
+                    place,
+                    functions,
+                };
+                found.add(Finding::Load(patch, same))?;
+            }
+        }
+        Ok(())
+    }
+}
+
+/// Adds the functions that a patch and others change both, if neither is cumulative and both may be installed.
+pub(crate) fn find_same_functions(
+    found: &mut Findings<'_>,
+    manager: &Manager,
+    outcomes: &Outcomes,
+    changed: &ChangedSites,
+    patch: PatchId,
+) -> Result<(), AllocError> {
+    let linted = found.linted;
+    let Some(own) = linted.patch(patch) else {
+        return Ok(());
+    };
+    if own.replace {
+        return Ok(());
+    }
+    let rivals = rivals_of(&linted, manager, outcomes, patch);
+    for (place, target) in own.targets.iter().enumerate() {
+        let compared = Compared {
+            linted,
+            manager,
+            changed,
+            rivals: &rivals,
+            patch,
+            place,
+        };
+        compared.find(found, target)?;
+    }
+    Ok(())
+}
