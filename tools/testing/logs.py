@@ -342,6 +342,21 @@ def many_samples():
     return None if is_well else f"{status}, {out[-600:]} and {err}"
 
 
+def many_sleeps():
+    """63 tasks sleep again and again: each stretch counts, and the answer doesn't take longer than the search."""
+    count, threads = 600 if testing.run.IS_BUILT else 40, range(200, 263)
+    log = HEAD
+    for number in range(count):
+        log += "".join(f"task {it} {it} 401 S 0 {number + 1} 1 0 worker\n{FRAME}" for it in threads if number == 0 or (it + number) % 2)
+        log += f"sample {8.56 + number / 4:.2f} {8.66 + number / 4:.2f} 551 0 0 0\n"
+    with tempfile.TemporaryDirectory(prefix="log-") as room:
+        with open(f"{room}/a.log", "w", encoding="utf-8") as it:
+            it.write(f"{log}{SYMBOLS}end stopped\n")
+        status, out, err = finish(start(["klpsee", "a.log"], room, executable=built_program()), seconds=60)
+    is_well = (status, err) == (0, "") and f"\na run of the rules shows each of {count + 6} samples\n" in out.decode()
+    return None if is_well else f"{status}, {out[-600:]} and {err}"
+
+
 def subsets(name):
     """Of a true log with some of its samples no sample is broken, and nearly each is explained. Tried are so many subsets, drawn
     at random, with one sample or two among them."""
@@ -463,7 +478,7 @@ def cases():
     made += [(f"{it} tasks", functools.partial(many_tasks, it)) for it in (1, 64, 65)]
     made += [(f"a function of {it} bytes", functools.partial(long_name, it)) for it in (127, 128, 511)]
     made += [(f"a patch of {it} functions", functools.partial(many_functions, it)) for it in (62, 600)]
-    made += [("samples in the wrong order", swapped), ("many samples", many_samples)]
+    made += [("samples in the wrong order", swapped), ("many samples", many_samples), ("many sleeps", many_sleeps)]
     made += [("62 threads of one process", functools.partial(one_process, 62)), ("a task that isn't followed any longer", not_followed)]
     made += [("a log that begins with a reversed cumulative patch", begun_reversed)]
     made += [("the kernel's log against the samples", kernel_says_otherwise), ("a function that can't be placed", unplaced)]

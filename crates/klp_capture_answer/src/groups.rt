@@ -25,17 +25,58 @@ pub(crate) fn process_name(
     }
 }
 
-/// Returns how many different threads the list has that are alike with this one.
-fn count_threads(holders: &[HolderReport], like: &HolderReport) -> u64 {
-    let mut count: u64 = 0;
+/// Sleeps that belong together, as far as they are gathered.
+#[derive(Drop)]
+struct SleepGroup {
+    /// The number of the first of them in the list of holders.
+    first: usize,
+    /// Their threads, each once.
+    threads: Vec<u64>,
+    from_us: u64,
+    to_us: u64,
+}
+
+impl SleepGroup {
+    fn new(alloc: Global, place: usize, holder: &HolderReport) -> Result<SleepGroup, AllocError> {
+        let mut threads = Vec::new(alloc);
+        threads.push(holder.task.thread)?;
+        Ok(SleepGroup {
+            first: place,
+            threads,
+            from_us: holder.from_us,
+            to_us: holder.to_us,
+        })
+    }
+
+    fn add(&mut self, holder: &HolderReport) -> Result<(), AllocError> {
+        if !self.threads.contains(&holder.task.thread) {
+            self.threads.push(holder.task.thread)?;
+        }
+        self.from_us = self.from_us.min(holder.from_us);
+        self.to_us = self.to_us.max(holder.to_us);
+        Ok(())
+    }
+}
+
+/// Gathers the sleeps that belong together, in the order of the first of each. There are few groups and at most 64
+/// threads, so each sleep costs no more than these, however many there are.
+fn gather_groups(alloc: Global, holders: &[HolderReport]) -> Result<Vec<SleepGroup>, AllocError> {
+    let mut groups: Vec<SleepGroup> = Vec::new(alloc);
     for (place, holder) in holders.iter().enumerate() {
-        let is_again = holders.iter().take(place).any(|other| are_alike(other, like)
-            && other.task.thread == holder.task.thread);
-        if are_alike(holder, like) && !is_again {
-            count = count.saturating_add(1);
+        let known = groups.iter().position(|group| match holders.get(group.first) {
+            Some(first) => are_alike(first, holder),
+            None => false,
+        });
+        match known {
+            Some(known) => {
+                if let Some(group) = groups.get_mut(known) {
+                    group.add(holder)?;
+                }
+            }
+            None => groups.push(SleepGroup::new(alloc, place, holder)?)?,
         }
     }
-    count
+    Ok(groups)
 }
 
 /// Returns the groups of these holders, in the order of the first of each.
@@ -45,25 +86,17 @@ pub(crate) fn groups_of(
     holders: &[HolderReport],
 ) -> Result<Vec<GroupReport>, AllocError> {
     let mut groups = Vec::new(alloc);
-    for (place, holder) in holders.iter().enumerate() {
-        let is_grouped = holders
-            .iter()
-            .take(place)
-            .any(|other| are_alike(other, holder));
-        if is_grouped {
+    for group in &gather_groups(alloc, holders)? {
+        let Some(holder) = holders.get(group.first) else {
             continue;
-        }
-        let alike = holders.iter().filter(|other| are_alike(other, holder));
-        let from_us = alike.map(|other| other.from_us).min();
-        let alike = holders.iter().filter(|other| are_alike(other, holder));
-        let to_us = alike.map(|other| other.to_us).max();
+        };
         groups.push(GroupReport {
             process: holder.task.process,
             process_name: process_name(alloc, capture, &holder.task)?,
-            threads: count_threads(holders, holder),
-            first_holder: place,
-            from_us: from_us.unwrap_or(holder.from_us),
-            to_us: to_us.unwrap_or(holder.to_us),
+            threads: group.threads.len() as u64,
+            first_holder: group.first,
+            from_us: group.from_us,
+            to_us: group.to_us,
         })?;
     }
     Ok(groups)

@@ -44,9 +44,9 @@ fn runs_when_patched(which: Which) -> bool {
     matches!(which, Which::Pre | Which::Post)
 }
 
-/// Returns the turn of a callback among the callbacks that one event runs. All callbacks of applied patches run before
-/// those of removed patches. In each of these groups, an older patch comes before a newer one. `installed` are the
-/// patches that were installed before the event, oldest first.
+/// Returns the number by which the callbacks of one event are ordered: first pre-patch and post-patch callbacks, then
+/// pre-unpatch and post-unpatch callbacks, and in each of the two groups those of an older patch first. `installed` are
+/// the patches that were installed before the event, oldest first.
 fn turn_of(call: &Call, installed: &[PatchId]) -> usize {
     let place = installed.iter().position(|patch| *patch == call.patch);
     // A patch that wasn't installed is new, so it is newer than all others.

@@ -257,7 +257,8 @@ fn label_width(letters: usize) -> u64 {
 }
 
 /// Returns the left end of a stay's label, which is `width` points wide. Returns `None` if there is no room for it
-/// between the stops. [`SHOWN`] points of the stay are left free beside the label.
+/// between the stops. [`SHOWN`] points of the stay are left free: right of the label if the stay has ended, left of it
+/// if the stay lasts until the end of the run.
 ///
 /// If the stay has ended, the label is as far left in the stay as possible. If the stay lasts until the end of the run,
 /// the label is as far right in the stay as possible, and if there is no room, it may extend into the margin. The right

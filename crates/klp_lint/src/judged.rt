@@ -48,8 +48,8 @@ fn judge<V: Variables>(
     }
 }
 
-/// Whether a patch that is enabled now and withdrawn later leaves no trace. This is so if the patch is at a fair start
-/// of the round trip (docs/ROUND_TRIP.md). If the patch isn't at a fair start, `Err` has a premise that fails.
+/// Whether enabling this patch now, and withdrawing it later, would leave no trace: `Ok` if the patch is at a fair start
+/// of the round trip (docs/ROUND_TRIP.md), or else `Err` with a premise that fails.
 ///
 /// `patches` are those of the plan with which the manager was booted. They are needed because a manager doesn't show
 /// the scripts of its callbacks.
