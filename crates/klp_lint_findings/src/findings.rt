@@ -1,4 +1,7 @@
 //! The list of findings. What is so in both judged worlds is in the list once.
+ghost use Rattle.std.specs.Prelude.{◌≡◌, true, IfOk, IfSome};
+ghost use Rattle.klp_lint_findings.specs.Deciding.{decides};
+ghost use Rattle.klp_lint_findings.specs.Sound.{one_decides, Grows};
 
 use crate::about::{About, about_of};
 use crate::finding::{CountFinding, Finding, FindingKind, LoadFinding};
@@ -66,9 +69,11 @@ impl Said {
     }
 }
 
-/// Whether two findings say the same, if they are found in different worlds.
-fn is_same(said: &Said, finding: &Finding, about: &About) -> bool {
-    if said.about != *about {
+/// Whether two findings say the same, if they are found in different worlds. If so, both make the status 3, or none.
+fn is_same(said: &Said, finding: &Finding, about: &About) -> bool
+    ensures { result ≡ true → decides finding.now ≡ decides said.now.finding }
+{
+    if said.about != *about || said.finding.decides() != finding.decides() {
         return false;
     }
     match (said.finding, *finding) {
@@ -109,7 +114,9 @@ impl<'a> Findings<'a> {
     }
 
     /// The place in the list of the same finding without modules. `None` if there is no such finding.
-    fn place_of(&self, finding: &Finding, about: &About) -> Option<usize> {
+    fn place_of(&self, finding: &Finding, about: &About) -> Option<usize>
+        ensures { IfSome result (λ place. decides finding.now ≡ true → one_decides self.now.said.items ≡ true) }
+    {
         if self.world != World::WithModules {
             return None;
         }
@@ -118,7 +125,10 @@ impl<'a> Findings<'a> {
     }
 
     /// Adds a finding. If the same was found without modules, it holds in each world.
-    pub fn add(&mut self, finding: Finding) -> Result<(), AllocError> {
+    pub fn add(&mut self, finding: Finding) -> Result<(), AllocError>
+        ensures added { IfOk result (λ done. decides finding ≡ true → one_decides self.new.said.items ≡ true) }
+        ensures grows { IfOk result (λ done. Grows self.old self.new) }
+    {
         let about = about_of(&self.linted, &finding);
         if let Some(place) = self.place_of(&finding, &about) {
             if let Some(same) = self.said.get_mut(place) {

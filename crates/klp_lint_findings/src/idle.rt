@@ -1,4 +1,6 @@
 //! Finds parts of a patch that can't work, or do nothing, whatever the state is.
+ghost use Rattle.std.specs.Prelude.{IfOk};
+ghost use Rattle.klp_lint_findings.specs.Sound.{Grows};
 
 use crate::finding::{Finding, IdleReason, PartFinding};
 use crate::findings::Findings;
@@ -34,7 +36,9 @@ fn find_idle_edits(
     patch: PatchId,
     place: usize,
     callback: &PlanCallback,
-) -> Result<(), AllocError> {
+) -> Result<(), AllocError>
+    ensures { IfOk result (λ done. Grows found.old found.new) }
+{
     let patches = found.linted.patches;
     let Some(own) = found.linted.patch(patch) else {
         return Ok(());
@@ -54,7 +58,9 @@ fn find_idle_edits(
 }
 
 /// Adds the edits of a patch that do nothing.
-pub fn find_idle(found: &mut Findings<'_>, patch: PatchId) -> Result<(), AllocError> {
+pub fn find_idle(found: &mut Findings<'_>, patch: PatchId) -> Result<(), AllocError>
+    ensures { IfOk result (λ done. Grows found.old found.new) }
+{
     let Some(own) = found.linted.patch(patch) else {
         return Ok(());
     };
@@ -87,7 +93,9 @@ fn no_symbol(
 }
 
 /// Adds the functions of a patch whose name and position pick no symbol.
-pub fn find_unpicked(found: &mut Findings<'_>, patch: PatchId) -> Result<(), AllocError> {
+pub fn find_unpicked(found: &mut Findings<'_>, patch: PatchId) -> Result<(), AllocError>
+    ensures { IfOk result (λ done. Grows found.old found.new) }
+{
     let linted = found.linted;
     let Some(own) = linted.patch(patch) else {
         return Ok(());

@@ -5,7 +5,7 @@
 //!
 //! `tracing.rt` asks `klp_lint` whether a patch leaves a trace. `idle.rt` finds parts that do nothing, and `limits.rt`
 //! parts near a limit. `marks.rt` reads the marks by which a catalog says how well it is known, and `known.rt` what they
-//! mean for a patch's callbacks.
+//! mean for a patch's callbacks. `laws.rt` has a law about lists of findings.
 #![tactic(auto)]
 
 mod about;
@@ -14,6 +14,7 @@ mod finding;
 mod findings;
 mod idle;
 mod known;
+pub mod laws;
 mod limits;
 mod linted;
 mod lists;

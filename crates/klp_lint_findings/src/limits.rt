@@ -1,4 +1,6 @@
 //! Finds what in a patch is near a limit, and whether a patch is just like another one.
+ghost use Rattle.std.specs.Prelude.{IfOk};
+ghost use Rattle.klp_lint_findings.specs.Sound.{Grows};
 
 use crate::finding::{Finding, PartFinding};
 use crate::findings::Findings;
@@ -46,7 +48,9 @@ fn little_left(linted: &Linted<'_>, target: &PlanTarget, function: usize) -> Opt
 }
 
 /// Adds each function of a patch at whose symbol the call of the handler is near the end of its reach.
-pub fn find_near(found: &mut Findings<'_>, patch: PatchId) -> Result<(), AllocError> {
+pub fn find_near(found: &mut Findings<'_>, patch: PatchId) -> Result<(), AllocError>
+    ensures { IfOk result (λ done. Grows found.old found.new) }
+{
     let linted = found.linted;
     let Some(own) = linted.patch(patch) else {
         return Ok(());
@@ -81,7 +85,9 @@ fn count_wanted(patch: &PlanPatch) -> usize {
 
 /// Adds a patch whose callbacks may find no room for their variables. This may happen if the variables that all
 /// callbacks of the catalog add don't fit together.
-pub fn find_room(found: &mut Findings<'_>, patch: PatchId) -> Result<(), AllocError> {
+pub fn find_room(found: &mut Findings<'_>, patch: PatchId) -> Result<(), AllocError>
+    ensures { IfOk result (λ done. Grows found.old found.new) }
+{
     let Some(own) = found.linted.patch(patch) else {
         return Ok(());
     };
@@ -138,7 +144,9 @@ fn is_alike(one: &PlanPatch, other: &PlanPatch) -> bool {
 }
 
 /// Adds the first older patch that is just like this one.
-pub fn find_alike(found: &mut Findings<'_>, patch: PatchId) -> Result<(), AllocError> {
+pub fn find_alike(found: &mut Findings<'_>, patch: PatchId) -> Result<(), AllocError>
+    ensures { IfOk result (λ done. Grows found.old found.new) }
+{
     let patches = found.linted.patches;
     let Some(own) = found.linted.patch(patch) else {
         return Ok(());

@@ -1,4 +1,5 @@
 //! The catalog that is judged, with the names and the lines of its parts.
+ghost use Rattle.std.specs.Prelude.{◌≡◌, ◌<◌};
 
 use crate::marks::Mark;
 use klp_catalog_text::{PlanCallback, PlanPatch, PlanTarget};
@@ -129,6 +130,8 @@ impl<'a> Linted<'a> {
 }
 
 /// The number of a patch, in the type that events use.
-pub fn patch_id(number: usize) -> PatchId {
+pub fn patch_id(number: usize) -> PatchId
+    ensures { number < 256 → result ≡ number }
+{
     PatchId(u8::try_from(number).unwrap_or(u8::MAX))
 }

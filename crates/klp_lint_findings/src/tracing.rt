@@ -1,5 +1,5 @@
 //! Judges each patch by itself: whether it could be enabled now, and withdrawn later, without leaving a trace.
-ghost use Rattle.std.specs.Prelude.{◌≡◌, true, IfSome, IfNone};
+ghost use Rattle.std.specs.Prelude.{◌≡◌, ◌≤◌, true, length, IfSome, IfNone, IfOk};
 ghost use Rattle.std.specs.List.{list_any};
 ghost use Rattle.klp_manager_state.specs.Managed.{setting_of};
 ghost use Rattle.klp_model.specs.Company.{IsFairStart};
@@ -7,6 +7,7 @@ ghost use Rattle.klp_lint.specs.Premises.{ArePatchesOf, Fails, HoldEverywhere};
 ghost use Rattle.klp_lint.specs.declared.premise.Premise.TheVariants.{NotUndone};
 ghost use Rattle.klp_lint_findings.specs.Deciding.{is_unknown};
 ghost use Rattle.klp_lint_findings.specs.Traces.{Claims};
+ghost use Rattle.klp_lint_findings.specs.Sound.{Grows, Vouches, VouchesBelow};
 
 use crate::finding::{Finding, TraceFinding};
 use crate::findings::{Findings, World};
@@ -140,7 +141,9 @@ fn find_unjudged(
     found: &mut Findings<'_>,
     manager: &Manager,
     patch: PatchId,
-) -> Result<(), AllocError> {
+) -> Result<(), AllocError>
+    ensures { IfOk result (λ done. Grows found.old found.new) }
+{
     let Some(own) = found.linted.patch(patch) else {
         return Ok(());
     };
@@ -158,7 +161,9 @@ fn find_unknown_for(
     patch: PatchId,
     place: usize,
     target: &PlanTarget,
-) -> Result<(), AllocError> {
+) -> Result<(), AllocError>
+    ensures { IfOk result (λ done. Grows found.old found.new) }
+{
     for which in KINDS {
         if let Some(mark) = callback_mark(&found.linted, target, which, MarkWord::Unknown) {
             let unknown = TraceFinding::NotUnderstood { place, which, mark };
@@ -174,7 +179,9 @@ fn find_unknown(
     found: &mut Findings<'_>,
     manager: &Manager,
     patch: PatchId,
-) -> Result<(), AllocError> {
+) -> Result<(), AllocError>
+    ensures { IfOk result (λ done. Grows found.old found.new) }
+{
     let linted = found.linted;
     let Some(own) = linted.patch(patch) else {
         return Ok(());
@@ -192,18 +199,33 @@ fn find_unknown(
     Ok(())
 }
 
-/// Adds whether a patch would leave a trace. Behind a script, objects that aren't loaded are added too. Without one,
-/// they are judged in the other world.
-fn find_trace(
+/// Adds whether a patch would leave a trace. Adds nothing if that isn't known, since a callback isn't understood.
+fn find_answer(
     found: &mut Findings<'_>,
     manager: &Manager,
     patch: PatchId,
-) -> Result<(), AllocError> {
+) -> Result<(), AllocError>
+    ensures vouches { IfOk result
+        (λ done. Vouches (setting_of manager.now.managed) manager.now.managed.state patch found.new) }
+    ensures grows { IfOk result (λ done. Grows found.old found.new) }
+{
     let is_scripted = found.world == World::Each;
-    if let Some(trace) = trace_of(&found.linted, manager, patch, is_scripted) {
-        found.add(Finding::Trace(patch, trace))?;
+    match trace_of(&found.linted, manager, patch, is_scripted) {
+        Some(trace) => found.add(Finding::Trace(patch, trace)),
+        None => Ok(()),
     }
+}
+
+/// Adds whether a patch would leave a trace, and what isn't judged. Behind a script, objects that aren't loaded are
+/// added too. Without one, they are judged in the other world.
+fn find_trace(found: &mut Findings<'_>, manager: &Manager, patch: PatchId) -> Result<(), AllocError>
+    ensures vouches { IfOk result
+        (λ done. Vouches (setting_of manager.now.managed) manager.now.managed.state patch found.new) }
+    ensures grows { IfOk result (λ done. Grows found.old found.new) }
+{
+    find_answer(found, manager, patch)?;
     find_unknown(found, manager, patch)?;
+    let is_scripted = found.world == World::Each;
     if is_scripted && manager.enabled(patch).is_none() && manager.moving().is_none() {
         find_unjudged(found, manager, patch)?;
     }
@@ -211,7 +233,9 @@ fn find_trace(
 }
 
 /// Adds what is found about the parts of a patch, whatever the state is.
-fn find_parts(found: &mut Findings<'_>, patch: PatchId) -> Result<(), AllocError> {
+fn find_parts(found: &mut Findings<'_>, patch: PatchId) -> Result<(), AllocError>
+    ensures { IfOk result (λ done. Grows found.old found.new) }
+{
     find_idle(found, patch)?;
     find_unpicked(found, patch)?;
     find_near(found, patch)?;
@@ -219,8 +243,13 @@ fn find_parts(found: &mut Findings<'_>, patch: PatchId) -> Result<(), AllocError
     find_alike(found, patch)
 }
 
-/// Judges each patch by itself.
-pub fn judge_alone(found: &mut Findings<'_>, manager: &Manager) -> Result<(), AllocError> {
+/// Judges each patch by itself. If the list makes the status 0, each patch leaves no trace, or is installed.
+pub fn judge_alone(found: &mut Findings<'_>, manager: &Manager) -> Result<(), AllocError>
+    ensures vouches { IfOk result (λ done. length found.old.linted.patches.now ≤ 256
+        → VouchesBelow (setting_of manager.now.managed) manager.now.managed.state
+        (length found.old.linted.patches.now) found.new) }
+    ensures grows { IfOk result (λ done. Grows found.old found.new) }
+{
     for number in 0..found.linted.patches.len() {
         let patch = patch_id(number);
         find_trace(found, manager, patch)?;

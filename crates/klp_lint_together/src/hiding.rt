@@ -1,5 +1,7 @@
 //! Finds functions that two patches change, and functions that a cumulative patch loses. A function is known by its
 //! site: the symbol that it replaces.
+ghost use Rattle.std.specs.Prelude.{IfOk};
+ghost use Rattle.klp_lint_findings.specs.Sound.{Grows};
 
 use crate::loading::Outcomes;
 use klp_catalog_text::PlanTarget;
@@ -174,7 +176,9 @@ impl Compared<'_, '_, '_, '_> {
     }
 
     /// Adds the functions of the target that rivals change too. Functions that the same rivals change are one finding.
-    fn find(&self, found: &mut Findings<'_>, target: &PlanTarget) -> Result<(), AllocError> {
+    fn find(&self, found: &mut Findings<'_>, target: &PlanTarget) -> Result<(), AllocError>
+        ensures { IfOk result (λ done. Grows found.old found.new) }
+    {
         let mut done = FunctionSet::new();
         let (patch, place) = (self.patch, self.place);
         for number in 0..target.functions.len() {
@@ -201,7 +205,9 @@ pub(crate) fn find_same_functions(
     outcomes: &Outcomes,
     changed: &ChangedSites,
     patch: PatchId,
-) -> Result<(), AllocError> {
+) -> Result<(), AllocError>
+    ensures { IfOk result (λ done. Grows found.old found.new) }
+{
     let linted = found.linted;
     let Some(own) = linted.patch(patch) else {
         return Ok(());

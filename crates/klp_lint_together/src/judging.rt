@@ -1,6 +1,8 @@
 //! Boots a manager over a catalog, and judges the patches: behind a script, or without one in two worlds.
-ghost use Rattle.std.specs.Prelude.{◌≡◌};
+ghost use Rattle.std.specs.Prelude.{◌≡◌, ◌≤◌, length, None, IfOk};
 ghost use Rattle.klp_core.specs.Journaled.{IsWellFormed};
+ghost use Rattle.klp_manager_state.specs.Managed.{setting_of};
+ghost use Rattle.klp_lint_findings.specs.Sound.{Grows, VouchesBelow};
 
 use crate::lint_plan::LintPlan;
 use crate::loading::not_installed;
@@ -36,28 +38,41 @@ fn load_modules(manager: &mut Manager, objects: usize) {
 /// Makes room in the journal for the events that are tried. The events so far can't be taken back any more.
 fn seal(manager: &mut Manager)
     requires { IsWellFormed manager.old }
+    ensures { manager.new.managed ≡ manager.old.managed }
 {
     manager.seal();
 }
 
-/// Judges the patches in the state of the manager.
+/// Judges the patches in the state of the manager. If the list makes the status 0, each patch is right in this state.
 fn judge_now(
     alloc: Global,
     found: &mut Findings<'_>,
     manager: &mut Manager,
-) -> Result<(), AllocError> {
+) -> Result<(), AllocError>
+    ensures vouches { IfOk result (λ done. length found.old.linted.patches.now ≤ 256
+        → VouchesBelow (setting_of manager.old.managed) manager.old.managed.state
+        (length found.old.linted.patches.now) found.new) }
+    ensures grows { IfOk result (λ done. Grows found.old found.new) }
+{
+    klp_lint_findings::laws::a_later_list_vouches_too();
     let _for_its_clause = manager.mark();
     seal(manager);
     judge_alone(found, manager)?;
     judge_together(alloc, found, manager)
 }
 
-/// Judges the patches with no module loaded, and then with all modules loaded.
+/// Judges the patches with no module loaded, and then with all modules loaded. If the list makes the status 0, each
+/// patch is right without modules. It was judged with modules too, but no clause says which state that was.
 fn judge_in_both(
     alloc: Global,
     found: &mut Findings<'_>,
     manager: &mut Manager,
-) -> Result<JudgedWorlds, AllocError> {
+) -> Result<JudgedWorlds, AllocError>
+    ensures { IfOk result (λ worlds. length found.old.linted.patches.now ≤ 256
+        → VouchesBelow (setting_of manager.old.managed) manager.old.managed.state
+        (length found.old.linted.patches.now) found.new) }
+{
+    klp_lint_findings::laws::a_later_list_vouches_too();
     let objects = found.linted.objects.len();
     if objects < 2 {
         judge_now(alloc, found, manager)?;
@@ -72,12 +87,18 @@ fn judge_in_both(
     Ok(JudgedWorlds::Both)
 }
 
-/// Does the script, if there is one, and judges the patches. Returns the worlds in which they were judged.
+/// Does the script, if there is one, and judges the patches. Returns the worlds in which they were judged. If there is
+/// no script, and the list makes the status 0, each patch is right in the state before.
 fn judge(
     alloc: Global,
     found: &mut Findings<'_>,
     manager: &mut Manager,
-) -> Result<JudgedWorlds, Fault> {
+) -> Result<JudgedWorlds, Fault>
+    ensures { IfOk result (λ worlds. found.old.linted.input.script ≡ None
+        → length found.old.linted.patches.now ≤ 256
+        → VouchesBelow (setting_of manager.old.managed) manager.old.managed.state
+        (length found.old.linted.patches.now) found.new) }
+{
     match found.linted.input.script {
         Some(script) => {
             do_lines(alloc, found, manager, script.bytes)?;

@@ -1,6 +1,7 @@
 //! Finds what a cumulative patch does to the patches that it takes out.
-ghost use Rattle.std.specs.Prelude.{◌≡◌};
+ghost use Rattle.std.specs.Prelude.{◌≡◌, IfOk};
 ghost use Rattle.klp_core.specs.Journaled.{IsWellFormed};
+ghost use Rattle.klp_lint_findings.specs.Sound.{Grows};
 
 use crate::changes::{Change, change_of, keys_changed};
 use crate::hiding::{ChangedSites, lost_functions};
@@ -97,7 +98,9 @@ fn find_state(
     own: &Cumulative<'_>,
     other: PatchId,
     id: u64,
-) -> Result<(), AllocError> {
+) -> Result<(), AllocError>
+    ensures { IfOk result (λ done. Grows found.old found.new) }
+{
     let Cumulative { patch, plan } = *own;
     if !names_state(plan, id) {
         return Ok(());
@@ -121,7 +124,9 @@ fn find_lost_functions(
     changed: &ChangedSites,
     patch: PatchId,
     other: PatchId,
-) -> Result<(), AllocError> {
+) -> Result<(), AllocError>
+    ensures { IfOk result (λ done. Grows found.old found.new) }
+{
     let linted = found.linted;
     let Some(gone) = linted.patch(other) else {
         return Ok(());
@@ -212,7 +217,9 @@ fn find_not_again(
     events: &Loading,
     patch: PatchId,
     other: PatchId,
-) -> Result<(), AllocError> {
+) -> Result<(), AllocError>
+    ensures { IfOk result (λ done. Grows found.old found.new) }
+{
     let linted = found.linted;
     match twice_added(&linted, manager, events.events(), other) {
         Some(TwiceAdded { key, .. }) => {
@@ -231,7 +238,9 @@ fn find_lost_variables(
     patch: PatchId,
     other: PatchId,
     gone: &PlanPatch,
-) -> Result<(), AllocError> {
+) -> Result<(), AllocError>
+    ensures { IfOk result (λ done. Grows found.old found.new) }
+{
     let mut events = events_replacing(other, patch);
     if end_of(manager, events.events()) != End::Completed {
         return Ok(());
@@ -257,7 +266,9 @@ fn find_lost(
     changed: &ChangedSites,
     own: &Cumulative<'_>,
     other: PatchId,
-) -> Result<(), AllocError> {
+) -> Result<(), AllocError>
+    ensures { IfOk result (λ done. Grows found.old found.new) }
+{
     let linted = found.linted;
     let Some(gone) = linted.patch(other) else {
         return Ok(());
@@ -280,7 +291,9 @@ pub(crate) fn find_replacing(
     outcomes: &Outcomes,
     changed: &ChangedSites,
     patch: PatchId,
-) -> Result<(), AllocError> {
+) -> Result<(), AllocError>
+    ensures { IfOk result (λ done. Grows found.old found.new) }
+{
     let linted = found.linted;
     let Some(own) = linted.patch(patch) else {
         return Ok(());

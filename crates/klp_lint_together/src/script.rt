@@ -1,5 +1,6 @@
 //! Does the lines of a script, and finds those that are refused.
-ghost use Rattle.std.specs.Prelude.{◌≡◌, ◌<◌, ◌≤◌, length, IfSome};
+ghost use Rattle.std.specs.Prelude.{◌≡◌, ◌<◌, ◌≤◌, length, IfSome, IfOk};
+ghost use Rattle.klp_lint_findings.specs.Sound.{Grows};
 
 use klp_boot::Fault;
 use klp_console::{ServeFault, answer_line};
@@ -69,7 +70,9 @@ pub(crate) fn do_lines(
     found: &mut Findings<'_>,
     manager: &mut Manager,
     script: &[u8],
-) -> Result<(), Fault> {
+) -> Result<(), Fault>
+    ensures { IfOk result (λ done. Grows found.old found.new) }
+{
     let mut rest = script;
     let mut number = 0u64;
     while let Some((line, behind)) = cut_line(rest) {

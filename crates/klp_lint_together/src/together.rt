@@ -1,5 +1,7 @@
 //! Finds out what happens to patches that are loaded over others. Each patch is loaded alone, over one other patch, and
 //! over two others.
+ghost use Rattle.std.specs.Prelude.{IfOk};
+ghost use Rattle.klp_lint_findings.specs.Sound.{Grows};
 
 use crate::hiding::{ChangedSites, find_same_functions};
 use crate::loading::{End, LoadOutcome, Outcomes, Tried, all_but, try_all, try_each};
@@ -56,7 +58,9 @@ fn find_not_loaded(
     below: &[PatchId],
     patch: PatchId,
     outcome: LoadOutcome,
-) -> Result<(), AllocError> {
+) -> Result<(), AllocError>
+    ensures { IfOk result (λ done. Grows found.old found.new) }
+{
     let Some(why) = why_of(&found.linted, manager, below, patch, outcome) else {
         return Ok(());
     };
@@ -69,7 +73,9 @@ fn find_alone(
     manager: &Manager,
     patch: PatchId,
     tried: Tried,
-) -> Result<(), AllocError> {
+) -> Result<(), AllocError>
+    ensures { IfOk result (λ done. Grows found.old found.new) }
+{
     if tried.outcome != LoadOutcome::Started {
         return find_not_loaded(found, manager, &[], patch, tried.outcome);
     }
@@ -89,7 +95,9 @@ fn find_over_one(
     below: PatchId,
     patch: PatchId,
     tally: &mut Tally,
-) -> Result<(), AllocError> {
+) -> Result<(), AllocError>
+    ensures { IfOk result (λ done. Grows found.old found.new) }
+{
     let (Some(alone), Some(over)) = (
         outcomes.over(None, patch),
         outcomes.over(Some(below), patch),
@@ -110,7 +118,9 @@ fn find_for(
     outcomes: &Outcomes,
     patch: PatchId,
     together: &mut Together,
-) -> Result<(), AllocError> {
+) -> Result<(), AllocError>
+    ensures { IfOk result (λ done. Grows found.old found.new) }
+{
     let Some(alone) = outcomes.over(None, patch) else {
         return Ok(());
     };
@@ -149,7 +159,9 @@ fn find_over_pair(
     outcomes: &Outcomes,
     pair: &PatchList,
     tally: &mut Tally,
-) -> Result<(), AllocError> {
+) -> Result<(), AllocError>
+    ensures { IfOk result (λ done. Grows found.old found.new) }
+{
     let linted = found.linted;
     let others = all_but(&outcomes.free, pair.as_slice());
     let row = try_each(alloc, &linted, manager, pair.as_slice(), &others)?;
@@ -175,7 +187,9 @@ fn find_over_pairs(
     manager: &mut Manager,
     outcomes: &Outcomes,
     tally: &mut Tally,
-) -> Result<(), AllocError> {
+) -> Result<(), AllocError>
+    ensures { IfOk result (λ done. Grows found.old found.new) }
+{
     for first in outcomes.free.as_slice() {
         for second in outcomes.free.as_slice() {
             if is_pair(&found.linted, outcomes, *first, *second) {
@@ -194,7 +208,9 @@ fn find_over_ones(
     manager: &mut Manager,
     outcomes: &Outcomes,
     together: &mut Together,
-) -> Result<(), AllocError> {
+) -> Result<(), AllocError>
+    ensures { IfOk result (λ done. Grows found.old found.new) }
+{
     let changed = ChangedSites::new(alloc, manager, found.linted.patches.len())?;
     for patch in outcomes.free.as_slice() {
         find_for(found, manager, outcomes, *patch, together)?;
@@ -211,7 +227,9 @@ pub(crate) fn judge_together(
     alloc: Global,
     found: &mut Findings<'_>,
     manager: &mut Manager,
-) -> Result<(), AllocError> {
+) -> Result<(), AllocError>
+    ensures { IfOk result (λ done. Grows found.old found.new) }
+{
     if manager.moving().is_some() {
         return found.add(Finding::Count(CountFinding::Moving));
     }
