@@ -1,10 +1,11 @@
 //! What the laws of the consistency model exclude: which patch states and functions of a task no honest run of the rules
 //! shows at any moment (docs/CONSISTENCY.md).
-ghost use Rattle.std.specs.Prelude.{◌≡◌, ℕ, List, true, false};
+ghost use Rattle.std.specs.Prelude.{◌≡◌, ℕ, Bool, List, true, false, Some, None};
 ghost use Rattle.std.specs.List.{list_any};
 ghost use Rattle.klp_types.specs.Setting.{Setting};
 ghost use Rattle.klp_model.specs.declared.seen.Seen.{Seen};
 ghost use Rattle.klp_model.specs.Observed.{Watched, seen_run};
+ghost use Rattle.klp_capture.specs.declared.line.PatchedState.TheVariants.{Undefined, Unpatched, Patched};
 ghost use Rattle.klp_contradictions.specs.Impossible.{NeverInNew, NeverInOriginal, NeverWhile, is_by};
 
 use klp_capture::PatchedState;
@@ -13,7 +14,9 @@ use klp_capture_catalog::Files;
 /// Whether no task in this patch state is ever inside of a new function of a patch whose files read so. The function of
 /// a patch that isn't installed may be freed. In a transition, a task with patch state 0 doesn't run the patch.
 pub fn is_never_in_new(files: Files, state: PatchedState) -> bool
-    ensures { result ≡ true → NeverInNew files state }
+    ensures never { result ≡ true → NeverInNew files state }
+    ensures absent { files ≡ None → result ≡ true }
+    ensures moving { (enabled : Bool) → files ≡ Some (enabled, true) → state ≡ Unpatched → result ≡ true }
 {
     match files {
         None => true,
@@ -28,7 +31,9 @@ pub fn is_never_in_new(files: Files, state: PatchedState) -> bool
 /// is assumed that no other patch gives the original back. Each task runs an enabled patch whose transition is complete.
 /// In a transition, a task with patch state 1 runs the patch.
 pub fn is_never_in_original(files: Files, state: PatchedState) -> bool
-    ensures { result ≡ true → NeverInOriginal files state }
+    ensures never { result ≡ true → NeverInOriginal files state }
+    ensures settled { files ≡ Some (true, false) → result ≡ true }
+    ensures moving { (enabled : Bool) → files ≡ Some (enabled, true) → state ≡ Patched → result ≡ true }
 {
     match files {
         None => false,
@@ -42,7 +47,8 @@ pub fn is_never_in_original(files: Files, state: PatchedState) -> bool
 /// Whether no task is ever in this patch state while a patch is in transition, or while none is. The kernel gives each
 /// task its state when a transition begins, and takes it away when the transition is complete.
 pub fn is_never_while(is_under_way: bool, state: PatchedState) -> bool
-    ensures { result ≡ true → NeverWhile is_under_way state }
+    ensures never { result ≡ true → NeverWhile is_under_way state }
+    ensures undefined { state ≡ Undefined → result ≡ is_under_way }
 {
     match state {
         PatchedState::Undefined => is_under_way,

@@ -10,9 +10,9 @@ none_moves true own at none = cc
 none_moves false own (inl at) none = while_none_moves own 0 (ap number_of at)
 none_moves false own (inr at) none = while_none_moves own 1 (ap number_of at)
 
-pub returns-in-Undefined : goal.returns-in-Undefined
-returns-in-Undefined c = λ moving.
+pub returns-in-Undefined-clause-never : goal.returns-in-Undefined-clause-never
+returns-in-Undefined-clause-never c = λ moving.
     subst (λ m. NeverWhile m c.args.state) (sym moving) (subst (NeverWhile true) (sym c.in-Undefined.is) while_moving)
 
-pub returns-in-Unpatched : goal.returns-in-Unpatched
-returns-in-Unpatched c = none_moves c.args.is_under_way c.args.state c.in-Unpatched.is
+pub returns-in-Unpatched-clause-never : goal.returns-in-Unpatched-clause-never
+returns-in-Unpatched-clause-never c = none_moves c.args.is_under_way c.args.state c.in-Unpatched.is
