@@ -1,0 +1,2 @@
+pub mod LengthLemmas
+pub mod ZeroLemmas
