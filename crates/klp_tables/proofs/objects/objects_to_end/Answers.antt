@@ -1,0 +1,30 @@
+use Rattle.std.proofs.Common.{◌≡◌, ◌≤◌, ◌<◌, List, length, map, Some, None, Ok, arith, sym, subst}
+use Rattle.std.proofs.lemmas.List.Elements.{All-push}
+use Rattle.std.specs.List.{All}
+use Rattle.klp_tables.specs.Rows.{has_functions, object_at, object_row, row_of}
+use Rattle.klp_tables.specs.declared.patch.Object.{Object}
+use Rattle.klp_tables.proofs.TableLemmas.{begun_by, longer_by, row_here, table_ends}
+use Rattle.klp_tables.proofs.objects.objects_to_end.Goals as goal
+
+pub returns-in-Ok-None : goal.returns-in-Ok-None
+returns-in-Ok-None c =
+    let rows = c.loop-k.objects.items in
+    let here = row_here (object_at c.args.elf.now) c.args.table 168 (length rows) c.loop-k.k c.row_place.result (Ok None)
+    c.loop-k.invariant.count c.row_place.ensures (rw c.in-Ok-None.field-0-is at c.in-Ok-None.ensures) in
+    (table_ends row_of (object_row c.args.elf.now c.args.table) rows c.loop-k.invariant.rows here, c.loop-k.invariant.functions, omega arith)
+
+pub loop-k-preserved : goal.loop-k-preserved
+loop-k-preserved c =
+    let rows = c.loop-k.objects.items in
+    let read = rw c.in-Ok-Some.field-0-is at c.in-Ok-Some.ensures in
+    let here = row_here (object_at c.args.elf.now) c.args.table 168 (length rows) c.loop-k.k c.row_place.result
+    (Ok (Some (row_of c.in-Ok-Some.object))) c.loop-k.invariant.count c.row_place.ensures read.0 in
+    record {
+      rows = begun_by row_of (object_row c.args.elf.now c.args.table) rows c.push.new.self.items c.in-Ok-Some.object
+          c.loop-k.invariant.rows here c.in_ok-push-in-Ok-Some.ensures.items;
+      functions = subst (λ (xs : List Object). All (has_functions c.args.elf.now) xs) (sym c.in_ok-push-in-Ok-Some.ensures.items)
+          (All-push (has_functions c.args.elf.now) rows c.in-Ok-Some.object c.loop-k.invariant.functions read.1);
+      count = longer_by rows c.push.new.self.items c.in-Ok-Some.object c.loop-k.k c.loop-k.invariant.count
+          c.in_ok-push-in-Ok-Some.ensures.items;
+      small = omega arith;
+    }

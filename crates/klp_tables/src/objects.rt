@@ -1,0 +1,81 @@
+//! All objects of a patch, each with its functions.
+ghost use Rattle.std.specs.Prelude.{◌≡◌, ◌≤◌, ◌<◌, true, map, length, Some, None, Ok, IfOk, MatchOption};
+ghost use Rattle.std.specs.List.{All};
+ghost use Rattle.klp_tables.specs.Rows.{has_functions, object_at, object_row, row_of, IsObjectTable, IsTable};
+
+use crate::fault::TableFault;
+use crate::patch::{MAX_FUNCTIONS, MAX_OBJECTS, Object};
+use crate::place::row_place;
+use crate::row::{has_size, object_at};
+use crate::rows::functions_of;
+use klp_elf::{Elf, Place};
+use std::alloc::Global;
+
+/// The bytes of a `struct klp_object` in Linux 5.5 to 6.12 on x86-64.
+const OBJECT: u64 = 168;
+
+/// Reads the object of a row with its functions, for which there is room. Returns `None` if the row is empty.
+fn object_with_functions<'a>(
+    alloc: Global,
+    elf: &Elf<'a>,
+    place: Place,
+    room: usize,
+) -> Result<Option<Object<'a>>, TableFault>
+    requires { room ≤ MAX_FUNCTIONS }
+    ensures { IfOk result (λ object. MatchOption object (object_at elf.now place ≡ Ok None)
+        (λ o. (object_at elf.now place ≡ Ok (Some (row_of o))) × has_functions elf.now o × (length o.functions.items ≤ room))) }
+{
+    let row = match object_at(elf, place) {
+        Ok(Some(row)) => row,
+        Ok(None) => return Ok(None),
+        Err(fault) => return Err(fault),
+    };
+    match functions_of(alloc, elf, row.functions, room) {
+        Ok(functions) => Ok(Some(Object { row, functions })),
+        Err(fault) => Err(fault),
+    }
+}
+
+/// Reads objects up to the first empty row.
+fn objects_to_end<'a>(
+    alloc: Global,
+    elf: &Elf<'a>,
+    table: Place,
+) -> Result<Vec<Object<'a>>, TableFault>
+    ensures { IfOk result (λ objects. IsTable (object_row elf.now table) (map row_of objects.items)
+        × All (has_functions elf.now) objects.items × (length objects.items ≤ MAX_OBJECTS)) }
+{
+    let mut objects = Vec::new(alloc);
+    let mut room = MAX_FUNCTIONS;
+    for k in 0..MAX_OBJECTS + 1 {
+        match object_with_functions(alloc, elf, row_place(table, OBJECT, k as u64), room) {
+            Ok(Some(object)) => {
+                room -= object.functions.len();
+                objects.push(object)?;
+            }
+            Ok(None) => return Ok(objects),
+            Err(fault) => return Err(fault),
+        }
+    }
+    Err(TableFault::TooManyObjects)
+}
+
+/// Reads the objects of a table. Returns `Err` if its variable has another size.
+pub(crate) fn object_table<'a>(
+    alloc: Global,
+    elf: &Elf<'a>,
+    table: Place,
+) -> Result<Vec<Object<'a>>, TableFault>
+    ensures { IfOk result (λ objects. IsObjectTable elf.now table objects.items) }
+{
+    let objects = match objects_to_end(alloc, elf, table) {
+        Ok(objects) => objects,
+        Err(fault) => return Err(fault),
+    };
+    let wanted = OBJECT * (objects.len() as u64 + 1);
+    if has_size(elf, table, wanted) {
+        Ok(objects)
+    } else {
+        Err(TableFault::Layout { table, wanted })
+    }
+}

@@ -1,0 +1,110 @@
+//! All rows of a table, in order.
+ghost use Rattle.std.specs.Prelude.{◌≡◌, ◌≤◌, ◌<◌, ◌+◌, ◌*◌, true, map, length, Some, None, IfOk};
+ghost use Rattle.klp_tables.specs.Rows.{function_meaning, function_row, IsFunctions, IsFunctionTable, IsStateTable, IsTable, state_row};
+
+use crate::fault::TableFault;
+use crate::patch::{Function, MAX_FUNCTIONS, MAX_STATES, State};
+use crate::place::row_place;
+use crate::row::{function_at, has_size, state_at};
+use klp_elf::{Elf, Place};
+use std::alloc::Global;
+
+/// The bytes of a `struct klp_func` and a `struct klp_state`, in Linux 5.5 to 6.12 on x86-64.
+const FUNCTION: u64 = 152;
+
+const STATE: u64 = 24;
+
+/// Reads functions up to the first empty row. There is room for so many.
+fn functions_to_end<'a>(
+    alloc: Global,
+    elf: &Elf<'a>,
+    table: Place,
+    room: usize,
+) -> Result<Vec<Function<'a>>, TableFault>
+    requires { room ≤ MAX_FUNCTIONS }
+    ensures { IfOk result (λ functions. IsTable (function_row elf.now table) (map function_meaning functions.items)
+        × (length functions.items ≤ room)) }
+{
+    let mut functions = Vec::new(alloc);
+    for k in 0..room + 1 {
+        match function_at(elf, row_place(table, FUNCTION, k as u64)) {
+            Ok(Some(function)) => functions.push(function)?,
+            Ok(None) => return Ok(functions),
+            Err(fault) => return Err(fault),
+        }
+    }
+    Err(TableFault::TooManyFunctions)
+}
+
+/// Reads the functions of a table. Returns `Err` if its variable has another size.
+fn function_table<'a>(
+    alloc: Global,
+    elf: &Elf<'a>,
+    table: Place,
+    room: usize,
+) -> Result<Vec<Function<'a>>, TableFault>
+    requires { room ≤ MAX_FUNCTIONS }
+    ensures { IfOk result (λ functions. IsFunctionTable elf.now table functions.items × (length functions.items ≤ room)) }
+{
+    let functions = match functions_to_end(alloc, elf, table, room) {
+        Ok(functions) => functions,
+        Err(fault) => return Err(fault),
+    };
+    let wanted = FUNCTION * (functions.len() as u64 + 1);
+    if has_size(elf, table, wanted) {
+        Ok(functions)
+    } else {
+        Err(TableFault::Layout { table, wanted })
+    }
+}
+
+/// Reads the functions of an object.
+pub(crate) fn functions_of<'a>(
+    alloc: Global,
+    elf: &Elf<'a>,
+    table: Option<Place>,
+    room: usize,
+) -> Result<Vec<Function<'a>>, TableFault>
+    requires { room ≤ MAX_FUNCTIONS }
+    ensures { IfOk result (λ functions. IsFunctions elf.now table functions.items × (length functions.items ≤ room)) }
+{
+    match table {
+        Some(table) => function_table(alloc, elf, table, room),
+        None => Ok(Vec::new(alloc)),
+    }
+}
+
+/// Reads states up to the first empty row.
+fn states_to_end(alloc: Global, elf: &Elf<'_>, table: Place) -> Result<Vec<State>, TableFault>
+    ensures { IfOk result (λ states. IsTable (state_row elf.now table) states.items) }
+{
+    let mut states = Vec::new(alloc);
+    for k in 0..MAX_STATES + 1 {
+        match state_at(elf, row_place(table, STATE, k as u64)) {
+            Ok(Some(state)) => states.push(state)?,
+            Ok(None) => return Ok(states),
+            Err(fault) => return Err(fault),
+        }
+    }
+    Err(TableFault::TooManyStates)
+}
+
+/// Reads the states of a table. Returns `Err` if its variable has another size.
+pub(crate) fn state_table(
+    alloc: Global,
+    elf: &Elf<'_>,
+    table: Place,
+) -> Result<Vec<State>, TableFault>
+    ensures { IfOk result (λ states. IsStateTable elf.now table states.items) }
+{
+    let states = match states_to_end(alloc, elf, table) {
+        Ok(states) => states,
+        Err(fault) => return Err(fault),
+    };
+    let wanted = STATE * (states.len() as u64 + 1);
+    if has_size(elf, table, wanted) {
+        Ok(states)
+    } else {
+        Err(TableFault::Layout { table, wanted })
+    }
+}
