@@ -173,9 +173,40 @@ def lint_escapes():
         return None if [it["catalog"] for it in told] == [path, path] else f"{told}"
 
 
+def lint_page_blocks():
+    """The examples of docs/LINT.md: a catalog, which stands behind the page's first one, a script where there is one, and the
+    lines that klplint says then."""
+    with open(f"{TOP}/docs/LINT.md", encoding="utf-8") as it:
+        (_, head), *blocks = re.findall(r"^```(text|console)\n(.*?)^```\n", it.read(), re.M | re.S)
+    while blocks:
+        (_, catalog), (kind, script), *blocks = blocks
+        if kind == "text":
+            yield head + catalog, None, script
+        else:
+            (_, answer), *blocks = blocks
+            yield head + catalog, script, answer
+
+
+def lint_page(catalog, script, answer):
+    """An example of docs/LINT.md: klplint says its lines of its catalog."""
+    with tempfile.TemporaryDirectory(prefix="lint-") as room:
+        words = [f"{room}/page.catalog"] if script is None else [f"{room}/page.catalog", f"{room}/page.script"]
+        for path, text in zip(words, (catalog, script)):
+            with open(path, "w", encoding="ascii") as it:
+                it.write(text)
+        lines = run(["klplint", *words])[1].decode().replace(f" {words[0]}:", "").replace(f"{room}/", "")
+        unsaid_lines = [it for it in answer.splitlines() if it not in lines.splitlines()]
+        return f"{unsaid_lines} not said, but {lines}" if unsaid_lines else None
+
+
+def lint_pages():
+    cases = list(lint_page_blocks())
+    return [(f"docs/LINT.md: {answer.strip()[:70]}", functools.partial(lint_page, catalog, script, answer)) for catalog, script, answer in cases]
+
+
 def lints():
     cases = [(f"lint/{name}.catalog", functools.partial(lint, name)) for name in lint_names()]
-    return [*cases, ("lint, each kind", lint_kinds), ("lint, a name that is escaped", lint_escapes)]
+    return [*cases, *lint_pages(), ("lint, each kind", lint_kinds), ("lint, a name that is escaped", lint_escapes)]
 
 
 def refused(catalog, said, run=run):
