@@ -59,7 +59,7 @@ _klp_offer() { mapfile -t COMPREPLY < <(compgen -W "$1" -- "$klp_word"); }
 _klpwatch() {
   local klp_words klp_before klp_option klp_word
   _klp_words || return 0
-  if ! _klp_options; then _klp_offer --help
+  if ! _klp_options; then _klp_offer '--help --version'
   elif [ "${#klp_before[@]}" = 0 ]; then _klp_files catalog "$klp_word"
   else _klp_files trace "$klp_word"; fi
 }
@@ -68,7 +68,7 @@ _klppage() {
   local klp_words klp_before klp_option klp_word
   _klp_words || return 0
   if ! _klp_options --trace; then
-    if [ "$klp_option" = --trace ]; then _klp_files trace "$klp_word"; else _klp_offer '--trace --help'; fi
+    if [ "$klp_option" = --trace ]; then _klp_files trace "$klp_word"; else _klp_offer '--trace --help --version'; fi
     return
   fi
   case "${#klp_before[@]} ${klp_words[*]}" in
@@ -81,7 +81,7 @@ _klppage() {
 _klplint() {
   local klp_words klp_before klp_option klp_word
   _klp_words || return 0
-  if ! _klp_options; then _klp_offer '--json --help'
+  if ! _klp_options; then _klp_offer '--json --help --version'
   elif [ "${#klp_before[@]}" = 0 ]; then _klp_files catalog "$klp_word"
   else _klp_files script "$klp_word"; fi
 }
@@ -93,7 +93,7 @@ _klpsee() {
   elif [ "$klp_option" = -o ]; then
     compopt -o filenames 2>/dev/null
     mapfile -t COMPREPLY < <(compgen -d -- "$klp_word")
-  else _klp_offer '-o --json --help'; fi
+  else _klp_offer '-o --json --help --version'; fi
 }
 
 complete -F _klpsim klpsim

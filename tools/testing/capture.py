@@ -601,6 +601,20 @@ def unreadable(shell):
         )
 
 
+def helped(shell):
+    """Help and version go to standard output, and other words are refused."""
+    with machine() as it:
+        help_, version, refused, odd = (finish(it.begin(shell, word)) for word in ("--help", "--version", "-x", "-c0"))
+        with open(f"{TOP}/VERSION", encoding="utf-8") as file:
+            wanted = f"klpcap {file.read().strip()} (a script, of which nothing is proved)\n"
+        first = help_[1].decode().partition("\n")[0]
+        is_whole = all(f"\n{word}" in help_[1].decode() for word in ("  -i SECONDS ", "Exit status: ", "Example: "))
+        return differs(
+            (help_[::2], (0, "")), (is_whole, True), (version, (0, wanted.encode(), "")), (refused, (2, b"", f"usage: {first}\n")),
+            (odd[:2], (2, b"")), (max(map(len, help_[1].decode().splitlines())) <= 84, True),
+        )
+
+
 def linted():
     """shellcheck has nothing to say."""
     came = subprocess.run(["shellcheck", f"{TOP}/klpcap"], capture_output=True, text=True, check=False)
@@ -613,7 +627,7 @@ RUN = (
     (", more tasks than slots", chosen), (", those that merely lag", preferred), (", slots given up", left), (", no transition any more", left_at_end),
     (", slots behind -f", left_asked), (", no livepatch", without_livepatch), (", one patch behind another", kept_through_patches), (", what can't be written", unwritten),
     (", signals", stopped), (", names behind -f", asked), (", names that the kernel lacks", lacking), (", at a terminal", at_terminal), (", holders at a terminal", holders_at_terminal),
-    (", what can't be read", unreadable),
+    (", what can't be read", unreadable), (", help and version", helped),
 )
 
 

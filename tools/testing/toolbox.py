@@ -1,4 +1,5 @@
 """The tools, each by what takes a second or two of it, so that none rots."""
+import functools
 import importlib.machinery
 import importlib.util
 import os
@@ -56,6 +57,33 @@ def other_kit():
         wrong = [said(ran(it, *words, env=env), 1, "rt is of rattle-kit-99z") for it, *words in
                  (("tools/check", "klp_types"), ("prove",), ("tools/walk", "mark"))]
         return "; ".join(filter(None, wrong)) or None
+
+
+def helped(name):
+    """Help is on standard output, and begins with what the tool does."""
+    came = ran(name, "--help")
+    return None if (came[0], came[2]) == (0, "") and name in came[1].decode() else f"{came}"
+
+
+def misled(name):
+    """Words that a tool doesn't know are refused on standard error."""
+    came = ran(name, "--no-such-word", "x")
+    return None if came[:2] == (2, b"") and "usage: " in came[2] else f"{came}"
+
+
+def stamped():
+    """A program is stamped where it has the text of a checkout once, and the new one has room there."""
+    it = module("stamp")
+    own = it.own_text().encode()
+    text = it.text_of(is_proved=True)
+    if it.stamped(b"a" + own + b"z", text) != b"a" + text.ljust(len(own)).encode() + b"z":
+        return "it is stamped otherwise"
+    for program, told in ((b"az", text), (own + own, text), (own, text + len(own) * "x")):
+        try:
+            return f"stamped: {it.stamped(program, told)}"
+        except SystemExit:
+            pass
+    return None if own.decode().startswith(f"{it.version()} (") else "VERSION and version.rt differ"
 
 
 def table():
@@ -128,6 +156,9 @@ def cases():
         ("tools/hostile: an unknown part", lambda: said(ran("tools/hostile", "nothing"), 2, "usage")),
         ("prove: within the memory that there is", prove_fits),
         ("tools/stored: no word", lambda: said(ran("tools/stored"), 2, "usage")),
+        *[(f"{it}, --help", functools.partial(helped, it)) for it in ("prove", "tools/install", "tools/stamp", "tools/tests")],
+        *[(f"{it}, another word", functools.partial(misled, it)) for it in ("prove", "tools/install", "tools/stamp", "tools/tests")],
+        ("tools/stamp: a version that is too long", stamped),
         ("tools/walk: where it begins", walk),
         ("tools/words", lambda: said(ran("tools/words"), 0, "")),
     ]

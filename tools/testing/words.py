@@ -14,11 +14,11 @@ USAGE = {
 }
 REFUSED = {
     "klpsim": [
-        ("-h",), ("--help",), ("help",), ("-V",), ("",), ("con",), ("k.catalog",), ("--help", "console"), ("console", "--help"),
+        ("-h",), ("--help",), ("help",), ("-V",), ("--version",), ("",), ("con",), ("k.catalog",), ("--help", "console"), ("console", "--help"),
         ("console", "k.catalog", "-x"), ("console", "k.catalog", "k1.catalog"), ("live",), ("live", "k1.catalog"),
         ("live", "k1.catalog", "live_two_versions.steps", "x"), ("live", "-h", "x"), (b"\xff",),
     ],
-    "klpwatch": [(), ("x",), ("x", "y", "z"), ("x", "-y"), ("-x", "y"), ("x", "y", "-V"), ("--", "x"), (b"\xff", "y")],
+    "klpwatch": [(), ("x",), ("x", "y", "z"), ("x", "-y"), ("-x", "y"), ("x", "y", "-v"), ("--", "x"), (b"\xff", "y")],
     "klppage": [
         (), ("x",), ("x", "y", "z", "w"), ("x", "-y"), ("x", "--trace"), ("--trace", "y"), ("x", "--trace", "-y"), ("x", "--trace", "y", "z", "w"),
         ("x", "--trace", "y", "--trace", "y"), ("x", b"\xff"),
@@ -57,9 +57,24 @@ CALLED = {
 }
 
 
+@functools.lru_cache(maxsize=None)
+def klpsim_usage():
+    """What stands behind `klpsim: usage`: how it is called, as its man page says, its exit statuses, an example and its version."""
+    err = finish(start(["klpsim", "-x"], executable=built_program()))[2]
+    first, _, rest = err.partition("\n")
+    assert first == "klpsim: usage" and f"Usage: klpsim [console [CATALOG]]\n{7 * ' '}klpsim live CATALOG STEPS\n" in rest, err
+    assert all(it in rest for it in ("\nExit status:\n  0  ", "\nExample:\n  printf ", f"\nklpsim {version()} (")), err
+    return rest
+
+
+def version():
+    with open(f"{TOP}/VERSION", encoding="utf-8") as it:
+        return it.read().strip()
+
+
 def said(name):
     """What a program says on standard error of words that it refuses."""
-    return f"{name}: usage: {USAGE[name]} (man {name})\n" if name in USAGE else f"{name}: usage\n"
+    return f"{name}: usage: {USAGE[name]} (man {name})\n" if name in USAGE else f"{name}: usage\n{klpsim_usage()}"
 
 
 def refused(name, words):
@@ -67,10 +82,37 @@ def refused(name, words):
 
 
 def helped(name, words):
-    """Help is on standard output, and has the usage."""
+    """Help is on standard output, and has the usage, the exit statuses of the man page, an example that works, and no long line."""
     status, out, err = run([name, *words])
-    usage = re.search(r"^Usage: (.*)$", out.decode(), re.M)
-    return fault((status, usage and usage[1], err), (0, USAGE[name], ""))
+    out = out.decode()
+    usage = re.search(r"^Usage: (.*)$", out, re.M)
+    statuses = re.findall(r"^  (\d)  ", out.partition("\nExit status:\n")[2], re.M)
+    long = [line for line in out.splitlines() if len(line) > 80]
+    return fault((status, usage and usage[1], err, statuses, long), (0, USAGE[name], "", statuses_of(name), []))
+
+
+def statuses_of(name):
+    """The exit statuses that a man page lists."""
+    with open(f"{TOP}/man/{name}.1", encoding="utf-8") as it:
+        return re.findall(r"^\.B (\d)$", re.search(r"^\.SH EXIT STATUS\n(.*?)^\.SH", it.read(), re.M | re.S)[1], re.M)
+
+
+def example(name):
+    """The example of a program's help answers, where the repository is."""
+    command = re.search(r"\nExample:\n  (.*)\n", run([name, "--help"])[1].decode())[1]
+    if name == "klpsee":
+        return None if command == "klpcap --once | klpsee -" else command
+    status, out, err = finish(start(["bash", "-c", command.replace(name, f"./{name}").replace(">page.html", "")], TOP))
+    return None if status in (0, 3) and out else f"{command}: {status} {err}"
+
+
+def versioned(name, word):
+    """The version is on standard output: of the program itself, and of a checkout with the revision, the kit and whether it is proved."""
+    own = finish(start([name, word], executable=built_program()))
+    of_checkout = run([name, word])
+    form = rf"{name} {re.escape(version())} \(revision [0-9a-f-]{{11}}[0-9a-f+-], rattle-kit-\w+, logic [0-9a-f]{{16}}, (not )?proved\)\n"
+    wrong = own[0] != 0 or not own[1].decode().startswith(f"{name} {version()} (") or own[2]
+    return f"{own}" if wrong else None if re.fullmatch(form, of_checkout[1].decode()) and of_checkout[::2] == (0, "") else f"{of_checkout}"
 
 
 def alike(name, first, *others):
@@ -121,6 +163,8 @@ def cases():
     for name in USAGE:
         made.update({f"{name}, help by {words}": (helped, name, words) for words in (("--help",), ("-h",), ("x", "--help"), ("--help", "x", "y"))})
         made[f"{name}, the synopsis"] = (documented, name)
+        made[f"{name}, the example of the help"] = (example, name)
+        made.update({f"{name}, the version by {word}": (versioned, name, word) for word in ("--version", "-V")})
     made.update({f"{name}, the words {words[1:]}": (alike, name, *words) for name, lists in ALIKE.items() for words in lists})
     made.update({f"a program called {path!r}": (called, name, path) for name, paths in CALLED.items() for path in paths})
     log = "captures/enable.log"

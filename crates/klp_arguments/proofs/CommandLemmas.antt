@@ -1,11 +1,11 @@
 -- The reader of words has definitions of what it finds for each program.
-use Rattle.std.proofs.Common.{◌≡◌, ◌≢◌, Bool, true, refl, subst, List, [], ◌∷◌, Option, Some, None}
+use Rattle.std.proofs.Common.{◌≡◌, ◌≢◌, Bool, true, refl, subst, arith, List, [], ◌∷◌, Option, Some, None}
 use Rattle.clap.specs.Words.{App, Kinds, Text, app_of, fault_of, is_simple, is_simple_and_free}
 use Rattle.clap.specs.declared.builder.command.Command.{Command}
 use Rattle.clap.proofs.OnLiterals.{clap_on_literals}
 use Rattle.klp_arguments.specs.Asked.{is_given, linted_by, paged_by, seen_by, unless, watched_by, Linted, Seen, Ends, EndsBy}
 use Rattle.klp_arguments.specs.declared.ending.Ending.{Ending}
-use Rattle.klp_arguments.specs.declared.ending.Ending.TheVariants.{Help, Refused, NoMemory}
+use Rattle.klp_arguments.specs.declared.ending.Ending.TheVariants.{Shown, Refused, NoMemory}
 use Rattle.klp_arguments.specs.Commands.{lint_app, page_app, see_app, watch_app}
 
 pub watch_walked : is_simple watch_app ≡ true
@@ -75,6 +75,15 @@ module _ {Z : Type 0} (app : App) (command : Command) (words : List Text) (is_ap
       none_asked (kind ∷ kinds) asked faulty = refl
 
       by_kinds : (kinds : Kinds) (asked : Option Z) (ending : Ending) → EndsBy kinds ending → Ends kinds (unless kinds asked) ending
-      by_kinds kinds asked (Help error) by = by
+      by_kinds kinds asked (Shown error) by = by
       by_kinds kinds asked Refused by = (none_asked kinds asked by.0, by.1)
       by_kinds kinds asked NoMemory by = by
+
+  -- nor do words that it takes, but whose files don't go together
+  pub refused : (asked : Option Z) → fault_of (app_of command) words ≡ [] → asked ≡ None
+      → Ends (fault_of app words) (unless (fault_of app words) asked) Refused
+  refused asked faultless nothing = by_none (fault_of app words) asked (subst (λ a. fault_of a words ≡ []) is_app faultless) nothing
+    where
+      by_none : (kinds : Kinds) (asked : Option Z) → kinds ≡ [] → asked ≡ None → Ends kinds (unless kinds asked) Refused
+      by_none [] asked faultless nothing = (nothing, (grind arith, grind arith))
+      by_none (kind ∷ kinds) asked faultless nothing = grind arith

@@ -1,14 +1,14 @@
 -- What words ask a program for, by the values that the reader of words finds in them.
 use Rattle.std.specs.Prelude.{ℕ, ◌≡◌, ◌≢◌, ◌⊎◌, ⊤, Bool, true, false, List, [], ◌∷◌, codes, bytes_eq, Option, Some, None, option_map}
 use Rattle.clap.specs.Words.{App, Kinds, Row, Text, IsAmong, fault_of, first_of, matches_of}
-use Rattle.clap.specs.declared.error.kind.ErrorKind.TheVariants.{DisplayHelp}
+use Rattle.clap.specs.declared.error.kind.ErrorKind.TheVariants.{DisplayHelp, DisplayVersion}
 use Rattle.klp_arguments.specs.Commands.{lint_app, page_app, see_app, watch_app}
 use Rattle.klp_arguments.specs.declared.asked.WatchWords.{WatchWords}
 use Rattle.klp_arguments.specs.declared.asked.PageWords.{PageWords}
 use Rattle.klp_arguments.specs.declared.asked.LintWords.{LintWords}
 use Rattle.klp_arguments.specs.declared.asked.SeeWords.{SeeWords}
 use Rattle.klp_arguments.specs.declared.ending.Ending.{Ending}
-use Rattle.klp_arguments.specs.declared.ending.Ending.TheVariants.{Help, Refused, NoMemory}
+use Rattle.klp_arguments.specs.declared.ending.Ending.TheVariants.{Shown, Refused, NoMemory}
 
 pub record Watched : Type 0 where
   pub catalog : Text
@@ -94,23 +94,32 @@ lint_meaning words = record { catalog = words.catalog.now; script = option_map (
 abbrev pub see_meaning : SeeWords → Seen
 see_meaning words = record { log = words.log.now; folder = option_map (λ folder. folder.now) words.folder; is_json = words.is_json }
 
--- help is written only where the words ask for it, and words are refused only where they ask for nothing, not even for help
+-- the words ask for help, or for the version
+abbrev pub AskToShow : Kinds → Type 0
+AskToShow kinds = IsAmong DisplayHelp kinds ⊎ IsAmong DisplayVersion kinds
+
+-- they don't ask for one of the two alone
+abbrev pub AskForMore : Kinds → Type 0
+AskForMore kinds = (kinds ≢ DisplayHelp ∷ []) × (kinds ≢ DisplayVersion ∷ [])
+
+-- help or the version is written only where the words ask for it, and words are refused only where they ask for nothing, not even for help
+-- or the version
 abbrev pub Ends : {Z : Type 0} → Kinds → Option Z → Ending → Type 0
-Ends kinds asked (Help error) = IsAmong DisplayHelp kinds
-Ends kinds asked Refused = (asked ≡ None) × (kinds ≢ DisplayHelp ∷ [])
+Ends kinds asked (Shown error) = AskToShow kinds
+Ends kinds asked Refused = (asked ≡ None) × AskForMore kinds
 Ends kinds asked NoMemory = ⊤
 
 -- the same by the status with which the program ends
 abbrev pub EndsWith : {Z : Type 0} → Kinds → Option Z → ℕ → Type 0
-EndsWith kinds asked status = ((status ≡ 0) × IsAmong DisplayHelp kinds) ⊎ ((status ≡ 1) ⊎ ((status ≡ 2) × ((asked ≡ None) × (kinds ≢ DisplayHelp ∷ []))))
+EndsWith kinds asked status = ((status ≡ 0) × AskToShow kinds) ⊎ ((status ≡ 1) ⊎ ((status ≡ 2) × ((asked ≡ None) × AskForMore kinds)))
 
 abbrev pub status_of : Ending → ℕ
-status_of (Help error) = 0
+status_of (Shown error) = 0
 status_of Refused = 2
 status_of NoMemory = 1
 
 -- why the reader of words refuses them
 abbrev pub EndsBy : Kinds → Ending → Type 0
-EndsBy kinds (Help error) = IsAmong DisplayHelp kinds
-EndsBy kinds Refused = (kinds ≢ []) × (kinds ≢ DisplayHelp ∷ [])
+EndsBy kinds (Shown error) = AskToShow kinds
+EndsBy kinds Refused = (kinds ≢ []) × AskForMore kinds
 EndsBy kinds NoMemory = ⊤

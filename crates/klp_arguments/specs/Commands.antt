@@ -13,9 +13,9 @@ name_of Klppage = codes "klppage"
 name_of Klplint = codes "klplint"
 name_of Klpsee = codes "klpsee"
 
--- a program without arguments. The words are those behind its name
+-- a program without arguments, which has a version. The words are those behind its name
 abbrev pub bare : Text → App
-bare name = record (new_app name) { top = record (new_app name).top { no_binary_name = true } }
+bare name = record (new_app name) { top = record (new_app name).top { no_binary_name = true; has_version = true } }
 
 abbrev pub required : Text → Rule
 required id = record (new_rule id) { required = true }

@@ -5,6 +5,7 @@ ghost use Rattle.klp_arguments.specs.Commands.{bare, folder, json, lint_app, nam
 ghost use Rattle.klp_arguments.specs.Commands.{trace, watch_app, IsArg, IsCommand};
 
 use crate::program::Program;
+use crate::version::version_text;
 use clap::{Arg, ArgAction, Command};
 use std::alloc::{AllocError, Global};
 
@@ -23,13 +24,14 @@ pub(crate) const FOLDER: &str = "FOLDER";
 
 pub(crate) const JSON: &str = "JSON";
 
-/// Returns the command of a program with the texts of its help, but without arguments. The words that it matches begin
-/// after the program's name.
+/// Returns the command of a program with its version and the texts of its help, but without arguments. The words that it
+/// matches begin after the program's name.
 fn command_of<'a>(alloc: Global, program: Program) -> Command<'a>
     ensures { app_of result ≡ bare (name_of program) }
 {
     Command::new(alloc, program.name())
         .no_binary_name(true)
+        .version(version_text())
         .about(program.about())
         .override_usage(program.usage())
         .after_help(program.more())

@@ -8,8 +8,8 @@ use clap::Error;
 use std::alloc::AllocError;
 use std::io::Write;
 
-/// The exit statuses if help was asked for, of any other fault, and if the arguments are refused.
-const HELPED: u8 = 0;
+/// The exit statuses if help or the version was asked for, of any other fault, and if the arguments are refused.
+const SHOWN: u8 = 0;
 
 const FAULT: u8 = 1;
 
@@ -18,8 +18,8 @@ const USAGE: u8 = 2;
 /// Why a program doesn't run.
 #[derive(Drop)]
 pub(crate) enum Ending {
-    /// The arguments ask for help. The error has its text.
-    Help(Error),
+    /// The arguments ask for help, or for the version. The error has the text.
+    Shown(Error),
     /// The arguments are refused.
     Refused,
     NoMemory,
@@ -34,17 +34,17 @@ impl From<AllocError> for Ending {
 }
 
 impl Ending {
-    /// Writes the help to `out`, or to `err` why the program doesn't run. Returns the exit status: 0 for help, 2 for
-    /// refused arguments, and 1 for lack of memory.
+    /// Writes to `out` help or the version, as was asked for, or to `err` why the program doesn't run. Returns the exit
+    /// status: 0 for help and the version, 2 for refused arguments, and 1 for lack of memory.
     pub(crate) fn report<W: Write, E: Write>(self, program: Program, out: &mut W, err: &mut E) -> u8
         ensures { result ≡ status_of self }
     {
         let name = program.name();
         match self {
-            Ending::Help(help) => {
-                let _ = write!(out, "{help}");
+            Ending::Shown(text) => {
+                let _ = write!(out, "{text}");
                 let _ = out.flush();
-                HELPED
+                SHOWN
             }
             Ending::Refused => {
                 let usage = program.usage();

@@ -3,6 +3,56 @@
 ghost use Rattle.std.specs.Prelude.{◌≡◌};
 ghost use Rattle.klp_arguments.specs.Commands.{name_of};
 
+/// What ends each program's help.
+const WATCH_MORE: &str = "\
+Exit status:
+  0  The trace is honest, and the kernel does as the rules say
+  1  A file is faulty or can't be read, or memory ran out
+  2  The arguments are refused
+  3  A line breaks a premise, or the kernel differs from the rules in it
+
+Example:
+  klpwatch examples/k.catalog examples/watched.trace
+
+More: man klpwatch";
+
+const PAGE_MORE: &str = "\
+Exit status:
+  0  The page was written
+  1  A file is faulty or can't be read, or memory ran out
+  2  The arguments are refused
+
+Example:
+  klppage examples/pages/sleeper.catalog examples/pages/sleeper.script >page.html
+
+More: man klppage";
+
+const LINT_MORE: &str = "\
+Exit status:
+  0  There is no finding
+  1  A file is faulty or can't be read, or memory ran out
+  2  The arguments are refused
+  3  There are findings
+
+Example:
+  klplint examples/lint/three_faults.catalog
+
+More: man klplint";
+
+const SEE_MORE: &str = "\
+Exit status:
+  0  The rules explain the log
+  1  A file is faulty or can't be read or written, or memory ran out
+  2  The arguments are refused
+  3  The rules exclude a sample of the log
+  4  No run was found, and nothing says that there is none
+  5  The log doesn't have what a verdict needs
+
+Example:
+  klpcap --once | klpsee -
+
+More: man klpsee";
+
 /// A program with files for arguments.
 #[derive(Clone, Copy)]
 pub enum Program {
@@ -45,13 +95,13 @@ impl Program {
         }
     }
 
-    /// Returns the line that ends the program's help, and names the man page.
+    /// Returns the end of the program's help: its exit statuses, an example, and its man page.
     pub(crate) fn more<'a>(self) -> &'a str {
         match self {
-            Program::Klpwatch => "More: man klpwatch",
-            Program::Klppage => "More: man klppage",
-            Program::Klplint => "More: man klplint",
-            Program::Klpsee => "More: man klpsee",
+            Program::Klpwatch => WATCH_MORE,
+            Program::Klppage => PAGE_MORE,
+            Program::Klplint => LINT_MORE,
+            Program::Klpsee => SEE_MORE,
         }
     }
 }

@@ -49,8 +49,8 @@ pub fn given_words<R: Env + AllocGlobal, W: Write, E: Write>(
     }
 }
 
-/// Matches the arguments that a program was given with its command. If they ask for help, if they are refused, or if
-/// memory runs out, returns as `Err` how the program ends.
+/// Matches the arguments that a program was given with its command. If they ask for help or the version, if they are
+/// refused, or if memory runs out, returns as `Err` how the program ends.
 fn matches_in<'a>(command: Command<'a>, given: &'a [String]) -> Result<ArgMatches<'a>, Ending>
     requires walked { is_simple (app_of command) ≡ true }
     requires judged { is_simple_and_free (app_of command) ≡ true }
@@ -62,7 +62,8 @@ fn matches_in<'a>(command: Command<'a>, given: &'a [String]) -> Result<ArgMatche
     match command.try_get_matches_from(given) {
         Ok(matches) => Ok(matches),
         Err(error) => Err(match error.kind() {
-            WordsErrorKind::DisplayHelp => Ending::Help(error),
+            WordsErrorKind::DisplayHelp => Ending::Shown(error),
+            WordsErrorKind::DisplayVersion => Ending::Shown(error),
             WordsErrorKind::OutOfMemory => Ending::NoMemory,
             _ => Ending::Refused,
         }),
@@ -96,8 +97,8 @@ fn watched<'a>(matches: &ArgMatches<'a>) -> Option<WatchWords<'a>>
     }
 }
 
-/// Returns what the arguments of klpwatch ask for. If they ask for help, if they are refused, or if memory runs out,
-/// returns as `Err` how the program ends.
+/// Returns what the arguments of klpwatch ask for. If they ask for help or the version, if they are refused, or if
+/// memory runs out, returns as `Err` how the program ends.
 fn watch_asked<'a>(alloc: Global, given: &'a [String]) -> Result<WatchWords<'a>, Ending>
     ensures { MatchResult result (λ asked. watch_asked (map string_bytes given.now) ≡ Some (watch_meaning asked))
         (λ ending. Ends (fault_of watch_app (map string_bytes given.now)) (watch_asked (map string_bytes given.now)) ending) }
@@ -140,8 +141,8 @@ fn paged<'a>(matches: &ArgMatches<'a>) -> Option<PageWords<'a>>
     }
 }
 
-/// Returns what the arguments of klppage ask for. If they ask for help, if they are refused, or if memory runs out,
-/// returns as `Err` how the program ends.
+/// Returns what the arguments of klppage ask for. If they ask for help or the version, if they are refused, or if
+/// memory runs out, returns as `Err` how the program ends.
 fn page_asked<'a>(alloc: Global, given: &'a [String]) -> Result<PageWords<'a>, Ending>
     ensures { MatchResult result (λ asked. page_asked (map string_bytes given.now) ≡ Some (page_meaning asked))
         (λ ending. Ends (fault_of page_app (map string_bytes given.now)) (page_asked (map string_bytes given.now)) ending) }
@@ -170,8 +171,8 @@ fn linted<'a>(matches: &ArgMatches<'a>) -> Option<LintWords<'a>>
     }
 }
 
-/// Returns what the arguments of klplint ask for. If they ask for help, if they are refused, or if memory runs out,
-/// returns as `Err` how the program ends.
+/// Returns what the arguments of klplint ask for. If they ask for help or the version, if they are refused, or if
+/// memory runs out, returns as `Err` how the program ends.
 fn lint_asked<'a>(alloc: Global, given: &'a [String]) -> Result<LintWords<'a>, Ending>
     ensures { MatchResult result (λ asked. lint_asked (map string_bytes given.now) ≡ Some (lint_meaning asked))
         (λ ending. Ends (fault_of lint_app (map string_bytes given.now)) (lint_asked (map string_bytes given.now)) ending) }
@@ -200,8 +201,8 @@ fn seen<'a>(matches: &ArgMatches<'a>) -> Option<SeeWords<'a>>
     }
 }
 
-/// Returns what the arguments of klpsee ask for. If they ask for help, if they are refused, or if memory runs out,
-/// returns as `Err` how the program ends.
+/// Returns what the arguments of klpsee ask for. If they ask for help or the version, if they are refused, or if
+/// memory runs out, returns as `Err` how the program ends.
 fn see_asked<'a>(alloc: Global, given: &'a [String]) -> Result<SeeWords<'a>, Ending>
     ensures { MatchResult result (λ asked. see_asked (map string_bytes given.now) ≡ Some (see_meaning asked))
         (λ ending. Ends (fault_of see_app (map string_bytes given.now)) (see_asked (map string_bytes given.now)) ending) }
@@ -215,8 +216,9 @@ fn see_asked<'a>(alloc: Global, given: &'a [String]) -> Result<SeeWords<'a>, End
     }
 }
 
-/// Reads the arguments of klpwatch. If they ask for help, writes it to `out`. If they are refused, or if memory runs
-/// out, writes a line to `err`. In these cases klpwatch doesn't run, and the exit status is returned as `Err`.
+/// Reads the arguments of klpwatch. If they ask for help or the version, writes it to `out`. If they are refused, or if
+/// memory runs out, writes a line to `err`. In these cases klpwatch doesn't run, and the exit status is returned as
+/// `Err`.
 pub fn watch_words<'a, W: Write, E: Write>(
     alloc: Global,
     given: &'a [String],

@@ -4,6 +4,7 @@
 #![tactic(auto)]
 
 mod called;
+mod synopsis;
 
 ghost use Rattle.std.specs.Prelude.{◌≡◌, ◌⊎◌, ℕ, List, Option, None, IfErr};
 ghost use Rattle.klp_program.specs.declared.sample.TheConstants.{CATALOG};
@@ -11,6 +12,7 @@ ghost use Rattle.klp_program.specs.Runs.{IsServed};
 ghost use Rattle.klp_live_run.specs.Living.{Exits};
 
 use crate::called::{CalledProgram, program_called};
+use crate::synopsis::write_synopsis;
 use klp_live_run::live;
 use klp_program::{
     Wanted, bytes_in_both, catalog_in, console, parse_arguments, program_arguments, report_fault,
@@ -21,6 +23,9 @@ use std::process::ExitCode;
 use std::rt::Files;
 use std::sync::Wait;
 use std::thread::Threads;
+
+/// The exit status if the arguments are refused.
+const USAGE: u8 = 2;
 
 // Serves standard input over a catalog, or over the built-in one if no file is named. Returns the exit status. It is 1
 // also if the catalog can't be read.
@@ -66,6 +71,16 @@ fn wanted(rt: &HostRuntime) -> Result<Wanted, u8>
     parse_arguments(rt.alloc(), &given, &mut err)
 }
 
+// Returns the exit status of refused arguments, behind which standard error has how klpsim is called.
+fn refused(rt: &HostRuntime, status: u8) -> u8
+    ensures { result ≡ status }
+{
+    if status == USAGE {
+        write_synopsis(&mut rt.stderr());
+    }
+    status
+}
+
 fn main(rt: HostRuntime) -> ExitCode {
     let status = match program_called(&rt) {
         CalledProgram::Klpsim => match wanted(&rt) {
@@ -73,7 +88,7 @@ fn main(rt: HostRuntime) -> ExitCode {
             Ok(Wanted::Live(catalog, steps)) => {
                 race(&rt, catalog.as_str(), steps.as_str(), &mut rt.stderr())
             }
-            Err(status) => status,
+            Err(status) => refused(&rt, status),
         },
         CalledProgram::Klpwatch => klpwatch::run(&rt),
         CalledProgram::Klppage => klppage::run(&rt),
