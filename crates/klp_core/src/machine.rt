@@ -1,7 +1,18 @@
 //! A trait with the calls of a manager, for structs that own a manager without naming its type. A manager owns boxes,
 //! so a struct that owns a `Manager` by name can't have a trait bound of its own. Such a struct owns a `Machine`
 //! instead.
-ghost use Rattle.std.specs.Prelude.{◌≡◌, ◌<◌, ◌≤◌, length, option_map, option_and_then, slice_get, IfOk, IfErr};
+ghost use Rattle.std.specs.Prelude.{
+  ◌≡◌,
+  ◌<◌,
+  ◌≤◌,
+  length,
+  option_map,
+  option_and_then,
+  slice_get,
+  IfOk,
+  IfErr,
+  OnErr,
+};
 ghost use Rattle.klp_types.specs.declared.limits.TheConstants.{MAX_GROUPS, MAX_SITES};
 ghost use Rattle.klp_types.specs.declared.task.Task.{Task as AnyTask};
 ghost use Rattle.klp_text.specs.TextImage.{site_count};
@@ -45,6 +56,7 @@ pub trait Machine {
         requires room { length (journaled self.old).groups ≤ MAX_GROUPS }
         ensures rewound { IfOk result (λ _. IsRewound (journaled self.old) (journaled self.new) mark) }
         ensures bad_mark { IfErr result (λ _. length (journaled self.old).groups < mark) }
+        ensures refused { OnErr result (journaled self.new ≡ journaled self.old) }
         ensures setting { setting_of (journaled self.new).managed ≡ setting_of (journaled self.old).managed }
         ensures well_formed { IsWellFormed (journaled self.new) };
 

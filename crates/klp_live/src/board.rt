@@ -18,8 +18,10 @@ pub type Changes<S> = Writer<Published, Option<News>, View, S>;
 /// The reading end of the board. Each seat has such an end.
 pub type Place<S> = Reader<Published, View, S>;
 
-/// Appends the news that is to be published next. Without room, the call would wait for memory. The caller has reserved
-/// room, so the call never waits.
+/// Appends the news that is to be published next. Without room, the call would wait for memory. Reserving room fills
+/// the place that it reserves, so the news takes a second one. It never waits for that, since the list has four
+/// places once it has any, and at most four pieces of news are in it: two that one of the copies lacks, and two new
+/// ones. No clause says this.
 pub fn push<S: Start + Protocol<Published, View>, W: Wait>(
     rt: &W,
     changes: &mut Changes<S>,
