@@ -3,7 +3,7 @@
 use crate::shot::TaskShot;
 use klp_core::Manager;
 use klp_markup::Value::{Markup, Number};
-use klp_markup::{Sheet, add_task, add_version};
+use klp_markup::{Sheet, add_task, add_version, is_of_kernel};
 use klp_names::Names;
 use klp_timeline::Stay;
 use klp_types::{Mode, TaskId, Transition, Version};
@@ -61,6 +61,11 @@ fn progress_text(actor: &Actor<'_>) -> &'static str {
 /// now, or the version blocks the transition. Returns no words for any other version.
 fn why_it_matters(manager: &Manager, actor: &Actor<'_>, version: Version) -> &'static str {
     match *actor.stay {
+        // The kernel itself is never unloaded.
+        Some(Stay::Outdated(outdated))
+            if outdated == version && is_of_kernel(manager.modules(), version) => {
+            "not called now"
+        }
         Some(Stay::Outdated(outdated)) if outdated == version => {
             "not called now: what has it mustn't be unloaded"
         }

@@ -54,6 +54,8 @@ pub struct Bars {
     /// The lines in which a bar begins or ends, or in which something happens to a transition.
     changed: Vec<u64>,
     pub(crate) marks: Vec<Mark>,
+    /// The lines at which a kernel differs from the rules.
+    pub(crate) differing: Vec<u64>,
     pub(crate) scale: Scale,
     lanes: Vec<Lane>,
     /// Whether the transition under way was forced.
@@ -101,6 +103,7 @@ impl Bars {
         Bars {
             changed: Vec::new(alloc),
             marks: Vec::new(alloc),
+            differing: Vec::new(alloc),
             scale: Scale::new(alloc),
             lanes: Vec::new(alloc),
             is_forced: false,
@@ -207,6 +210,12 @@ impl Bars {
         if is_changed {
             self.is_short |= self.changed.push(line).is_err();
         }
+    }
+
+    /// Marks a line at which a kernel differs from the rules. It needs no place of its own, so where lines are cut out, it
+    /// may share that of others.
+    pub fn differ(&mut self, line: u64) {
+        self.is_short |= self.differing.push(line).is_err();
     }
 
     /// Ends all bars after the run's last line, whose number is `lines`, and computes where each line is drawn. If each

@@ -8,7 +8,7 @@ use crate::pen::{LANE, MARGIN, add_text_start, number_width};
 use crate::scale::CUT;
 use crate::stays::{Held, add_areas, add_labels, all_held};
 use crate::strips::strips_of;
-use crate::style::{LEGEND, PATTERNS};
+use crate::style::{DIFFERING_LEGEND, LEGEND, PATTERNS};
 use crate::turn::sign_text;
 use crate::words::{Stop, stops};
 use klp_core::Manager;
@@ -31,6 +31,8 @@ struct Board<'a> {
     sentences: &'a [Sentence],
     held: Vec<Held>,
     stops: Vec<Stop>,
+    /// The places at which a kernel differs from the rules.
+    differing: Vec<u64>,
     axis: Axis<'a>,
     width: u64,
 }
@@ -98,6 +100,41 @@ fn add_cuts(sheet: &mut Sheet, bars: &Bars) {
     sheet.markup("</g>");
 }
 
+/// Returns the places at which a kernel differs from the rules, from left to right, each once. `Err` if memory runs out.
+fn places_of_differences(alloc: Global, bars: &Bars) -> Result<Vec<u64>, AllocError> {
+    let mut places: Vec<u64> = Vec::new(alloc);
+    for line in &bars.differing {
+        let x = bars.scale.x(*line);
+        if places.last() != Some(&x) {
+            places.push(x)?;
+        }
+    }
+    Ok(places)
+}
+
+/// Adds the definition of the lines at which a kernel differs from the rules, which each lane uses. They are as high as a
+/// lane, 26 points. Adds nothing if the kernel differs nowhere.
+fn add_differing(sheet: &mut Sheet, places: &[u64]) {
+    if places.is_empty() {
+        return;
+    }
+    sheet.markup(
+        "<g id=differing><path style=\"fill:none;stroke:var(--hold);stroke-width:3\" d=\"M0 0",
+    );
+    for x in places {
+        sheet.fill("M{} 0v26", &[Number(*x)]);
+    }
+    sheet.markup("\"/></g>");
+}
+
+/// Adds a sign above each place at which a kernel differs from the rules.
+fn add_differing_signs(sheet: &mut Sheet, places: &[u64]) {
+    for x in places {
+        add_text_start(sheet, "sign", x.saturating_sub(4), 13);
+        sheet.markup("<tspan style=\"fill:var(--hold);font-weight:600\">\u{2260}</tspan></text>");
+    }
+}
+
 /// Begins the table, and adds its head: the signs, the axis, and the definitions that each lane uses. `marks` are the
 /// places of the marks.
 fn add_head(sheet: &mut Sheet, board: &Board<'_>, marks: &[u64]) {
@@ -108,8 +145,10 @@ fn add_head(sheet: &mut Sheet, board: &Board<'_>, marks: &[u64]) {
     sheet.markup(PATTERNS);
     add_marks(sheet, marks);
     add_cuts(sheet, board.bars);
+    add_differing(sheet, &board.differing);
     sheet.markup("</defs>");
     add_signs(sheet, board.bars);
+    add_differing_signs(sheet, &board.differing);
     board.axis.add_numbers(sheet, &board.bars.scale, 30);
     sheet.markup("</svg></td></tr></thead>");
 }
@@ -164,6 +203,9 @@ fn add_lane(
         add_areas(sheet, &board.held, task);
     }
     sheet.markup("<use href=\"#cuts\"/>");
+    if !board.differing.is_empty() {
+        sheet.markup("<use href=\"#differing\"/>");
+    }
     add_words(sheet, &strips, &board.stops, is_task);
     if is_task {
         add_labels(
@@ -190,7 +232,7 @@ fn add_note(sheet: &mut Sheet, bars: &Bars) {
         )
     } else {
         (
-            "<p class=soft>Numbers are lines of the script.",
+            "<p class=soft>Numbers are lines of the file.",
             " At a zigzag, lines are cut out in which nothing changes.",
         )
     };
@@ -225,6 +267,7 @@ pub fn add_drawing(
         sentences,
         held: all_held(alloc, &bars.scale, sentences)?,
         stops: stops(alloc, bars, &marks)?,
+        differing: places_of_differences(alloc, bars)?,
         axis: axis_of(alloc, names, bars, sentences)?,
         width: bars.scale.end().saturating_add(MARGIN),
     };
@@ -239,6 +282,9 @@ pub fn add_drawing(
     sheet.markup("</tbody>");
     add_foot(sheet, &board);
     sheet.markup(LEGEND);
+    if !bars.differing.is_empty() {
+        sheet.markup(DIFFERING_LEGEND);
+    }
     add_note(sheet, bars);
     Ok(())
 }

@@ -58,9 +58,13 @@ height=20><rect class=rest x=1 y=1 width=22 height=18 /></svg>no patch moves<li>
 y=14 width=18 height=6 /><rect class=old x=19 y=6 width=18 height=14 /><rect class=old x=38 width=18 height=20 \
 /></svg>low: in user space, higher: asleep, highest: in the kernel<li><svg width=32 height=20><rect class=old width=32 \
 height=20 /><rect class=hatch width=32 height=20 /><rect class=outer x=1 y=1 width=30 height=18 /><rect class=inner x=3 \
-y=3 width=26 height=14 /></svg>holds the transition up, in the function that stands there, or since the line whose number \
-does<li><svg width=32 height=20><rect class=rest x=1 y=1 width=30 height=18 /><rect class=dots width=32 height=20 /><rect \
+y=3 width=26 height=14 /></svg>holds the transition up: its label is the function that it sleeps in, or tells since \
+when<li><svg width=32 height=20><rect class=rest x=1 y=1 width=30 height=18 /><rect class=dots width=32 height=20 /><rect \
 class=outer x=1 y=1 width=30 height=18 /><rect class=inner x=3 y=3 width=26 height=14 /></svg>sleeps in code that \
-isn't called now, told likewise</ul>
+isn't called now, with the same label</ul>
 <ul class=legend><li>A transition:<li>\u{25b6} starts<li>\u{21ba} turns round<li>! is forced<li>\u{25a0} ends<li>\u{21b6} \
-is undone, since events are</ul>\n";
+is taken back with its events</ul>\n";
+
+/// What stands below the legend if a kernel differs from the rules somewhere.
+pub(crate) const DIFFERING_LEGEND: &str =
+    "<ul class=legend><li>\u{2260} the kernel differs from the rules</ul>\n";

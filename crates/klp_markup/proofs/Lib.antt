@@ -1,3 +1,4 @@
+mod EscapedLemmas
 pub mod AddsLemmas
 pub mod CalledLemmas
 pub mod TasksLemmas

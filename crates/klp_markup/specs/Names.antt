@@ -1,5 +1,5 @@
 -- Names of a catalog, as a page spells them.
-use Rattle.std.specs.Prelude.{ℕ, List, [], ◌++◌, codes, slice_get, Option, Some, None, option_map, unwrap_or}
+use Rattle.std.specs.Prelude.{ℕ, ◌==◌, Bool, false, List, [], ◌++◌, codes, slice_get, Option, Some, None, option_map, unwrap_or}
 use Rattle.std.specs.Fmt.{decimal}
 use Rattle.klp_types.specs.declared.version.Version.{Version}
 use Rattle.klp_types.specs.declared.version.Version.TheVariants.{Original, New}
@@ -27,6 +27,16 @@ abbrev pub symbol_text : List ObjectNames → Option Named → List ℕ
 symbol_text names None = []
 symbol_text names (Some symbol) =
     owner_text (object_name names symbol.object) ++ words_text symbol.name ++ codes "," ++ decimal symbol.position
+
+-- object 0 is vmlinux
+abbrev pub is_kernel : Option ℕ → Bool
+is_kernel None = false
+is_kernel (Some object) = object == 0
+
+-- an original of the kernel itself, which is never unloaded
+abbrev pub is_of_kernel : List ObjectNames → Version → Bool
+is_of_kernel names (Original site) = is_kernel (option_map (λ (symbol : Named). symbol.object) (symbol_at_site names site))
+is_of_kernel names (New patch function) = false
 
 -- a function that a task is inside of: a symbol, or `PATCH:INDEX (NAME)` of a patch's own
 abbrev pub version_text : Catalog → Version → List ℕ

@@ -9,6 +9,7 @@
 #![tactic(auto)]
 
 mod called;
+mod characters;
 pub mod laws;
 mod names;
 mod sheet;
@@ -16,7 +17,7 @@ mod tasks;
 mod times;
 
 pub use called::{MAX_SHOWN, add_plain_task};
-pub use names::{add_symbol, add_version, function_name, object_name, patch_name};
+pub use names::{add_symbol, add_version, function_name, is_of_kernel, object_name, patch_name};
 pub use sheet::{Sheet, Value};
 pub use tasks::{MAX_NAMED, add_each_task, add_task, add_tasks, plural};
 pub use times::{add_line_time, add_seconds, add_span_time};

@@ -5,6 +5,7 @@ ghost use Rattle.klp_modules.specs.Names.{symbol_at_site};
 ghost use Rattle.klp_markup.specs.Adds.{Adds};
 ghost use Rattle.klp_markup.specs.Escaped.{words_text};
 ghost use Rattle.klp_markup.specs.Names.{patch_name, object_name, function_name, owner_text, symbol_text, version_text};
+ghost use Rattle.klp_markup.specs.Names.{is_of_kernel};
 
 use crate::sheet::Sheet;
 use klp_catalog::Catalog;
@@ -87,6 +88,19 @@ fn add_new_function(sheet: &mut Sheet, patch: &[u8], number: u16, name: &[u8])
     sheet.markup(" (");
     sheet.words(name);
     sheet.markup(")");
+}
+
+/// Whether a version is an original of the kernel itself, which is never unloaded.
+pub fn is_of_kernel(modules: &Modules, version: Version) -> bool
+    ensures { result ≡ is_of_kernel modules.now.names version }
+{
+    match version {
+        Version::Original(site) => match modules.symbol(site) {
+            Some((object, _, _)) => object.0 == 0,
+            None => false,
+        },
+        Version::New(..) => false,
+    }
 }
 
 /// Adds the version of a function: an original as the symbol of its site, a new function of a patch as `PATCH:INDEX

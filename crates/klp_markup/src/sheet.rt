@@ -1,9 +1,10 @@
 //! A page that is being written.
-ghost use Rattle.std.specs.Prelude.{◌≡◌, ◌==◌, true, false, [], length, MatchResult};
+ghost use Rattle.std.specs.Prelude.{◌≡◌, ◌==◌, ◌+◌, ◌++◌, true, false, [], codes, length, MatchResult};
 ghost use Rattle.std.specs.Fmt.{decimal, signed_decimal};
 ghost use Rattle.klp_markup.specs.Adds.{Written, Adds};
-ghost use Rattle.klp_markup.specs.Escaped.{escaped_byte, escaped, ends_word, break_behind, words_text, name_text};
+ghost use Rattle.klp_markup.specs.Escaped.{escaped_byte, first_text, kept_behind, escaped, ends_word, break_behind, words_text, name_text};
 
+use crate::characters::shown_bytes;
 use itoa::Buffer;
 use std::alloc::{AllocError, Global};
 use std::marker::Model;
@@ -20,6 +21,9 @@ pub enum Value<'a> {
     /// A name like `Words`, in the font of code.
     Name(&'a [u8]),
 }
+
+/// The picture of the control byte 0 in Unicode. Those of the other ones follow.
+const PICTURES: u64 = 9216;
 
 /// A page, or a part of one.
 #[derive(Drop)]
@@ -64,7 +68,19 @@ impl Sheet {
         }
     }
 
-    /// Adds a byte of text from a run, and escapes it if it has a meaning in markup.
+    /// Adds the picture of a control byte.
+    fn add_picture(&mut self, byte: u8)
+        ensures { Adds self.old self.new (codes "&#" ++ decimal (9216 + byte) ++ codes ";") }
+    {
+        // For the proof only: texts that are added one after the other add up.
+        crate::laws::what_is_added_adds_up();
+        self.markup("&#");
+        self.number(PICTURES + u64::from(byte));
+        self.markup(";");
+    }
+
+    /// Adds a byte of text from a run. Escapes it if it has a meaning in markup, and if it is a control byte but for a
+    /// line feed.
     fn add_byte(&mut self, byte: u8)
         ensures { Adds self.old self.new (escaped_byte byte) }
     {
@@ -74,8 +90,30 @@ impl Sheet {
             b'>' => self.add(b"&gt;"),
             b'"' => self.add(b"&quot;"),
             b'\'' => self.add(b"&#39;"),
+            b'\n' => self.add(&[byte]),
+            0..=31 => self.add_picture(byte),
+            127 => self.add(b"&#9249;"),
             _ => self.add(&[byte]),
         }
+    }
+
+    /// Adds `byte`, the first one of a text from a run, as a page may show it: `kept` bytes of the character before it are
+    /// still to come. Returns how many are to come behind the byte.
+    fn add_first(&mut self, byte: u8, text: &[u8], kept: usize) -> usize
+        ensures adds { Adds self.old self.new (first_text kept byte text.now) }
+        ensures kept { result ≡ kept_behind kept text.now }
+    {
+        if kept > 0 {
+            self.add(&[byte]);
+            return kept - 1;
+        }
+        let shown = shown_bytes(text);
+        if shown == 0 {
+            self.add(b"&#65533;");
+            return 0;
+        }
+        self.add_byte(byte);
+        shown - 1
     }
 
     /// Adds markup unchanged. It must be part of the program, so its type is `&'static str`.
@@ -91,8 +129,10 @@ impl Sheet {
     {
         // For the proof only: texts that are added one after the other add up.
         crate::laws::what_is_added_adds_up();
-        for byte in text {
-            self.add_byte(*byte);
+        let (mut rest, mut kept) = (text, 0);
+        while let Some((byte, behind)) = rest.split_first() {
+            kept = self.add_first(*byte, rest, kept);
+            rest = behind;
         }
     }
 
@@ -128,9 +168,11 @@ impl Sheet {
     {
         // For the proof only: texts that are added one after the other add up.
         crate::laws::what_is_added_adds_up();
-        for byte in name {
-            self.add_byte(*byte);
+        let (mut rest, mut kept) = (name, 0);
+        while let Some((byte, behind)) = rest.split_first() {
+            kept = self.add_first(*byte, rest, kept);
             self.add_break(*byte);
+            rest = behind;
         }
     }
 

@@ -19,7 +19,7 @@ use Rattle.klp_timeline.specs.Lagging.{lagging}
 use Rattle.klp_timeline.specs.Shown.{is_lasting}
 use Rattle.klp_catalog.specs.Catalog.{Catalog}
 use Rattle.klp_names.specs.Names.{Names}
-use Rattle.klp_markup.specs.Names.{version_text}
+use Rattle.klp_markup.specs.Names.{version_text, is_of_kernel}
 use Rattle.klp_markup.specs.Tasks.{plural, tasks_text}
 use Rattle.klp_markup.specs.Times.{line_time}
 use Rattle.klp_story.specs.declared.end.TheConstants.{MAX_HOLDERS}
@@ -75,9 +75,14 @@ first_lasting room [] = []
 first_lasting room (sentence ∷ rest) =
     if nat_lt 0 room && is_lasting sentence then sentence ∷ first_lasting (room - 1) rest else first_lasting room rest
 
+-- the kernel itself is never unloaded
+abbrev pub uncalled_text : Bool → List ℕ
+uncalled_text true = codes ", which isn't called now.\n"
+uncalled_text false = codes ", which isn't called now: the module or patch that has it mustn't be unloaded.\n"
+
 abbrev pub reason_text : Catalog → Stay → List ℕ
 reason_text catalog (Holds move version) = version_text catalog version ++ codes ", " ++ why move.target version ++ codes ".\n"
-reason_text catalog (Outdated version) = version_text catalog version ++ codes ", which isn't called now: the module or patch that has it mustn't be unloaded.\n"
+reason_text catalog (Outdated version) = version_text catalog version ++ uncalled_text (is_of_kernel catalog.names version)
 
 -- who still sleeps there, since which line
 abbrev pub sleeper_text : Names → Catalog → ℕ → Said → List ℕ

@@ -12,7 +12,7 @@ use Rattle.klp_timeline.specs.Shown.{shown, left_out}
 use Rattle.klp_catalog.specs.Catalog.{Catalog}
 use Rattle.klp_names.specs.Names.{Names}
 use Rattle.klp_markup.specs.Escaped.{name_text}
-use Rattle.klp_markup.specs.Names.{object_name, version_text}
+use Rattle.klp_markup.specs.Names.{object_name, version_text, is_of_kernel}
 use Rattle.klp_markup.specs.Tasks.{plural, tasks_text}
 use Rattle.klp_markup.specs.Times.{line_time, span_time}
 use Rattle.klp_story.specs.Words.{counted_text, link_text, quoted_text, why}
@@ -80,14 +80,16 @@ abbrev pub sleeping : Option ℕ → ℕ → List ℕ
 sleeping None count = plural count (codes " sleeps in ") (codes " sleep in ")
 sleeping (Some to) count = codes " slept in "
 
-abbrev pub warning : Option ℕ → List ℕ
-warning None = codes ", which isn't called now: the module or patch that has it mustn't be unloaded."
-warning (Some to) = codes ", which wasn't called then."
+-- the kernel itself is never unloaded
+abbrev pub warning : Bool → Option ℕ → List ℕ
+warning true None = codes ", which isn't called now."
+warning false None = codes ", which isn't called now: the module or patch that has it mustn't be unloaded."
+warning is_of_kernel (Some to) = codes ", which wasn't called then."
 
 abbrev pub stay_text : Catalog → Stay → Option ℕ → ℕ → List ℕ
 stay_text catalog (Holds move version) to count =
     holding to count ++ quoted_text catalog move.patch ++ codes " up, asleep in " ++ version_text catalog version ++ codes ", " ++ why move.target version ++ codes "."
-stay_text catalog (Outdated version) to count = sleeping to count ++ version_text catalog version ++ warning to
+stay_text catalog (Outdated version) to count = sleeping to count ++ version_text catalog version ++ warning (is_of_kernel catalog.names version) to
 
 abbrev pub said_text : Names → Catalog → ℕ → Said → List ℕ
 said_text names catalog line (Did fact) = codes "<li>" ++ link_text (codes "Line ") line ++ line_time names line ++ codes ": " ++ fact_text catalog fact

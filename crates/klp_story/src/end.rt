@@ -9,19 +9,31 @@ ghost use Rattle.klp_timeline.specs.Shown.{is_lasting};
 ghost use Rattle.klp_markup.specs.Tasks.{tasks_text};
 ghost use Rattle.klp_story.specs.Words.{link_text};
 ghost use Rattle.klp_story.specs.End.{reason_text, sleeper_text, sleepers_text, tasks_of, first_lasting, others_text};
-ghost use Rattle.klp_story.specs.End.{all_sleepers_text, refused_text, first_text, end_text};
+ghost use Rattle.klp_story.specs.End.{uncalled_text, all_sleepers_text, refused_text, first_text, end_text};
 
 use crate::lagging::add_all_lagging;
 use crate::transition::{add_outdated, add_state};
 use crate::words::{add_counted, add_link, add_number, why};
 use klp_catalog::Catalog;
-use klp_markup::{Sheet, add_line_time, add_tasks, add_version};
+use klp_markup::{Sheet, add_line_time, add_tasks, add_version, is_of_kernel};
 use klp_modules::Modules;
 use klp_names::Names;
 use klp_timeline::{Said, Sentence, Sleepers, Stay, View, is_lasting, latest_course, outdated};
 
 /// How many sentences about sleepers the list shows at most. The list counts the tasks of the other sentences.
 const MAX_HOLDERS: usize = 8;
+
+/// Returns what is said of code that isn't called now: it warns of unloading the code. The kernel itself is never
+/// unloaded.
+fn uncalled(is_kernel: bool) -> &'static str
+    ensures { result.now ≡ uncalled_text is_kernel }
+{
+    if is_kernel {
+        ", which isn't called now.\n"
+    } else {
+        ", which isn't called now: the module or patch that has it mustn't be unloaded.\n"
+    }
+}
 
 /// Adds the version that tasks sleep in, and why that matters: it blocks the transition, or isn't called now. A line
 /// break follows.
@@ -40,9 +52,7 @@ fn add_reason(sheet: &mut Sheet, catalog: &Catalog, modules: &Modules, stay: &St
         }
         Stay::Outdated(version) => {
             add_version(sheet, catalog, modules, *version);
-            sheet.markup(
-                ", which isn't called now: the module or patch that has it mustn't be unloaded.\n",
-            );
+            sheet.markup(uncalled(is_of_kernel(modules, *version)));
         }
     }
 }

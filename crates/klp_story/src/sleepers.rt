@@ -12,7 +12,9 @@ ghost use Rattle.klp_timeline.specs.declared.moment.Said.TheVariants.{Slept};
 
 use crate::words::{add_link, add_number, add_patch, why};
 use klp_catalog::Catalog;
-use klp_markup::{Sheet, add_line_time, add_span_time, add_tasks, add_version, plural};
+use klp_markup::{
+    Sheet, add_line_time, add_span_time, add_tasks, add_version, is_of_kernel, plural,
+};
 use klp_modules::Modules;
 use klp_names::Names;
 use klp_timeline::{Sleepers, Stay};
@@ -112,11 +114,12 @@ fn sleeping(to: &Option<u64>, count: usize) -> &'static str
 }
 
 /// Returns what ends the sentence on tasks that sleep in code that isn't called. If they still do at the end of the run
-/// (`to` is `None`), it warns of unloading the code.
-fn warning(to: &Option<u64>) -> &'static str
-    ensures { result.now ≡ warning to.now }
+/// (`to` is `None`), it warns of unloading the code. The kernel itself is never unloaded.
+fn warning(is_kernel: bool, to: &Option<u64>) -> &'static str
+    ensures { result.now ≡ warning is_kernel to.now }
 {
     match to {
+        None if is_kernel => ", which isn't called now.",
         None => ", which isn't called now: the module or patch that has it mustn't be unloaded.",
         Some(_) => ", which wasn't called then.",
     }
@@ -171,7 +174,7 @@ fn add_stay(
         Stay::Outdated(version) => {
             sheet.markup(sleeping(to, count));
             add_version(sheet, catalog, modules, *version);
-            sheet.markup(warning(to));
+            sheet.markup(warning(is_of_kernel(modules, *version), to));
         }
     }
 }
