@@ -127,8 +127,8 @@ story_part : (title : Title) (catalog : Catalog) (view : View) (sentences : List
     → HasPart (page_text title catalog view sentences picture rows) (story_text title.names.now catalog sentences)
 unfolding story_and_drawing
 story_part title catalog view sentences picture rows =
-    part_on _ _ _ (part_on _ _ _ (part_behind (front_text title catalog view sentences) (story_and_drawing title.names.now catalog sentences picture) (story_text title.names.now catalog sentences)
-    (part_on _ _ _ (part_on _ _ _ (part_first (story_text title.names.now catalog sentences) _)))))
+    part_on _ _ _ (part_on _ _ _ (part_behind (front_text title catalog view sentences) (story_and_drawing title.names.now catalog sentences rows picture) (story_text title.names.now catalog sentences)
+    (part_on _ _ _ (part_on _ _ _ (part_on _ _ _ (part_first (story_text title.names.now catalog sentences) _))))))
 
 shown_of_managers : (opening : View) (managers : List Journaled) (run : List Moment) → IsQuiet opening → AreShown managers run
     → IsEachHoldShown managers (sentences_of opening run)

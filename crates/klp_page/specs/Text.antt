@@ -4,7 +4,7 @@ use Rattle.std.specs.Fmt.{decimal}
 use Rattle.klp_catalog.specs.Catalog.{Catalog}
 use Rattle.klp_markup.specs.Escaped.{escaped}
 use Rattle.klp_markup.specs.Tasks.{each_text}
-use Rattle.klp_markup.specs.Times.{seconds_text}
+use Rattle.klp_markup.specs.Times.{seconds_text, line_time}
 use Rattle.klp_names.specs.Names.{Names, start_of, since_start}
 use Rattle.klp_story.specs.End.{end_text}
 use Rattle.klp_story.specs.Sentences.{story_text}
@@ -18,6 +18,7 @@ use Rattle.klp_cards.specs.declared.style.TheConstants as cards
 use Rattle.klp_page.specs.declared.head.Title.{Title}
 use Rattle.klp_page.specs.declared.head.Differing.{Differing}
 use Rattle.klp_page.specs.declared.row.Row.{Row}
+use Rattle.klp_page.specs.declared.differences.TheConstants.{MAX_DIFFERENCES}
 use Rattle.klp_page.specs.declared.style.TheConstants.{
   HEAD,
   STYLE,
@@ -33,12 +34,21 @@ use Rattle.klp_page.specs.declared.style.TheConstants.{
   RUN,
   LINES,
   FOOT,
+  SET_UP,
+  SET_UP_END,
+  SET_UP_FOLDED,
   PLAIN_ROW,
   CARD_ROW,
   REFUSED,
   DIFFERING,
   SEEN,
   SEEN_END,
+  DIFFERS_AT,
+  DIFFERS_LINK,
+  DIFFERS_LINE,
+  RULES_SAY,
+  KERNEL_SAYS,
+  DIFFERS_END,
   DIFFERENCE,
   OPEN,
   ID,
@@ -115,16 +125,30 @@ fold_start quiet = if quiet == QUIET_ROWS then FOLD.now else []
 abbrev pub fold_end : ℕ → List ℕ
 fold_end quiet = if nat_lt QUIET_ROWS quiet then FOLD_END.now ++ decimal (quiet - QUIET_ROWS) ++ FOLDED.now else []
 
--- rows, of which the first has this number, behind so many quiet ones: nothing else is folded away
-abbrev pub rows_from : Names → ℕ → ℕ → List Row → List ℕ
-rows_from names quiet number [] = fold_end quiet
-rows_from names quiet number (row ∷ rows) =
-    if row.is_quiet
-    then fold_start quiet ++ row_text names number row ++ rows_from names (quiet + 1) (number + 1) rows
-    else fold_end quiet ++ row_text names number row ++ rows_from names 0 (number + 1) rows
+-- so many lines at a trace's beginning were made up; none of a script
+abbrev pub set_up_of : Option Differing → ℕ
+set_up_of None = 0
+set_up_of (Some differing) = differing.set_up
 
-abbrev pub rows_text : Names → List Row → List ℕ
-rows_text names rows = rows_from names 0 1 rows
+-- these are folded away: the fold begins with the first line, if there are any
+abbrev pub set_up_start : ℕ → List ℕ
+set_up_start set_up = if set_up == 0 then [] else SET_UP.now
+
+-- and ends in front of the line with this number, if that is the first behind them
+abbrev pub set_up_end : ℕ → ℕ → List ℕ
+set_up_end set_up number =
+    if nat_lt 0 set_up && number == set_up + 1 then SET_UP_END.now ++ decimal set_up ++ SET_UP_FOLDED.now else []
+
+-- rows, of which the first has this number, behind so many quiet ones: nothing else is folded away
+abbrev pub rows_from : Names → ℕ → ℕ → ℕ → List Row → List ℕ
+rows_from names set_up quiet number [] = set_up_end set_up number ++ fold_end quiet
+rows_from names set_up quiet number (row ∷ rows) =
+    if row.is_quiet && nat_lt set_up number
+    then set_up_end set_up number ++ fold_start quiet ++ row_text names number row ++ rows_from names set_up (quiet + 1) (number + 1) rows
+    else set_up_end set_up number ++ fold_end quiet ++ row_text names number row ++ rows_from names set_up 0 (number + 1) rows
+
+abbrev pub rows_text : Names → ℕ → List Row → List ℕ
+rows_text names set_up rows = set_up_start set_up ++ rows_from names set_up 0 1 rows
 
 abbrev pub is_started : Said → Bool
 is_started (Did (Starts moving)) = true
@@ -185,11 +209,33 @@ all_refused title = if nat_lt 0 title.refused && title.refused == title.lines th
 unfoldable pub front_text : Title → Catalog → View → List Sentence → List ℕ
 front_text title catalog view sentences = opening_text title ++ end_text title.names.now catalog view sentences (all_refused title) ++ COUNTS.now ++ title_text title ++ compared_text title.differing ++ STORY.now
 
--- the sentences, and the drawing
-unfoldable pub story_and_drawing : Names → Catalog → List Sentence → List ℕ → List ℕ
-story_and_drawing names catalog sentences picture = story_text names catalog sentences ++ RUN.now ++ picture ++ LINES.now
+-- where the kernel differs from the rules
+unfoldable pub difference_place : Names → ℕ → List ℕ
+difference_place names number =
+    DIFFERS_AT.now ++ decimal number ++ DIFFERS_LINK.now ++ decimal number ++ DIFFERS_LINE.now ++ line_time names number
+
+-- the sentence on a row at which the kernel differs from the rules: what they say, and what it answered or showed
+unfoldable pub difference_sentence : Names → ℕ → Row → List ℕ
+difference_sentence names number row =
+    difference_place names number ++ RULES_SAY.now ++ escaped row.answer.items ++ KERNEL_SAYS.now ++ escaped row.seen.items ++ DIFFERS_END.now
+
+-- a sentence on each of these rows that differs, of which the first has this number, and of at most so many
+abbrev pub differences_from : Names → ℕ → ℕ → List Row → List ℕ
+differences_from names number left [] = []
+differences_from names number left (row ∷ rows) =
+    if row.differs && nat_lt 0 left
+    then difference_sentence names number row ++ differences_from names (number + 1) (left - 1) rows
+    else differences_from names (number + 1) left rows
+
+abbrev pub differences_text : Names → List Row → List ℕ
+differences_text names rows = differences_from names 1 MAX_DIFFERENCES rows
+
+-- the sentences, then those on what differs, and the drawing
+unfoldable pub story_and_drawing : Names → Catalog → List Sentence → List Row → List ℕ → List ℕ
+story_and_drawing names catalog sentences rows picture =
+    story_text names catalog sentences ++ differences_text names rows ++ RUN.now ++ picture ++ LINES.now
 
 -- the rows in order, below what stands above them
 abbrev pub page_text : Title → Catalog → View → List Sentence → List ℕ → List Row → List ℕ
 page_text title catalog view sentences picture rows =
-    front_text title catalog view sentences ++ story_and_drawing title.names.now catalog sentences picture ++ rows_text title.names.now rows ++ FOOT.now
+    front_text title catalog view sentences ++ story_and_drawing title.names.now catalog sentences rows picture ++ rows_text title.names.now (set_up_of title.differing) rows ++ FOOT.now

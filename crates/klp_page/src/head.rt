@@ -4,8 +4,10 @@ ghost use Rattle.std.specs.Fmt.{decimal};
 ghost use Rattle.klp_markup.specs.Adds.{Adds};
 ghost use Rattle.klp_page.specs.Text.{is_started, is_start, count_text, refusals_text, title_text, timed_style};
 ghost use Rattle.klp_page.specs.Text.{opening_text, all_refused, front_text, story_and_drawing, trace_style};
-ghost use Rattle.klp_page.specs.Text.{style_text, first_text, different_text, compared_text};
+ghost use Rattle.klp_page.specs.Text.{style_text, first_text, different_text, compared_text, set_up_of};
 
+use crate::differences::add_differences;
+use crate::row::Row;
 use crate::style::{
     AGREES, COUNTS, FIRST, FIRST_END, FIRST_WORD, HEAD, LINES, RUN, STORY, STYLE, STYLE_END,
     TIMED_STYLE, TRACE_STYLE,
@@ -39,6 +41,19 @@ pub(crate) struct Title<'a> {
 pub struct Differing {
     pub rows: u64,
     pub first: u64,
+    /// How many lines at the trace's beginning were made up, since nothing is known of how what they show came about. The
+    /// page folds them away.
+    pub set_up: u64,
+}
+
+/// Returns how many lines at a trace's beginning were made up. Returns 0 for a script.
+pub(crate) fn set_up_of(differing: &Option<Differing>) -> u64
+    ensures { result ≡ set_up_of differing.now }
+{
+    match differing {
+        Some(differing) => differing.set_up,
+        None => 0,
+    }
 }
 
 /// Whether the sentence is on the start of a transition.
@@ -251,20 +266,23 @@ pub(crate) fn add_front(
     sheet.markup(STORY);
 }
 
-/// Adds the part of the page from its sentences to its rows: the sentences about the run, and the drawing. The catalog
-/// must have been assembled over these modules.
+/// Adds the part of the page from its sentences to its rows: the sentences about the run and about the rows that differ
+/// from the rules, and the drawing. The catalog must have been assembled over these modules.
 pub(crate) fn add_story_and_drawing(
     sheet: &mut Sheet,
     names: &Names,
     catalog: &Catalog,
     modules: &Modules,
     sentences: &[Sentence],
+    rows: &[Row],
     drawing: &Sheet,
 )
     requires { catalog.now.names ≡ modules.now.names }
-    ensures { Adds sheet.old sheet.new (story_and_drawing names.now catalog.now sentences.now drawing.now.text) }
+    ensures { Adds sheet.old sheet.new
+        (story_and_drawing names.now catalog.now sentences.now rows.now drawing.now.text) }
 {
     add_story(sheet, names, catalog, modules, sentences);
+    add_differences(sheet, names, rows);
     sheet.markup(RUN);
     sheet.append(drawing);
     sheet.markup(LINES);

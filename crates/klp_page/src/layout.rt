@@ -24,6 +24,8 @@ pub struct Layout<'a> {
     chronicle: Chronicle<'a>,
     bars: Bars,
     lines: u64,
+    /// Whether lines have no cards and aren't drawn.
+    is_bare: bool,
 }
 
 /// Whether a row shows its cards at first: the line changed a patch or the transition, ran a callback, or had an effect
@@ -40,6 +42,15 @@ impl<'a> Layout<'a> {
             chronicle: Chronicle::new(alloc, names),
             bars: Bars::new(alloc),
             lines: 0,
+            is_bare: false,
+        }
+    }
+
+    /// Returns a layout that makes no cards and draws nothing, for who needs the sentences of a run and no page.
+    pub fn bare(alloc: Global, names: &'a Names) -> Layout<'a> {
+        Layout {
+            is_bare: true,
+            ..Layout::new(alloc, names)
         }
     }
 
@@ -67,10 +78,11 @@ impl<'a> Layout<'a> {
         moment: &Moment,
     ) -> Result<Cards, AllocError> {
         self.lines = self.lines.saturating_add(1);
-        if !matches!(
+        let did_something = matches!(
             outcome,
             LineOutcome::Answered(_, Ok(_)) | LineOutcome::Rewound(_)
-        ) {
+        );
+        if self.is_bare || !did_something {
             return Ok(Cards {
                 sheet: Sheet::new(alloc),
                 is_open: false,
@@ -85,6 +97,13 @@ impl<'a> Layout<'a> {
             sheet: parts.cards,
             is_open,
         })
+    }
+
+    /// Adds to the drawing that the kernel differs from the rules at the line that was seen last.
+    pub fn differ(&mut self) {
+        if !self.is_bare {
+            self.bars.differ(self.lines);
+        }
     }
 
     /// Returns the drawing of the lines that were seen. `sentences` are all sentences of the run. Call this once, after

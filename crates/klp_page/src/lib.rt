@@ -22,6 +22,7 @@
 #![tactic(auto)]
 
 mod act;
+mod differences;
 mod head;
 mod laws;
 mod layout;

@@ -5,7 +5,7 @@ ghost use Rattle.klp_page.specs.Text.{page_text};
 ghost use Rattle.klp_page.specs.Pages.{is_refused, IsTitle, IsPage, IsPageOfRun, IsScriptFault};
 ghost use Rattle.klp_page.specs.Pages.{IsPageOf, IsFaultOf, Writes};
 
-use crate::head::{Differing, Title, add_front, add_story_and_drawing, transitions};
+use crate::head::{Differing, Title, add_front, add_story_and_drawing, set_up_of, transitions};
 use crate::layout::Layout;
 use crate::over::{page_over, write_over};
 use crate::record::{Recorded, last_view, record};
@@ -47,9 +47,10 @@ fn written(
         catalog,
         modules,
         sentences,
+        rows,
         drawing,
     );
-    add_rows(&mut sheet, title.names, rows);
+    add_rows(&mut sheet, title.names, set_up_of(&title.differing), rows);
     sheet.markup(FOOT);
     sheet.into_bytes()
 }

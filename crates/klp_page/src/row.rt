@@ -4,13 +4,13 @@ ghost use Rattle.std.specs.Fmt.{decimal};
 ghost use Rattle.klp_markup.specs.Adds.{Adds};
 ghost use Rattle.klp_names.specs.Names.{since_start};
 ghost use Rattle.klp_page.specs.Text.{mark_text, refused_text, open_text, time_text, shown_text, start_text, row_text};
-ghost use Rattle.klp_page.specs.Text.{fold_start, fold_end, rows_text, differing_text, kernel_answer, difference_text};
+ghost use Rattle.klp_page.specs.Text.{set_up_start, set_up_end, fold_start, fold_end, rows_from, rows_text, differing_text, kernel_answer, difference_text};
 ghost use Rattle.klp_page.specs.Text.{kernel_text};
 
 use crate::style::{
     ANSWER, ANSWER_END, CARD_NUMBER, CARD_ROW, CARDS, CARDS_END, DIFFERENCE, DIFFERING, FOLD,
     FOLD_END, FOLDED, HELD, HELD_END, ID, LINE, NUMBER, OPEN, PLAIN_END, PLAIN_ROW, QUIET_ROWS,
-    REFUSED, SEEN, SEEN_END, TIME,
+    REFUSED, SEEN, SEEN_END, SET_UP, SET_UP_END, SET_UP_FOLDED, TIME,
 };
 use klp_markup::{Sheet, add_each_task, add_seconds};
 use klp_names::Names;
@@ -244,24 +244,72 @@ fn add_fold_end(sheet: &mut Sheet, quiet: usize)
     }
 }
 
-/// Adds the rows in order. Of successive quiet rows, the page shows the first [`QUIET_ROWS`], and folds away the
-/// others.
-pub(crate) fn add_rows(sheet: &mut Sheet, names: &Names, rows: &[Row])
-    ensures { Adds sheet.old sheet.new (rows_text names.now rows.now) }
+/// Begins the fold of the `set_up` lines at the beginning that were made up. Adds nothing if there are none.
+fn add_set_up_start(sheet: &mut Sheet, set_up: u64)
+    ensures { Adds sheet.old sheet.new (set_up_start set_up) }
+{
+    // For the proof only: texts that are added one after the other add up.
+    klp_markup::laws::what_is_added_adds_up();
+    if set_up != 0 {
+        sheet.markup(SET_UP);
+    }
+}
+
+/// Called before the row of the line `number`: ends the fold of the made-up lines if the line is the first behind them.
+fn add_set_up_end(sheet: &mut Sheet, set_up: u64, number: u64)
+    requires { 0 < number }
+    ensures { Adds sheet.old sheet.new (set_up_end set_up number) }
+{
+    // For the proof only: texts that are added one after the other add up.
+    klp_markup::laws::what_is_added_adds_up();
+    if 0 < set_up && number - 1 == set_up {
+        sheet.markup(SET_UP_END);
+        sheet.number(set_up);
+        sheet.markup(SET_UP_FOLDED);
+    }
+}
+
+/// Called after the last row, behind which `number` would be the next: ends the folds that are open.
+fn add_last_folds(sheet: &mut Sheet, set_up: u64, number: u64, quiet: usize)
+    requires { 0 < number }
+    ensures { Adds sheet.old sheet.new (set_up_end set_up number ++ fold_end quiet) }
+{
+    // For the proof only: texts that are added one after the other add up.
+    klp_markup::laws::what_is_added_adds_up();
+    add_set_up_end(sheet, set_up, number);
+    add_fold_end(sheet, quiet);
+}
+
+/// Adds the rows in order, inside of the fold of the `set_up` lines that were made up, if there are any.
+fn add_each_row(sheet: &mut Sheet, names: &Names, set_up: u64, rows: &[Row])
+    ensures { Adds sheet.old sheet.new (rows_from names.now set_up 0 1 rows.now) }
 {
     // For the proof only: texts that are added one after the other add up.
     klp_markup::laws::what_is_added_adds_up();
     let mut quiet = 0;
     for index in 0..rows.len() {
         let row = &rows[index];
-        if row.is_quiet {
+        let number = index as u64 + 1;
+        add_set_up_end(sheet, set_up, number);
+        if row.is_quiet && set_up < number {
             add_fold_start(sheet, quiet);
             quiet += 1;
         } else {
             add_fold_end(sheet, quiet);
             quiet = 0;
         }
-        add_row(sheet, names, index as u64 + 1, row);
+        add_row(sheet, names, number, row);
     }
-    add_fold_end(sheet, quiet);
+    add_last_folds(sheet, set_up, rows.len() as u64 + 1, quiet);
+}
+
+/// Adds the rows in order. Of successive quiet rows, the page shows the first [`QUIET_ROWS`], and folds away the
+/// others. The first `set_up` rows are all folded away.
+pub(crate) fn add_rows(sheet: &mut Sheet, names: &Names, set_up: u64, rows: &[Row])
+    ensures { Adds sheet.old sheet.new (rows_text names.now set_up rows.now) }
+{
+    // For the proof only: texts that are added one after the other add up.
+    klp_markup::laws::what_is_added_adds_up();
+    add_set_up_start(sheet, set_up);
+    add_each_row(sheet, names, set_up, rows);
 }

@@ -110,6 +110,20 @@ pub(crate) const SEEN: &str = "<span class=seen>the kernel: ";
 
 pub(crate) const SEEN_END: &str = "</span>";
 
+/// The text around the parts of a sentence on a row at which the kernel differs from the rules: the row's number, twice,
+/// and its time, what the rules say, and what the kernel answered or showed.
+pub(crate) const DIFFERS_AT: &str = "<li class=holds><a href=\"#line-";
+
+pub(crate) const DIFFERS_LINK: &str = "\">Line ";
+
+pub(crate) const DIFFERS_LINE: &str = "</a>";
+
+pub(crate) const RULES_SAY: &str = ": the kernel differs from the rules. They say <samp>";
+
+pub(crate) const KERNEL_SAYS: &str = "</samp>, the kernel <samp>";
+
+pub(crate) const DIFFERS_END: &str = "</samp>.\n";
+
 /// The mark of a row at which the kernel differs from the rules.
 pub(crate) const DIFFERENCE: &str = "<b class=other>the kernel differs from the rules</b>";
 
@@ -125,6 +139,14 @@ pub(crate) const FOLD: &str =
 pub(crate) const FOLD_END: &str = "</details><p class=folded>";
 
 pub(crate) const FOLDED: &str = " more: no patch and no holder changes</p></div>\n";
+
+/// The text around the lines at a trace's beginning that were made up, and their number.
+pub(crate) const SET_UP: &str =
+    "<div class=fold><details class=more><summary aria-label=\"made-up lines\"></summary>\n";
+
+pub(crate) const SET_UP_END: &str = "</details><p class=folded>";
+
+pub(crate) const SET_UP_FOLDED: &str = " lines made up, to lead to what was seen first</p></div>\n";
 
 pub(crate) const FOOT: &str =
     "<p class=soft>A click on a line with <span class=plus>+</span> shows what it changed.</p></html>\n";

@@ -1,3 +1,4 @@
 pub mod Rules
 pub mod Traced
 pub mod Pages
+pub mod RunSentences

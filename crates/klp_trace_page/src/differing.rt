@@ -31,12 +31,13 @@ fn first(rows: &[Row]) -> u64
 }
 
 /// Returns at how many rows the kernel differs from the rules, and the number of the first of them, or 0 if there is
-/// none.
-pub(crate) fn differing_in(rows: &[Row]) -> Differing
-    ensures { result ≡ differing_in rows.now }
+/// none. The first `set_up` lines were made up.
+pub(crate) fn differing_in(set_up: u64, rows: &[Row]) -> Differing
+    ensures { result ≡ differing_in set_up rows.now }
 {
     Differing {
         rows: count(rows),
         first: first(rows),
+        set_up,
     }
 }

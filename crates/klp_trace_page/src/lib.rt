@@ -16,7 +16,9 @@ mod line;
 mod page;
 mod record;
 mod rules;
+mod run_sentences;
 mod times;
 
 pub use page::{page_over_trace, write_trace_page};
+pub use run_sentences::sentences_over_trace;
 pub use times::timed_names;

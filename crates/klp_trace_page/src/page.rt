@@ -21,17 +21,18 @@ fn paged(
     manager: &mut Manager,
     name: &[u8],
     names: &Names,
+    set_up: u64,
     trace: &[u8],
     items: &[Observed],
     layout: &mut Layout<'_>,
 ) -> Result<Vec<u8>, AllocError>
     requires { length (lines trace.now) ≡ length items.now }
-    ensures { IfOk result (λ page. IsPlayed manager.old name.now names.now trace.now items.now page.items) }
+    ensures { IfOk result (λ page. IsPlayed manager.old name.now names.now set_up trace.now items.now page.items) }
 {
     layout.open(manager)?;
     let opening = view_of(manager);
     let recorded = record_trace(alloc, manager, trace, items, &opening, layout)?;
-    let differing = differing_in(&recorded.rows);
+    let differing = differing_in(set_up, &recorded.rows);
     page_of(
         alloc,
         manager,
@@ -51,14 +52,24 @@ fn read_and_paged(
     manager: &mut Manager,
     name: &[u8],
     names: &Names,
+    set_up: u64,
     trace: &[u8],
     layout: &mut Layout<'_>,
 ) -> Result<Vec<u8>, Unshown>
-    ensures page { IfOk result (λ page. IsTracePage manager.old name.now names.now trace.now page.items) }
+    ensures page { IfOk result (λ page. IsTracePage manager.old name.now names.now set_up trace.now page.items) }
     ensures fault { IfErr result (λ why. IsTraceUnshown manager.old trace.now why) }
 {
     match Trace::read(alloc, trace, manager) {
-        Ok(read) => Ok(paged(alloc, manager, name, names, trace, &read.items, layout)?),
+        Ok(read) => Ok(paged(
+            alloc,
+            manager,
+            name,
+            names,
+            set_up,
+            trace,
+            &read.items,
+            layout,
+        )?),
         Err(fault) => Err(Unshown::BadTrace(fault)),
     }
 }
@@ -68,11 +79,13 @@ fn read_and_paged(
 struct TraceRun<'a> {
     name: &'a [u8],
     names: &'a Names,
+    /// How many lines at the beginning were made up.
+    set_up: u64,
     trace: &'a [u8],
 }
 
 impl PageSource for TraceRun<'_> {
-    ghost shows = { λ run booted page. IsTracePage booted run.name.now run.names.now run.trace.now page };
+    ghost shows = { λ run booted page. IsTracePage booted run.name.now run.names.now run.set_up run.trace.now page };
 
     ghost lacks = { λ run booted why. IsTraceUnshown booted run.trace.now why };
 
@@ -82,24 +95,39 @@ impl PageSource for TraceRun<'_> {
         manager: &mut Manager,
         layout: &mut Layout<'_>,
     ) -> Result<Vec<u8>, Unshown> {
-        read_and_paged(alloc, manager, self.name, self.names, self.trace, layout)
+        read_and_paged(
+            alloc,
+            manager,
+            self.name,
+            self.names,
+            self.set_up,
+            self.trace,
+            layout,
+        )
     }
 }
 
 /// Plays a trace by the rules on a manager that is booted over the catalog's text, and returns the page, with a row for
-/// each line. `name` is the page's title. Returns the first faulty line of the trace as `Err`. The catalog, and what
+/// each line. `name` is the page's title. The first `set_up` lines were made up, and are folded away. Returns the first faulty line of the trace as `Err`. The catalog, and what
 /// else `Err` means, are as for [`page_over`].
 pub fn page_over_trace(
     alloc: Global,
     catalog: &[u8],
     name: &[u8],
     names: &Names,
+    set_up: u64,
     trace: &[u8],
 ) -> Result<Vec<u8>, Fault>
-    ensures page { IfOk result (λ page. IsTracePageOf catalog.now name.now names.now trace.now page.items) }
+    ensures page { IfOk result
+        (λ page. IsTracePageOf catalog.now name.now names.now set_up trace.now page.items) }
     ensures fault { IfErr result (λ fault. IsFaultOf catalog.now trace.now fault) }
 {
-    let run = TraceRun { name, names, trace };
+    let run = TraceRun {
+        name,
+        names,
+        set_up,
+        trace,
+    };
     page_over(alloc, catalog, names, &run)
 }
 
@@ -114,6 +142,11 @@ pub fn write_trace_page<W: Write>(
 ) -> Result<(), Fault>
     ensures { Writes catalog.now name.now names.now trace.now (W.contents out.old) (W.contents out.new) result }
 {
-    let run = TraceRun { name, names, trace };
+    let run = TraceRun {
+        name,
+        names,
+        set_up: 0,
+        trace,
+    };
     write_over(alloc, catalog, names, &run, out)
 }

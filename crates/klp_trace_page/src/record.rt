@@ -70,6 +70,9 @@ fn answered_row(
     let (mut row, moment) = event_row(alloc, manager, text, before, layout)?;
     let seen = answer_text(alloc, manager, answer)?;
     compare(&mut row, seen);
+    if row.differs {
+        layout.differ();
+    }
     Ok((row, moment))
 }
 
@@ -92,6 +95,9 @@ fn still_row(
     };
     layout.see(alloc, manager, &LineOutcome::Done, before, &moment)?;
     let differs = rules.as_bytes() != seen.as_bytes();
+    if differs {
+        layout.differ();
+    }
     let row = Row {
         line: Vec::from_slice(alloc, text)?,
         answer: Vec::from_slice(alloc, rules.as_bytes())?,

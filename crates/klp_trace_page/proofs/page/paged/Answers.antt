@@ -12,7 +12,7 @@ returns g c =
     let opening = c.view_of-opening.result in
     let rows = c.in_ok-recorded.recorded.rows.items in
     let run = c.in_ok-recorded.recorded.run.items in
-    played c.args.manager.now left c.args.name.now c.args.names.now c.args.trace.now c.args.items.now opening rows run c.page_of.result (λ page. page.items)
+    played c.args.manager.now left c.args.name.now c.args.names.now c.args.set_up c.args.trace.now c.args.items.now opening rows run c.page_of.result (λ page. page.items)
     c.view_of-opening.ensures c.in_ok-recorded.ensures
     (subst (λ (differing : Differing). IfOk c.page_of.result (λ page. IsPageOfRun left.managed.catalog c.args.name.now c.args.names.now opening rows run (Some differing) page.items))
-    (c.differing_in-differing.ensures ∙ ap differing_in c.deref.ensures.value) c.page_of.ensures)
+    (c.differing_in-differing.ensures ∙ ap (differing_in c.args.set_up) c.deref.ensures.value) c.page_of.ensures)
