@@ -1,9 +1,12 @@
 -- The reader of words has definitions of what it finds for each program.
-use Rattle.std.proofs.Common.{◌≡◌, ◌≢◌, Bool, true, refl, subst, arith, List, [], ◌∷◌, Option, Some, None}
-use Rattle.clap.specs.Words.{App, Kinds, Text, app_of, fault_of, is_simple, is_simple_and_free}
+use Rattle.std.proofs.Common.{◌≡◌, ◌≢◌, ℕ, Bool, Bor, length, map, option_map, true, refl, subst, arith, List, [], ◌∷◌, Option, Some, None}
+use Rattle.clap.specs.Words.{App, Kinds, Text, all_of, app_of, fault_of, is_simple, is_simple_and_free, rows_of}
+use Rattle.clap.specs.Matches.{matched_of, raw_values}
+use Rattle.clap.specs.declared.parser.matches.Found.{Found}
+use Rattle.clap.proofs.WalkLemmas.{raw_values-rows}
 use Rattle.clap.specs.declared.builder.command.Command.{Command}
 use Rattle.clap.proofs.OnLiterals.{clap_on_literals}
-use Rattle.klp_arguments.specs.Asked.{is_given, linted_by, paged_by, seen_by, unless, watched_by, Linted, Seen, Ends, EndsBy}
+use Rattle.klp_arguments.specs.Asked.{is_given, linted_by, paged_by, seen_by, seen_if, go_together, unless, values_in, watched_by, Linted, Seen, Ends, EndsBy}
 use Rattle.klp_arguments.specs.declared.ending.Ending.{Ending}
 use Rattle.klp_arguments.specs.declared.ending.Ending.TheVariants.{Shown, Refused, NoMemory}
 use Rattle.klp_arguments.specs.Commands.{lint_app, page_app, see_app, watch_app}
@@ -58,11 +61,23 @@ pub linted_by-found : (catalog : Text) (script : Option Text) (is_json : Bool) (
 linted_by-found catalog script is_json first second third is_first is_second is_third =
     rw (← is_first, ← is_second, is_third) refl
 
-pub seen_by-found : (log : Text) (folder : Option Text) (is_json : Bool) (first second third : Option Text)
-    → Some log ≡ first → folder ≡ second → is_json ≡ is_given third
-    → ◌≡◌ {A = Option Seen} (Some (record { log = log; folder = folder; is_json = is_json })) (seen_by first second third)
-seen_by-found log folder is_json first second third is_first is_second is_third =
-    rw (← is_first, ← is_second, is_third) refl
+pub seen_by-found : (logs own : List Text) (folder : Option Text) (is_json follows is_metrics : Bool) (second third fourth fifth : Option Text)
+    → own ≡ logs → folder ≡ second → is_json ≡ is_given third → follows ≡ is_given fourth → is_metrics ≡ is_given fifth
+    → seen_if (go_together (length own) (record { logs = own; folder = folder; is_json = is_json; follows = follows; is_metrics = is_metrics }))
+    (record { logs = own; folder = folder; is_json = is_json; follows = follows; is_metrics = is_metrics }) ≡ seen_by logs second third fourth fifth
+seen_by-found logs own folder is_json follows is_metrics second third fourth fifth is_first is_second is_third is_fourth is_fifth =
+    rw (← is_first, ← is_second, is_third, is_fourth, is_fifth) refl
+
+-- the values that are found are all values of the argument
+pub no_values : (f : Found) (id : Text) (values : Option (Bor (List (Bor (List ℕ)))))
+    → option_map (λ (s : Bor (List (Bor (List ℕ)))). map (λ (v : Bor (List ℕ)). v.now) s.now) values ≡ option_map raw_values (matched_of f id)
+    → values ≡ None → [] ≡ values_in (all_of id (rows_of f))
+no_values f id values are none = rw (← raw_values-rows f id, ← are, none) refl
+
+pub some_values : (f : Found) (id : Text) (values : Option (Bor (List (Bor (List ℕ))))) (some : Bor (List (Bor (List ℕ))))
+    → option_map (λ (s : Bor (List (Bor (List ℕ)))). map (λ (v : Bor (List ℕ)). v.now) s.now) values ≡ option_map raw_values (matched_of f id)
+    → values ≡ Some some → map (λ (v : Bor (List ℕ)). v.now) some.now ≡ values_in (all_of id (rows_of f))
+some_values f id values some are is = rw (← raw_values-rows f id, ← are, is) refl
 
 module _ {Z : Type 0} (app : App) (command : Command) (words : List Text) (is_app : app_of command ≡ app) where
   -- words that the reader refuses ask for nothing

@@ -1,6 +1,6 @@
 -- What words ask a program for, by the values that the reader of words finds in them.
-use Rattle.std.specs.Prelude.{ℕ, ◌≡◌, ◌≢◌, ◌⊎◌, ⊤, Bool, true, false, List, [], ◌∷◌, codes, bytes_eq, Option, Some, None, option_map}
-use Rattle.clap.specs.Words.{App, Kinds, Row, Text, IsAmong, fault_of, first_of, matches_of}
+use Rattle.std.specs.Prelude.{ℕ, ◌≡◌, ◌≢◌, ◌⊎◌, ⊤, Bool, true, false, List, [], ◌∷◌, codes, bytes_eq, Option, Some, None, option_map, ◌==◌, ◌&&◌, ◌||◌, not, nat_lt, is_some, length, map, if◌then◌else◌}
+use Rattle.clap.specs.Words.{App, Kinds, Row, Text, IsAmong, all_of, fault_of, first_of, matches_of}
 use Rattle.clap.specs.declared.error.kind.ErrorKind.TheVariants.{DisplayHelp, DisplayVersion}
 use Rattle.klp_arguments.specs.Commands.{lint_app, page_app, see_app, watch_app}
 use Rattle.klp_arguments.specs.declared.asked.WatchWords.{WatchWords}
@@ -26,9 +26,11 @@ pub record Linted : Type 0 where
   pub is_json : Bool
 
 pub record Seen : Type 0 where
-  pub log : Text
+  pub logs : List Text
   pub folder : Option Text
   pub is_json : Bool
+  pub follows : Bool
+  pub is_metrics : Bool
 
 -- an option without a value is given
 abbrev pub is_given : Option Text → Bool
@@ -49,9 +51,28 @@ abbrev pub linted_by : Option Text → Option Text → Option Text → Option Li
 linted_by (Some catalog) script json = Some (record { catalog = catalog; script = script; is_json = is_given json })
 linted_by None script json = None
 
-abbrev pub seen_by : Option Text → Option Text → Option Text → Option Seen
-seen_by (Some log) folder json = Some (record { log = log; folder = folder; is_json = is_given json })
-seen_by None folder json = None
+-- A folder or an answer for programs is for one log alone. A log that is followed is alone, too, and told in words; numbers are of
+-- any logs
+abbrev pub go_together : ℕ → Seen → Bool
+go_together count seen =
+    let is_plain = not (is_some seen.folder) && not seen.is_json in
+    if seen.follows then count == 1 && is_plain && not seen.is_metrics
+    else if seen.is_metrics then nat_lt 0 count && is_plain
+    else count == 1 || nat_lt 0 count && is_plain
+
+-- all values of an argument
+abbrev pub values_in : Option (List Text) → List Text
+values_in None = []
+values_in (Some values) = values
+
+abbrev pub seen_if : Bool → Seen → Option Seen
+seen_if true seen = Some seen
+seen_if false seen = None
+
+abbrev pub seen_by : List Text → Option Text → Option Text → Option Text → Option Text → Option Seen
+seen_by logs folder json follow metrics =
+    let seen : Seen = record { logs = logs; folder = folder; is_json = is_given json; follows = is_given follow; is_metrics = is_given metrics } in
+    seen_if (go_together (length logs) seen) seen
 
 -- what the values ask for, unless the words are at fault
 abbrev pub unless : {Z : Type 0} → Kinds → Option Z → Option Z
@@ -68,7 +89,9 @@ abbrev pub linted_in : List Row → Option Linted
 linted_in rows = linted_by (first_of (codes "CATALOG") rows) (first_of (codes "SCRIPT") rows) (first_of (codes "JSON") rows)
 
 abbrev pub seen_in : List Row → Option Seen
-seen_in rows = seen_by (first_of (codes "LOG") rows) (first_of (codes "FOLDER") rows) (first_of (codes "JSON") rows)
+seen_in rows =
+    seen_by (values_in (all_of (codes "LOG") rows)) (first_of (codes "FOLDER") rows) (first_of (codes "JSON") rows)
+    (first_of (codes "FOLLOW") rows) (first_of (codes "METRICS") rows)
 
 abbrev pub watch_asked : List Text → Option Watched
 watch_asked words = unless (fault_of watch_app words) (watched_in (matches_of watch_app words))
@@ -92,7 +115,13 @@ abbrev pub lint_meaning : LintWords → Linted
 lint_meaning words = record { catalog = words.catalog.now; script = option_map (λ script. script.now) words.script; is_json = words.is_json }
 
 abbrev pub see_meaning : SeeWords → Seen
-see_meaning words = record { log = words.log.now; folder = option_map (λ folder. folder.now) words.folder; is_json = words.is_json }
+see_meaning words = record {
+  logs = map (λ log. log.now) words.logs.items;
+  folder = option_map (λ folder. folder.now) words.folder;
+  is_json = words.is_json;
+  follows = words.follows;
+  is_metrics = words.is_metrics;
+}
 
 -- the words ask for help, or for the version
 abbrev pub AskToShow : Kinds → Type 0

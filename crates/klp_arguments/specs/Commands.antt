@@ -1,7 +1,7 @@
 -- The command of each program, as the reader of words has it.
 use Rattle.std.specs.Prelude.{◌≡◌, true, false, codes, Some}
 use Rattle.clap.specs.Words.{App, Rule, Text, app_of, new_app, new_rule, rule_of, with_rule}
-use Rattle.clap.specs.declared.builder.action.ArgAction.TheVariants.{SetTrue}
+use Rattle.clap.specs.declared.builder.action.ArgAction.TheVariants.{Append, SetTrue}
 use Rattle.clap.specs.declared.builder.arg.Arg.{Arg}
 use Rattle.clap.specs.declared.builder.command.Command.{Command}
 use Rattle.klp_arguments.specs.declared.program.Program.{Program}
@@ -31,6 +31,16 @@ folder = record (new_rule (codes "FOLDER")) { short = Some 111 }
 abbrev pub json : Rule
 json = record (new_rule (codes "JSON")) { long = Some (codes "json"); action = Some SetTrue }
 
+-- one file or more
+abbrev pub logs : Rule
+logs = record (required (codes "LOG")) { action = Some Append }
+
+abbrev pub follow : Rule
+follow = record (new_rule (codes "FOLLOW")) { long = Some (codes "follow"); action = Some SetTrue }
+
+abbrev pub metrics : Rule
+metrics = record (new_rule (codes "METRICS")) { long = Some (codes "metrics"); action = Some SetTrue }
+
 abbrev pub watch_app : App
 watch_app = with_rule (with_rule (bare (codes "klpwatch")) (required (codes "CATALOG"))) (required (codes "TRACE"))
 
@@ -42,8 +52,12 @@ page_app =
 abbrev pub lint_app : App
 lint_app = with_rule (with_rule (with_rule (bare (codes "klplint")) (required (codes "CATALOG"))) (new_rule (codes "SCRIPT"))) json
 
+-- for the answer to logs
+abbrev pub answer_app : App
+answer_app = with_rule (with_rule (with_rule (bare (codes "klpsee")) logs) folder) json
+
 abbrev pub see_app : App
-see_app = with_rule (with_rule (with_rule (bare (codes "klpsee")) (required (codes "LOG"))) folder) json
+see_app = with_rule (with_rule answer_app follow) metrics
 
 -- the command is this one
 abbrev pub IsCommand : Command → App → Type 0

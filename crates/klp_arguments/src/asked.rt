@@ -28,12 +28,17 @@ pub struct LintWords<'a> {
     pub is_json: bool,
 }
 
-/// What `klpsee` explains, and where its answer goes.
-#[derive(Clone, Copy)]
+/// What `klpsee` explains, and in which form it answers.
+#[derive(Drop)]
 pub struct SeeWords<'a> {
-    pub log: &'a str,
+    /// The paths of the logs. There is at least one.
+    pub logs: Vec<&'a str>,
     /// The path of the folder for files, if one is given.
     pub folder: Option<&'a str>,
     /// Whether the answer is for programs.
     pub is_json: bool,
+    /// Whether the log is followed while it grows.
+    pub follows: bool,
+    /// Whether the answer is numbers for Prometheus.
+    pub is_metrics: bool,
 }

@@ -1,7 +1,7 @@
 //! The command of each program, by which `clap` reads its arguments and writes its help.
 ghost use Rattle.std.specs.Prelude.{◌≡◌, IfOk};
 ghost use Rattle.clap.specs.Words.{app_of, new_rule};
-ghost use Rattle.klp_arguments.specs.Commands.{bare, folder, json, lint_app, name_of, page_app, required, see_app};
+ghost use Rattle.klp_arguments.specs.Commands.{answer_app, bare, folder, follow, json, lint_app, logs, metrics, name_of, page_app, required, see_app};
 ghost use Rattle.klp_arguments.specs.Commands.{trace, watch_app, IsArg, IsCommand};
 
 use crate::program::Program;
@@ -23,6 +23,10 @@ pub(crate) const LOG: &str = "LOG";
 pub(crate) const FOLDER: &str = "FOLDER";
 
 pub(crate) const JSON: &str = "JSON";
+
+pub(crate) const FOLLOW: &str = "FOLLOW";
+
+pub(crate) const METRICS: &str = "METRICS";
 
 /// Returns the command of a program with its version and the texts of its help, but without arguments. The words that it
 /// matches begin after the program's name.
@@ -127,12 +131,48 @@ pub(crate) fn lint_command<'a>(alloc: Global) -> Result<Command<'a>, AllocError>
         .arg(json(alloc))
 }
 
-/// Returns the command of klpsee: it takes a log, and the options `-o` and `--json`.
+/// Returns klpsee's argument for the files with logs, of which at least one is needed.
+fn logs<'a>(alloc: Global) -> Arg<'a>
+    ensures { IsArg result logs }
+{
+    needed(alloc, LOG, "The files with the logs of klpcap").action(ArgAction::Append)
+}
+
+/// Returns klpsee's option `--follow`, which takes no value. It asks for each change of the answer while the log grows.
+fn follow<'a>(alloc: Global) -> Arg<'a>
+    ensures { IsArg result follow }
+{
+    Arg::new(alloc, FOLLOW)
+        .long("follow")
+        .action(ArgAction::SetTrue)
+        .help("Tell each change while the log grows")
+}
+
+/// Returns klpsee's option `--metrics`, which takes no value. It asks for numbers for Prometheus.
+fn metrics<'a>(alloc: Global) -> Arg<'a>
+    ensures { IsArg result metrics }
+{
+    Arg::new(alloc, METRICS)
+        .long("metrics")
+        .action(ArgAction::SetTrue)
+        .help("Answer in numbers for Prometheus")
+}
+
+/// Returns the command of klpsee for the answer to logs: it takes these, and the options `-o` and `--json`.
+fn answer_command<'a>(alloc: Global) -> Result<Command<'a>, AllocError>
+    ensures { IfOk result (λ command. IsCommand command answer_app) }
+{
+    command_of(alloc, Program::Klpsee)
+        .arg(logs(alloc))?
+        .arg(folder(alloc))?
+        .arg(json(alloc))
+}
+
+/// Returns the command of klpsee: it takes logs, and the options `-o`, `--json`, `--follow` and `--metrics`.
 pub(crate) fn see_command<'a>(alloc: Global) -> Result<Command<'a>, AllocError>
     ensures { IfOk result (λ command. IsCommand command see_app) }
 {
-    command_of(alloc, Program::Klpsee)
-        .arg(needed(alloc, LOG, "The file with the log of klpcap"))?
-        .arg(folder(alloc))?
-        .arg(json(alloc))
+    answer_command(alloc)?
+        .arg(follow(alloc))?
+        .arg(metrics(alloc))
 }

@@ -81,7 +81,7 @@ impl Program {
             Program::Klpwatch => "klpwatch CATALOG TRACE",
             Program::Klppage => "klppage CATALOG SCRIPT|--trace TRACE [NAMES]",
             Program::Klplint => "klplint [--json] CATALOG [SCRIPT]",
-            Program::Klpsee => "klpsee LOG [-o FOLDER] [--json]",
+            Program::Klpsee => "klpsee [-o FOLDER] [--json|--follow] LOG|[--metrics] LOG..",
         }
     }
 

@@ -1,21 +1,21 @@
 //! Reads the arguments of each program.
-ghost use Rattle.std.specs.Prelude.{◌≡◌, ◌⊎◌, [], true, map, option_map, string_bytes, Some, IfErr, MatchResult};
-ghost use Rattle.clap.specs.Words.{app_of, fault_of, first_of, found_of, is_simple, is_simple_and_free, matches_of, rows_of};
+ghost use Rattle.std.specs.Prelude.{◌≡◌, ◌⊎◌, [], true, length, map, option_map, string_bytes, Some, IfErr, IfOk, MatchResult};
+ghost use Rattle.clap.specs.Words.{all_of, app_of, fault_of, first_of, found_of, is_simple, is_simple_and_free, matches_of, rows_of};
 ghost use Rattle.klp_arguments.specs.Asked.{is_given, lint_asked, page_asked, see_asked, watch_asked, Ends, EndsBy, EndsWith};
 ghost use Rattle.klp_arguments.specs.Asked.{lint_meaning, page_meaning, see_meaning, watch_meaning};
-ghost use Rattle.klp_arguments.specs.Asked.{linted_in, paged_in, seen_in, watched_in};
+ghost use Rattle.klp_arguments.specs.Asked.{go_together, linted_in, paged_in, seen_in, values_in, watched_in};
 ghost use Rattle.klp_arguments.specs.Commands.{lint_app, page_app, see_app, watch_app};
 
 use crate::asked::{LintWords, PageWords, SeeWords, WatchWords};
 use crate::commands::{
-    CATALOG, FOLDER, JSON, LOG, NAMES, SCRIPT, TRACE, lint_command, page_command, see_command,
-    watch_command,
+    CATALOG, FOLDER, FOLLOW, JSON, LOG, METRICS, NAMES, SCRIPT, TRACE, lint_command, page_command,
+    see_command, watch_command,
 };
 use crate::ending::Ending;
 use crate::program::Program;
 use clap::error::ErrorKind as WordsErrorKind;
 use clap::{ArgMatches, Command};
-use std::alloc::Global;
+use std::alloc::{AllocError, Global};
 use std::io::{ErrorKind, Write};
 use std::rt::Env;
 use std::{env, io};
@@ -186,18 +186,57 @@ fn lint_asked<'a>(alloc: Global, given: &'a [String]) -> Result<LintWords<'a>, E
     }
 }
 
-/// Returns from the matched arguments of klpsee which log it is to explain, the folder for files if one is given, and
-/// the form of its answer. Returns `None` if the log is missing.
-fn seen<'a>(matches: &ArgMatches<'a>) -> Option<SeeWords<'a>>
-    ensures { option_map see_meaning result ≡ seen_in (rows_of (found_of matches.now)) }
+/// Returns the values that were given for the argument of this name.
+fn values_of<'a>(
+    alloc: Global,
+    matches: &ArgMatches<'a>,
+    name: &str,
+) -> Result<Vec<&'a str>, AllocError>
+    ensures { IfOk result (λ values. map (λ value. value.now) values.items
+        ≡ values_in (all_of name.now (rows_of (found_of matches.now)))) }
 {
-    match value_of(matches, LOG) {
-        Some(log) => Some(SeeWords {
-            log,
-            folder: value_of(matches, FOLDER),
-            is_json: is_given(matches, JSON),
-        }),
-        None => None,
+    let mut list = Vec::new(alloc);
+    let Some(values) = matches.get_strs(name) else {
+        return Ok(list);
+    };
+    for value in values {
+        list.push(*value)?;
+    }
+    Ok(list)
+}
+
+/// Whether what was asked of klpsee goes together. A folder or an answer for programs is for one log alone. A log that is
+/// followed is alone, too, and told in words. Numbers are of any logs.
+fn go_together(words: &SeeWords<'_>) -> bool
+    ensures { result ≡ go_together (length words.now.logs.items) (see_meaning words.now) }
+{
+    let is_plain = words.folder.is_none() && !words.is_json;
+    let count = words.logs.len();
+    if words.follows {
+        count == 1 && is_plain && !words.is_metrics
+    } else if words.is_metrics {
+        0 < count && is_plain
+    } else {
+        count == 1 || 0 < count && is_plain
+    }
+}
+
+/// Returns from the matched arguments of klpsee which logs it is to explain, the folder for files if one is given, and
+/// the form of its answer. Returns `None` if no log is given, or if what is asked doesn't go together.
+fn seen<'a>(alloc: Global, matches: &ArgMatches<'a>) -> Result<Option<SeeWords<'a>>, AllocError>
+    ensures { IfOk result (λ asked. option_map see_meaning asked ≡ seen_in (rows_of (found_of matches.now))) }
+{
+    let words = SeeWords {
+        logs: values_of(alloc, matches, LOG)?,
+        folder: value_of(matches, FOLDER),
+        is_json: is_given(matches, JSON),
+        follows: is_given(matches, FOLLOW),
+        is_metrics: is_given(matches, METRICS),
+    };
+    if go_together(&words) {
+        Ok(Some(words))
+    } else {
+        Ok(None)
     }
 }
 
@@ -208,7 +247,7 @@ fn see_asked<'a>(alloc: Global, given: &'a [String]) -> Result<SeeWords<'a>, End
         (λ ending. Ends (fault_of see_app (map string_bytes given.now)) (see_asked (map string_bytes given.now)) ending) }
 {
     match matches_in(see_command(alloc)?, given) {
-        Ok(matches) => match seen(&matches) {
+        Ok(matches) => match seen(alloc, &matches)? {
             Some(asked) => Ok(asked),
             None => Err(Ending::Refused),
         },

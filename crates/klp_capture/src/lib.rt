@@ -16,7 +16,7 @@ mod time;
 pub use capture::{Capture, LogLine, PatchRow, Sample, SeenTask, Span};
 pub use fault::{CaptureFault, CaptureFaultKind};
 pub use line::{
-    Activity, Clock, FrameLine, PatchedState, ProcessLine, SampleLine, SymbolLine, TaskLine,
+    Activity, Clock, FrameLine, Line, PatchedState, ProcessLine, SampleLine, SymbolLine, TaskLine,
     form_of,
 };
 pub use shown::patch_in;

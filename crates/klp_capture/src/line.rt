@@ -111,7 +111,7 @@ pub struct SymbolLine<'a> {
 
 /// One line of a log.
 #[derive(Clone, Copy)]
-pub(crate) enum Line<'a> {
+pub enum Line<'a> {
     /// `klpcap 2`, or another version.
     Heading(u64),
     /// The machine's name.
@@ -388,8 +388,8 @@ pub fn form_of(word: &[u8]) -> Option<&'static str> {
 }
 
 impl<'a> Line<'a> {
-    /// Reads a line, without its line feed. Returns `None` if it isn't a line of a log.
-    pub(crate) fn read(line: &'a [u8]) -> Option<Line<'a>> {
+    /// Reads a line, without its line feed. Returns `None` if it isn't a line of a log, whatever stands before it.
+    pub fn read(line: &'a [u8]) -> Option<Line<'a>> {
         let (word, rest) = cut(line, b' ');
         match word {
             b"klpcap" => Some(Line::Heading(number64(rest)?)),

@@ -10,11 +10,11 @@ use crate::report::{
 };
 use klp_capture::{BootTime, Capture, Sample, Text};
 use klp_capture_catalog::{
-    SeenTransition, TransitionEnding, TransitionStart, first_forced_in, kernel_holders_in,
-    kernel_log_differs,
+    SeenTransition, TransitionEnding, TransitionStart, first_forced_in, first_named,
+    kernel_holders_in, kernel_log_differs,
 };
-use klp_capture_run::{Explained, Holder};
-use klp_capture_search::{Followed, HoldingSleep, Run};
+use klp_capture_run::{Explained, Holder, HoldingSleep};
+use klp_capture_search::{Followed, Run};
 use klp_contradictions::{LogVerdict, contradiction_in, verdict_of};
 use klp_core::Lag;
 use klp_types::{Mode, Version};
@@ -39,25 +39,11 @@ fn task_of(alloc: Global, task: &Followed<'_>) -> Result<TaskReport, AllocError>
     })
 }
 
-/// Returns the name of the function that this version is. Returns `None` if the log doesn't have the name.
-fn name_of<'a>(run: &Run<'a>, version: Version) -> Option<&'a [u8]> {
-    let Version::New(patch, index) = version else {
-        return None;
-    };
-    let found = run.functions.functions.iter().find(|function| usize::from(patch.0)
-        == function.patch
-        && function.index == Some(index))?;
-    Some(found.new_name.unwrap_or(found.name))
-}
-
-/// The name of a function that holds a transition up.
+/// Returns the name of the function that holds a transition up.
 fn function_name(alloc: Global, run: &Run<'_>, version: Version) -> Result<String, AllocError> {
-    match (version, name_of(run, version)) {
-        (_, Some(name)) => text_of(alloc, name),
-        (Version::Original(site), None) => {
-            text_of(alloc, run.functions.name_at(usize::from(site.0)))
-        }
-        (Version::New(_, _), None) => text_of(alloc, b"a function of the patch"),
+    match run.functions.name_of(version) {
+        Some(name) => text_of(alloc, name),
+        None => text_of(alloc, b"a function of the patch"),
     }
 }
 
@@ -66,6 +52,21 @@ fn patch_name(alloc: Global, run: &Run<'_>, patch: usize) -> Result<String, Allo
         Some(patch) => text_of(alloc, patch.name),
         None => text_of(alloc, b""),
     }
+}
+
+/// Returns when the kernel's own log first named a task as a holder of a transition, if that was before a sleep was first
+/// seen. If the log doesn't have the transition's start, an earlier line may be of another transition.
+fn named_before(
+    capture: &Capture<'_>,
+    moved: &SeenTransition,
+    task: &Followed<'_>,
+    from_us: u64,
+) -> Option<u64> {
+    let TransitionStart::Logged(since) = moved.since else {
+        return None;
+    };
+    let named = first_named(capture, task.thread, since, BootTime(from_us))?;
+    Some(named.0)
 }
 
 /// Returns the report's entry of a sleep. `holds_still` says whether the task still holds the transition up.
@@ -81,54 +82,43 @@ fn holder_of(
         function: function_name(alloc, run, sleep.version)?,
         from_us: sleep.from.0,
         to_us: sleep.to.0,
+        named_us: None,
         holds_still,
     })
 }
 
-/// Returns the sleeps in which tasks held a transition up. If the transition hasn't ended, `holding` are the tasks that
-/// hold it up in the last sample.
+/// Whether a sleep held up this transition.
+fn is_in(sleep: HoldingSleep, moved: &SeenTransition) -> bool {
+    moved.is_of(usize::from(sleep.moving.patch.0), sleep.moving.target)
+        && moved.from <= sleep.from
+        && sleep.from <= moved.to
+}
+
+/// Returns the sleeps in which tasks held a transition up, task by task. If the transition hasn't ended, `holding` are the
+/// tasks that hold it up in the last sample.
 fn holders_of(
     alloc: Global,
+    capture: &Capture<'_>,
     run: &Run<'_>,
-    transition: usize,
     moved: &SeenTransition,
+    sleeps: &[HoldingSleep],
     holding: &[Holder],
 ) -> Result<Vec<HolderReport>, AllocError> {
     let mut holders = Vec::new(alloc);
     for (number, task) in run.tasks.iter().enumerate() {
-        let holds = holding.iter().find(|holder| holder.number == number);
-        for sleep in &task.sleeps {
-            let holds_still = holds.is_some() && sleep.to == moved.to;
-            if sleep.transition == transition && !holds_still {
-                holders.push(holder_of(alloc, run, task, *sleep, false)?)?;
+        let holds = holding.iter().any(|holder| holder.number == number);
+        let first = holders.len();
+        for sleep in sleeps {
+            if usize::from(sleep.task.0) == number && is_in(*sleep, moved) {
+                let holds_still = holds && sleep.to == moved.to;
+                holders.push(holder_of(alloc, run, task, *sleep, holds_still)?)?;
             }
         }
-        if let Some(holder) = holds {
-            let sleep = sleep_of(task, transition, moved, holder.version);
-            holders.push(holder_of(alloc, run, task, sleep, true)?)?;
+        if let Some(first) = holders.get_mut(first) {
+            first.named_us = named_before(capture, moved, task, first.from_us);
         }
     }
     Ok(holders)
-}
-
-/// Returns the sleep in which a task holds a transition up in the last sample. The sleep began with the first sample
-/// that shows it.
-fn sleep_of(
-    task: &Followed<'_>,
-    transition: usize,
-    moved: &SeenTransition,
-    version: Version,
-) -> HoldingSleep {
-    let from = match task.sleeps.last() {
-        Some(sleep) if sleep.transition == transition && sleep.to == moved.to => sleep.from,
-        _ => moved.to,
-    };
-    HoldingSleep {
-        transition,
-        from,
-        to: moved.to,
-        version,
-    }
 }
 
 /// Returns the sleeps of a transition in functions that the log can't place.
@@ -278,6 +268,7 @@ fn transition_of(
     found: &Explained<'_>,
     number: usize,
     moved: &SeenTransition,
+    sleeps: &[HoldingSleep],
     holding: &[Holder],
 ) -> Result<TransitionReport, AllocError> {
     let run = &found.run;
@@ -299,7 +290,7 @@ fn transition_of(
     } else {
         Vec::new(alloc)
     };
-    let holders = holders_of(alloc, run, number, moved, holding)?;
+    let holders = holders_of(alloc, capture, run, moved, sleeps, holding)?;
     Ok(TransitionReport {
         patch: patch_name(alloc, run, moved.patch)?,
         becomes,
@@ -322,9 +313,10 @@ fn transitions_of(
     found: &Explained<'_>,
     holding: &[Holder],
 ) -> Result<Vec<TransitionReport>, AllocError> {
+    let sleeps = found.sleeps(alloc)?;
     let mut transitions = Vec::new(alloc);
     for (number, moved) in found.run.transitions.iter().enumerate() {
-        transitions.push(transition_of(alloc, capture, found, number, moved, holding)?)?;
+        transitions.push(transition_of(alloc, capture, found, number, moved, &sleeps, holding)?)?;
     }
     Ok(transitions)
 }
@@ -423,5 +415,9 @@ pub fn report_of(
             None => None,
         },
         is_cut_off: !capture.is_whole,
+        last_sample_us: match capture.samples.last() {
+            Some(last) => Some(last.line.from.0),
+            None => None,
+        },
     })
 }

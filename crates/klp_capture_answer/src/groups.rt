@@ -34,6 +34,7 @@ struct SleepGroup {
     threads: Vec<u64>,
     from_us: u64,
     to_us: u64,
+    named_us: Option<u64>,
 }
 
 impl SleepGroup {
@@ -45,6 +46,7 @@ impl SleepGroup {
             threads,
             from_us: holder.from_us,
             to_us: holder.to_us,
+            named_us: holder.named_us,
         })
     }
 
@@ -54,6 +56,10 @@ impl SleepGroup {
         }
         self.from_us = self.from_us.min(holder.from_us);
         self.to_us = self.to_us.max(holder.to_us);
+        self.named_us = match (self.named_us, holder.named_us) {
+            (Some(own), Some(other)) => Some(own.min(other)),
+            (own, other) => own.or(other),
+        };
         Ok(())
     }
 }
@@ -97,6 +103,7 @@ pub(crate) fn groups_of(
             first_holder: group.first,
             from_us: group.from_us,
             to_us: group.to_us,
+            named_us: group.named_us,
         })?;
     }
     Ok(groups)

@@ -17,5 +17,8 @@ mod report;
 mod words;
 
 pub use gather::report_of;
-pub use report::{Report, print_json};
+pub use report::{
+    Becomes, EndReport, GroupReport, HolderReport, HowEnded, Report, TransitionReport,
+    VerdictReport, print_json,
+};
 pub use words::print_report;

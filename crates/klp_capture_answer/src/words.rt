@@ -11,6 +11,9 @@ use klp_messages::Escaped;
 use std::io::Write;
 use std::{fmt, io};
 
+/// The microseconds in a second.
+const SECOND: u64 = 1_000_000;
+
 /// Returns a name without bytes that would control a terminal.
 pub(crate) fn shown(name: &String) -> Escaped<'_> {
     Escaped(name.as_bytes())
@@ -49,6 +52,26 @@ fn way_out(task: &TaskReport) -> &'static str {
     }
 }
 
+/// That the kernel's own log named a holder, or the first of some threads, a second or more before a sample showed it.
+/// Printed as nothing if it didn't.
+#[derive(Clone, Copy)]
+struct NamedEarlier {
+    named_us: Option<u64>,
+    from_us: u64,
+}
+
+impl fmt::Display for NamedEarlier {
+    fn fmt<W: fmt::Write>(&self, f: &mut fmt::Formatter<W>) -> fmt::Result {
+        match self.named_us {
+            Some(named_us) if named_us.saturating_add(SECOND) <= self.from_us => {
+                let named = seconds(named_us);
+                write!(f, "; the kernel's log names it from {named} s on")
+            }
+            _ => Ok(()),
+        }
+    }
+}
+
 /// Writes which task holds the transition up, or held it up, and for how long.
 fn print_holder<W: Write>(holder: &HolderReport, last_us: u64, out: &mut W) -> io::Result<()> {
     let (task, function) = (&holder.task, shown(&holder.function));
@@ -58,17 +81,21 @@ fn print_holder<W: Write>(holder: &HolderReport, last_us: u64, out: &mut W) -> i
         ""
     };
     let (from, to) = (seconds(holder.from_us), seconds(holder.to_us));
+    let named = NamedEarlier {
+        named_us: holder.named_us,
+        from_us: holder.from_us,
+    };
     if holder.holds_still {
         let (time, state) = (elapsed(holder.from_us, last_us), &task.state);
         let way_out = way_out(task);
         writeln!(
             out,
-            "  {task}{kind} holds it up: asleep ({state}: {way_out}) in {function} since {from} s or before, for {time} s"
+            "  {task}{kind} holds it up: asleep ({state}: {way_out}) in {function} since {from} s or before, for {time} s{named}"
         )
     } else {
         writeln!(
             out,
-            "  {task}{kind} held it up, asleep in {function}, from {from} s to {to} s"
+            "  {task}{kind} held it up, asleep in {function}, from {from} s to {to} s{named}"
         )
     }
 }
@@ -83,18 +110,22 @@ fn print_group<W: Write>(
     let (name, process, threads) = (shown(&group.process_name), group.process, group.threads);
     let function = shown(&holder.function);
     let (from, to) = (seconds(group.from_us), seconds(group.to_us));
+    let named = NamedEarlier {
+        named_us: group.named_us,
+        from_us: group.from_us,
+    };
     if holder.holds_still {
         let (time, state) = (elapsed(group.from_us, last_us), &holder.task.state);
         let way_out = way_out(&holder.task);
         writeln!(
             out,
             "  {name}[{process}]: {threads} threads hold it up: asleep ({state}: {way_out}) in {function}, \
-            the first since {from} s or before, for {time} s"
+            the first since {from} s or before, for {time} s{named}"
         )
     } else {
         writeln!(
             out,
-            "  {name}[{process}]: {threads} threads held it up, asleep in {function}, between {from} s and {to} s"
+            "  {name}[{process}]: {threads} threads held it up, asleep in {function}, between {from} s and {to} s{named}"
         )
     }
 }

@@ -1,5 +1,5 @@
 //! Writes the catalog of what a log names, as text.
-use crate::named::{Functions, SeenVersion};
+use crate::named::{Functions, SeenFunction};
 use klp_capture::Text;
 use klp_types::MAX_SYMBOL_NAME;
 use klp_words::is_name;
@@ -15,30 +15,15 @@ fn cut_name(name: &[u8]) -> Text<'_> {
 
 impl Functions<'_> {
     /// Writes the symbol of a function, as the console spells it.
-    pub fn write_symbol(&self, text: &mut String, function: usize) -> Result<(), AllocError> {
-        let Some(function) = self.functions.get(function) else {
-            return Ok(());
-        };
+    pub fn write_symbol(
+        &self,
+        text: &mut String,
+        function: &SeenFunction<'_>,
+    ) -> Result<(), AllocError> {
         let object = Text(self.objects.get(function.object).copied().unwrap_or(b""));
         let name = cut_name(function.name);
         let position = function.position;
         write!(text, ".klp.sym.{object}.{name},{position}")
-    }
-
-    /// Writes a function that a task is inside of, as the console spells it.
-    pub fn write_version(&self, text: &mut String, place: SeenVersion) -> Result<(), AllocError> {
-        if !place.is_new {
-            return self.write_symbol(text, place.function);
-        }
-        let Some(function) = self.functions.get(place.function) else {
-            return Ok(());
-        };
-        let patch = match self.patches.get(function.patch) {
-            Some(patch) => Text(patch.name),
-            None => Text(b""),
-        };
-        let index = function.index.unwrap_or(0);
-        write!(text, "{patch}:{index}")
     }
 
     fn write_objects(&self, text: &mut String) -> Result<(), AllocError> {
@@ -59,7 +44,7 @@ impl Functions<'_> {
     fn write_functions(&self, text: &mut String, patch: usize) -> Result<(), AllocError> {
         let mut object = None;
         for (number, function) in self.functions.iter().enumerate() {
-            if function.patch != patch || function.index.is_none() {
+            if function.patch != Some(patch) || function.index.is_none() {
                 continue;
             }
             if object != Some(function.object) {
@@ -68,7 +53,7 @@ impl Functions<'_> {
                 writeln!(text, "target {name}")?;
             }
             text.push_str("func ")?;
-            self.write_symbol(text, number)?;
+            self.write_symbol(text, function)?;
             let address = function.new_address;
             match function.new_name {
                 Some(name) if is_name(name) => {

@@ -82,3 +82,22 @@ pub fn kernel_holders_in<'a>(
     }
     Ok(holders)
 }
+
+/// Returns when the kernel's own log first says, between two times, that it couldn't switch this thread since it slept in
+/// a function that is blocked. The thread may have run since then. Returns `None` if the log doesn't say so in between.
+pub fn first_named(
+    capture: &Capture<'_>,
+    thread: u64,
+    from: BootTime,
+    to: BootTime,
+) -> Option<BootTime> {
+    for line in &capture.log {
+        if line.at < from || line.at >= to {
+            continue;
+        }
+        if holder_in(line.text, line.at).is_some_and(|holder| holder.thread == thread) {
+            return Some(line.at);
+        }
+    }
+    None
+}

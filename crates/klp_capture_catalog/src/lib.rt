@@ -1,8 +1,8 @@
 //! The names in a log of a real kernel, and a catalog with the same names.
 //!
 //! [`Functions`] has the patches of a log and the functions that they change, if the log's frames and symbols show the
-//! functions. [`Functions::catalog`] writes these names as a catalog's text. `patch_lines` writes, as lines of a trace,
-//! what happened to a patch between two samples. `transition` says which transitions a log shows, and how each ended.
+//! functions. [`Functions::catalog`] writes these names as a catalog's text. `sites` has the numbers that the
+//! functions have in that catalog. `transition` says which transitions a log shows, and how each ended.
 //! `kernel_log` reads when a transition started, and whether it was forced, from the kernel's own log.
 //!
 //! `klp_capture_run` checks the trace against the rules, and compares the trace's task states and patch files with the
@@ -15,13 +15,12 @@ mod changed_functions;
 mod kernel_holders;
 mod kernel_log;
 mod named;
-mod patch_lines;
+mod sites;
 mod transition;
 
-pub use kernel_holders::{KernelHolder, kernel_holders_in};
+pub use kernel_holders::{KernelHolder, first_named, kernel_holders_in};
 pub use kernel_log::{
     KernelLogDiffers, TransitionStart, first_forced_in, forced_in, kernel_log_differs, since_when,
 };
-pub use named::{Functions, SeenFunction, SeenPatch, SeenVersion, files_in, moving_in};
-pub use patch_lines::{Files, PatchLines};
+pub use named::{Files, Functions, SeenFunction, SeenPatch, SeenVersion, files_in, moving_in};
 pub use transition::{SeenTransition, TransitionEnd, TransitionEnding};

@@ -1,13 +1,16 @@
 //! The names in a log: its patches, the functions that they change, and the versions of these functions that tasks are
 //! inside of.
 use crate::changed_functions::{FoundFunction, found_in, has_replaced, is_cumulative, is_shared};
-use crate::patch_lines::Files;
 use klp_capture::{Capture, FrameLine, PatchName, PatchRow, Span, SymbolLine, patch_in};
 use klp_types::{MAX_PATCHES, MAX_SITES, MAX_SYMBOL_NAME};
+use klp_words::is_name;
 use std::alloc::{AllocError, Global};
 
 /// The object of functions that are in no module.
 const KERNEL: &[u8] = b"vmlinux";
+
+/// The index of that object.
+const KERNEL_NUMBER: usize = 0;
 
 /// The function that patched functions call. Its address is `HANDLER_ADDRESS` if the log doesn't have it.
 const HANDLER: &[u8] = b"klp_ftrace_handler";
@@ -24,6 +27,9 @@ const ADDRESS_STEP: u64 = 16;
 /// is empty (kpatch), `livepatch_` (the kernel's samples), or `klpp_` (klp-convert).
 const PREFIXES: [&[u8]; 3] = [b"", b"livepatch_", b"klpp_"];
 
+/// What the files `enabled` and `transition` of a patch read. `None` if the patch isn't installed.
+pub type Files = Option<(bool, bool)>;
+
 /// A patch that the log names.
 #[derive(Clone, Copy)]
 pub struct SeenPatch<'a> {
@@ -33,11 +39,11 @@ pub struct SeenPatch<'a> {
     pub is_cumulative: bool,
 }
 
-/// A function that a patch changes.
+/// A function that a patch changes, or that `klpcap` was asked to look for.
 #[derive(Clone, Copy)]
 pub struct SeenFunction<'a> {
-    /// The index of the function's patch.
-    pub patch: usize,
+    /// The index of the function's patch. `None` for a function that no patch changes.
+    pub patch: Option<usize>,
     /// The index of the function's object.
     pub object: usize,
     /// The function's name.
@@ -45,11 +51,12 @@ pub struct SeenFunction<'a> {
     /// The function's position among the symbols of this name, from 1.
     pub position: u32,
     /// The number of the new function among those of its patch. `None` for a function that a cumulative patch gives
-    /// back.
+    /// back, or that no patch changes.
     pub index: Option<u16>,
     /// The name of the new function, or `None` if the log doesn't have it.
     pub new_name: Option<&'a [u8]>,
-    /// The address of the new function. If the log doesn't have the address, it is made up.
+    /// The address of the new function. If the log doesn't have the address, it is made up. For a function that no patch
+    /// changes it is that of the function itself.
     pub new_address: u64,
 }
 
@@ -76,8 +83,10 @@ pub struct Functions<'a> {
     pub patches: Vec<SeenPatch<'a>>,
     /// The objects, by their numbers in the catalog; the first is `vmlinux`.
     pub objects: Vec<&'a [u8]>,
-    /// The functions that the patches change, patch by patch.
+    /// The functions that the patches change, patch by patch, and then those that `klpcap` was asked to look for.
     pub functions: Vec<SeenFunction<'a>>,
+    /// The number of the site of each function's original. `None` if the catalog has no such symbol.
+    pub(crate) sites: Vec<Option<u16>>,
     pub(crate) symbols: Vec<SeenSymbol<'a>>,
     pub(crate) handler: u64,
     /// The functions whose names have more than `MAX_SYMBOL_NAME` bytes. The catalog has the beginnings of these names.
@@ -200,6 +209,20 @@ fn may_be_cumulative(capture: &Capture<'_>, patch: &[u8]) -> bool {
     is_last_moving || has_replaced(capture, patch, true)
 }
 
+/// Returns the symbol of this name in the kernel itself, if there is exactly one.
+fn kernel_symbol<'a>(symbols: &[SymbolLine<'a>], name: &[u8]) -> Option<SymbolLine<'a>> {
+    let mut found = None;
+    for symbol in symbols {
+        if symbol.name == name && symbol.module.is_none() {
+            if found.is_some() {
+                return None;
+            }
+            found = Some(*symbol);
+        }
+    }
+    found
+}
+
 /// Whether the symbols of a patch's module are known. A log that was cut off may lack the symbols.
 fn has_symbols(capture: &Capture<'_>, patch: &[u8]) -> bool {
     capture.is_whole
@@ -243,6 +266,7 @@ impl<'a> Functions<'a> {
             patches: Vec::new(alloc),
             objects,
             functions: Vec::new(alloc),
+            sites: Vec::new(alloc),
             symbols: Vec::new(alloc),
             handler: handler_in(&capture.symbols),
             cut: Vec::new(alloc),
@@ -260,6 +284,8 @@ impl<'a> Functions<'a> {
         }
         functions.add_all(capture, &found.functions)?;
         functions.add_symbols(capture)?;
+        functions.add_asked(capture)?;
+        functions.number_sites()?;
         Ok(functions)
     }
 
@@ -320,7 +346,7 @@ impl<'a> Functions<'a> {
             None => (None, self.spare_address()),
         };
         self.functions.push(SeenFunction {
-            patch: function.patch,
+            patch: Some(function.patch),
             object: function.object,
             name: function.name,
             position: function.position.max(1),
@@ -359,6 +385,45 @@ impl<'a> Functions<'a> {
         Ok(())
     }
 
+    /// Adds the functions that `klpcap` was asked to look for and that no patch changes, so that the run says who sleeps
+    /// in them. Leaves out a name that doesn't mean exactly one function of the kernel itself, and what the catalog has
+    /// no room for.
+    fn add_asked(&mut self, capture: &Capture<'a>) -> Result<(), AllocError> {
+        for name in &capture.asked {
+            let Some(symbol) = kernel_symbol(&capture.symbols, *name) else {
+                continue;
+            };
+            if self.count(KERNEL_NUMBER, symbol.name) > 0 || !self.has_room_for(&symbol) {
+                continue;
+            }
+            self.functions.push(SeenFunction {
+                patch: None,
+                object: KERNEL_NUMBER,
+                name: symbol.name,
+                position: 1,
+                index: None,
+                new_name: None,
+                new_address: symbol.address,
+            })?;
+            self.symbols.push(SeenSymbol {
+                object: KERNEL_NUMBER,
+                name: symbol.name,
+                address: symbol.address,
+            })?;
+        }
+        Ok(())
+    }
+
+    /// Whether the catalog takes one more symbol: its name can be read back, and its first instruction is its own.
+    fn has_room_for(&self, symbol: &SymbolLine<'_>) -> bool {
+        let is_apart = |address: u64| address.abs_diff(symbol.address) >= ADDRESS_STEP;
+        self.symbols.len() < MAX_SITES
+            && symbol.name.len() <= MAX_SYMBOL_NAME
+            && is_name(symbol.name)
+            && is_apart(self.handler)
+            && self.symbols.iter().all(|own| is_apart(own.address))
+    }
+
     fn count(&self, object: usize, name: &[u8]) -> usize {
         self.symbols
             .iter()
@@ -386,8 +451,8 @@ impl<'a> Functions<'a> {
         Ok(())
     }
 
-    /// Returns the version of a function that a frame is in. Returns `None` if no patch of the log changes the
-    /// function, and no patch has it as a new function.
+    /// Returns the version of a function that a frame is in. Returns `None` if the list doesn't have the function, and no
+    /// patch has it as a new function.
     pub fn seen_version(&self, frame: FrameLine<'_>) -> Option<SeenVersion> {
         let function = self
             .functions
@@ -428,7 +493,7 @@ impl<'a> Functions<'a> {
         Some(*unplaced)
     }
 
-    /// Whether one of these frames is in a function that a patch of the log changes, or in a patch's module.
+    /// Whether one of these frames is in a function of the list, or in a patch's module.
     pub fn is_inside(&self, frames: &[FrameLine<'a>]) -> bool {
         frames
             .iter()
@@ -456,26 +521,12 @@ impl<'a> Functions<'a> {
         is_loaded
     }
 
-    /// Returns the name of the symbol at a site of the catalog. Sites are numbered over all objects, in the order of
-    /// their symbols.
-    pub fn name_at(&self, site: usize) -> &'a [u8] {
-        let mut left = site;
-        for object in 0..self.objects.len() {
-            for symbol in &self.symbols {
-                if symbol.object == object {
-                    if left == 0 {
-                        return symbol.name;
-                    }
-                    left = left.saturating_sub(1);
-                }
-            }
-        }
-        b""
-    }
-
     /// Whether a frame is in the new function that replaces this function.
     fn is_new(&self, function: &SeenFunction<'a>, frame: FrameLine<'_>) -> bool {
-        let Some(patch) = self.patches.get(function.patch) else {
+        let Some(number) = function.patch else {
+            return false;
+        };
+        let Some(patch) = self.patches.get(number) else {
             return false;
         };
         if function.index.is_none() || frame.module != Some(patch.name) {

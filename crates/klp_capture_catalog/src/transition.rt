@@ -1,6 +1,6 @@
 //! The transitions that a log shows: of which patch, since when, and how each ended.
 use crate::kernel_log::TransitionStart;
-use crate::patch_lines::Files;
+use crate::named::Files;
 use klp_capture::BootTime;
 
 /// A transition that was seen.

@@ -1,5 +1,5 @@
 -- Who holds a transition up behind a trace: the rules' own answer in the state that the trace leads to.
-use Rattle.std.specs.Prelude.{◌≡◌, ℕ, suc, List, [], ◌∷◌, ◌++◌, Option, Some, None, Ok}
+use Rattle.std.specs.Prelude.{◌≡◌, ℕ, suc, List, [], ◌∷◌, ◌++◌, Option, Some, None, Ok, IfSome}
 use Rattle.klp_catalog_text.specs.Plan.{Plan}
 use Rattle.klp_catalog_text.specs.Text.{plan_of}
 use Rattle.klp_manager_state.specs.Managed.{Managed, setting_of}
@@ -10,6 +10,8 @@ use Rattle.klp_core.specs.declared.holders.Lag.TheVariants.{Holds}
 use Rattle.klp_watch.specs.declared.observed.Observed.{Observed}
 use Rattle.klp_watch.specs.ComparedWhole.{AreAllSo}
 use Rattle.klp_trace.specs.Traces.{IsTraceOf}
+use Rattle.klp_program.specs.declared.verdict.Verdict.{Verdict}
+use Rattle.klp_program.specs.Watches.{IsVerdict}
 use Rattle.klp_boot.specs.Booted.{IsBootedOver}
 use Rattle.klp_capture_run.specs.declared.holders.Holder.{Holder}
 
@@ -25,6 +27,11 @@ pub record LagBehindTrace (booted : Journaled) (trace : List ℕ) (lags : List (
   pub times : List (Option ℕ)
   pub read : IsTraceOf booted trace items times
   pub behind : LagBehind booted.managed items lags
+
+-- the trace is judged so by a booted manager; and if who lags is told, they lag behind the trace
+pub record IsJudgement (booted : Journaled) (trace : List ℕ) (verdict : Verdict) (lags : Option (List (Option Lag))) : Type 0 where
+  pub verdict_is : IsVerdict booted trace verdict
+  pub behind : IfSome lags (LagBehindTrace booted trace)
 
 -- the same of a manager that is booted over a plan
 pub record LagOverPlan (plan : Plan) (trace : List ℕ) (lags : List (Option Lag)) : Type 0 where

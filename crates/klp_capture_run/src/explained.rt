@@ -7,14 +7,17 @@ ghost use Rattle.klp_program.specs.Watches.{Watches};
 ghost use Rattle.klp_capture.specs.Shown.{ShowSamples, samples_before};
 ghost use Rattle.klp_capture_run.specs.Explained.{is_honest};
 ghost use Rattle.klp_capture_run.specs.Holders.{LagOver, holders_in};
+ghost use Rattle.klp_trace_page.specs.RunSentences.{AreSentencesOver};
 
-use crate::holders::{Holder, Lags, holders_of, lags_over};
+use crate::holders::{Holder, Judgement, Lags, holders_of, judgement_over};
 use klp_boot::{Fault, ManagerUse, over_text};
 use klp_capture::{BootTime, Capture, PatchName, Sample, Text, Thread};
 use klp_capture_catalog::{Functions, forced_in};
 use klp_capture_search::{OTHERS, Run};
 use klp_core::Manager;
-use klp_program::{Verdict, watch_over_text};
+use klp_program::Verdict;
+use klp_timeline::Sentence;
+use klp_trace_page::sentences_over_trace;
 use std::alloc::{AllocError, Global};
 
 /// What was found out about a log.
@@ -45,6 +48,8 @@ pub struct Explained<'a> {
     pub verdict: Verdict,
     /// The tasks that lag at the end of the trace, by their numbers. `None` if the trace breaks the rules.
     pub lags: Option<Lags>,
+    /// The sentences that the trace's page has about the run.
+    pub(crate) sentences: Vec<Sentence>,
 }
 
 impl<'a> Explained<'a> {
@@ -190,6 +195,8 @@ pub fn explain<'a>(alloc: Global, capture: &Capture<'a>) -> Result<Explained<'a>
         (samples_before found.unshown
         (samples_before found.failed (samples_before found.unjudged capture.now.samples.items)))
         (lines (string_bytes found.run.trace))) }
+    ensures sentences { IfOk result
+        (λ found. AreSentencesOver (string_bytes found.catalog) (string_bytes found.run.trace) found.sentences.items) }
     ensures lags { IfOk result
         (λ found. IfSome found.lags
         (λ lags. LagOver (string_bytes found.catalog) (string_bytes found.run.trace) lags)) }
@@ -200,8 +207,12 @@ pub fn explain<'a>(alloc: Global, capture: &Capture<'a>) -> Result<Explained<'a>
         catalog,
         stopped,
     } = best_explored(alloc, capture, forced)?;
-    let verdict = watch_over_text(alloc, catalog.as_bytes(), run.trace.as_bytes())?;
-    let lags = lags_over(alloc, catalog.as_bytes(), run.trace.as_bytes())?;
+    let Judgement { verdict, lags } = judgement_over(
+        alloc,
+        catalog.as_bytes(),
+        run.trace.as_bytes(),
+    )?;
+    let sentences = sentences_over_trace(alloc, catalog.as_bytes(), run.trace.as_bytes())?;
     let names = run.functions.names(alloc)?;
     let threads = run.threads(alloc)?;
     let failed = if capture.is_whole { stopped } else { None };
@@ -222,5 +233,6 @@ pub fn explain<'a>(alloc: Global, capture: &Capture<'a>) -> Result<Explained<'a>
         forced,
         verdict,
         lags,
+        sentences,
     })
 }

@@ -1,10 +1,12 @@
-//! Finds the tasks that hold a transition up at the end of a trace. The trace is read again, and done with a newly
-//! booted manager. So the result follows from the rules and the trace alone, however the trace was found.
-ghost use Rattle.std.specs.Prelude.{◌≡◌, ◌≤◌, ◌++◌, length, OnOk, IfOk, IfSome};
-ghost use Rattle.klp_capture_run.specs.Holders.{LagBehindTrace, LagOver, holder_at, holders_from, holders_in};
+//! Judges a trace, and finds the tasks that hold a transition up at its end. The trace is read again, and done with a
+//! newly booted manager. So the result follows from the rules and the trace alone, however the trace was found.
+ghost use Rattle.std.specs.Prelude.{◌≡◌, ◌≤◌, ◌++◌, length, Ok, OnOk, IfOk, IfSome};
+ghost use Rattle.klp_program.specs.Watches.{Watches};
+ghost use Rattle.klp_capture_run.specs.Holders.{IsJudgement, LagOver, holder_at, holders_from, holders_in};
 
 use klp_boot::{Fault, ManagerUse, over_text};
 use klp_core::{Lag, Manager};
+use klp_program::{Verdict, verdict_of};
 use klp_trace::Trace;
 use klp_types::{MAX_TASKS, Version};
 use klp_watch::compare_whole;
@@ -23,36 +25,58 @@ pub struct Holder {
     pub version: Version,
 }
 
-/// A trace at whose end tasks may lag.
+/// The verdict on a trace, and who lags at its end.
 #[derive(Drop)]
-struct TraceEnd<'a> {
+pub(crate) struct Judgement {
+    pub(crate) verdict: Verdict,
+    /// `None` if an item breaks the rules.
+    pub(crate) lags: Option<Lags>,
+}
+
+/// A trace that is judged.
+#[derive(Drop)]
+struct Judged<'a> {
     trace: &'a [u8],
 }
 
-impl ManagerUse for TraceEnd<'_> {
-    /// `None` if the trace can't be read, or an item breaks the rules.
-    type Done = Option<Lags>;
+impl ManagerUse for Judged<'_> {
+    type Done = Result<Judgement, Fault>;
 
-    ghost comes_to = { λ before _ booted found. IfSome found (λ lags. LagBehindTrace booted before.trace.now lags) };
+    ghost comes_to = { λ before _ booted ended. IfOk ended
+        (λ judgement. IsJudgement booted before.trace.now judgement.verdict judgement.lags) };
 
-    fn run(&mut self, alloc: Global, manager: &mut Manager) -> Option<Lags> {
-        let Ok(trace) = Trace::read(alloc, self.trace, manager) else {
-            return None;
-        };
-        match compare_whole(manager, &trace.items) {
-            Ok(_) => Some(manager.holders()),
-            Err(_) => None,
+    /// Replays the trace once. The manager is left at its end, where it shows who lags.
+    fn run(&mut self, alloc: Global, manager: &mut Manager) -> Result<Judgement, Fault> {
+        let trace = Trace::read(alloc, self.trace, manager)?;
+        let ended = compare_whole(manager, &trace.items);
+        let verdict = verdict_of(ended, &trace.items);
+        match ended {
+            Ok(_) => Ok(Judgement {
+                verdict,
+                lags: Some(manager.holders()),
+            }),
+            Err(_) => Ok(Judgement {
+                verdict,
+                lags: None,
+            }),
         }
     }
 }
 
-/// Returns which tasks lag at the end of a trace, and why. `catalog` is the catalog's text. Returns `None` if the trace
-/// can't be read or breaks the rules.
-pub(crate) fn lags_over(alloc: Global, catalog: &[u8], trace: &[u8]) -> Result<Option<Lags>, Fault>
-    ensures { IfOk result (λ found. IfSome found (λ lags. LagOver catalog.now trace.now lags)) }
+/// Returns the verdict of `klpwatch` on a trace, and which tasks lag at its end, and why. `catalog` is the catalog's
+/// text. Returns `Err` if the catalog or the trace has a fault, or if memory runs out.
+pub(crate) fn judgement_over(
+    alloc: Global,
+    catalog: &[u8],
+    trace: &[u8],
+) -> Result<Judgement, Fault>
+    ensures judged { IfOk result
+        (λ judgement. Watches catalog.now trace.now (Ok judgement.verdict)) }
+    ensures lags { IfOk result
+        (λ judgement. IfSome judgement.lags (λ lags. LagOver catalog.now trace.now lags)) }
 {
-    let found = over_text(alloc, catalog, &mut TraceEnd { trace })?;
-    Ok(found)
+    let judgement = over_text(alloc, catalog, &mut Judged { trace })??;
+    Ok(judgement)
 }
 
 /// Adds a task if it holds a transition up.

@@ -8,6 +8,8 @@
 
 mod explained;
 mod holders;
+mod sleeps;
 
 pub use explained::{Explained, explain};
 pub use holders::{Holder, Lags};
+pub use sleeps::HoldingSleep;

@@ -1,4 +1,4 @@
-//! An attempt to lead a run to a sample: lines of a trace that are passed to a manager as they are written.
+//! An attempt to lead a run to a sample: items of a run that are passed to a manager as they are added.
 //!
 //! The log fixes what a task did that hasn't run since the last sample: it slept where it was, so only a poll can have
 //! switched it. A task that ran may have done anything. It stays awake, so no poll switches it. It leaves the kernel
@@ -8,18 +8,19 @@ ghost use Rattle.klp_core.specs.Journaled.{IsWellFormed};
 
 use crate::fits::fits;
 use crate::followed::Sighting;
+use crate::items::{Items, object_id, patch_id, task_id};
 use crate::moves::{Move, moving_of};
 use crate::run::Run;
 use crate::step::{NamedTask, Step};
-use crate::task_lines::TaskLines;
 use crate::threads::OTHERS;
-use klp_capture::{PatchedState, Text};
-use klp_capture_catalog::{Files, PatchLines, SeenVersion};
+use klp_capture::PatchedState;
+use klp_capture_catalog::{Files, SeenVersion};
 use klp_core::Manager;
-use klp_types::{MAX_TASKS, Mode, TaskId};
+use klp_model::Event;
+use klp_types::{MAX_TASKS, Mode};
 use std::alloc::{AllocError, Global};
 
-/// What the lines so far have done with a task.
+/// What the items so far have done with a task.
 #[derive(Clone, Copy)]
 pub(crate) struct Pose {
     /// `None` if the task hasn't begun, or has ended.
@@ -28,20 +29,19 @@ pub(crate) struct Pose {
     pub(crate) kept: usize,
 }
 
-/// Lines that lead to a sample, as far as they are written.
+/// Items that lead to a sample, as far as they are added.
 #[derive(Drop)]
 pub(crate) struct Attempt<'r, 'a> {
     run: &'r Run<'a>,
     step: &'r Step<'a>,
     /// What the patches' files read in the sample.
     after: &'r [Files],
-    /// For each task number, what the lines have done with the task.
+    /// For each task number, what the items have done with the task.
     pub(crate) poses: Vec<Pose>,
-    /// All lines.
-    pub(crate) text: String,
-    /// The lines that weren't passed to the manager yet. They are lines of `text`, too.
-    unpassed: String,
-    /// Whether the manager accepted all lines that were passed to it.
+    pub(crate) items: Items,
+    /// How many of the items were passed to the manager.
+    passed: usize,
+    /// Whether the manager accepted all items that were passed to it.
     pub(crate) fits: bool,
 }
 
@@ -64,10 +64,7 @@ fn number_of(state: PatchedState) -> i8 {
 
 /// Whether the manager has a task of this number in this patch state.
 fn is_in(manager: &Manager, number: usize, state: PatchedState) -> bool {
-    match u8::try_from(number) {
-        Ok(number) => manager.patch_state(TaskId(number)) == Some(number_of(state)),
-        Err(_) => false,
-    }
+    manager.patch_state(task_id(number)) == Some(number_of(state))
 }
 
 /// Returns how many places the two lists have in common at their beginning.
@@ -96,43 +93,27 @@ impl<'r, 'a> Attempt<'r, 'a> {
             step,
             after,
             poses,
-            text: String::new(alloc),
-            unpassed: String::new(alloc),
+            items: Items::new(alloc),
+            passed: 0,
             fits: true,
         })
     }
 
-    /// Passes the new lines to the manager. Notes it if the manager doesn't accept one.
-    fn pass(&mut self, alloc: Global, manager: &mut Manager) -> Result<(), AllocError>
+    /// Passes the new items to the manager. Notes it if the manager doesn't accept one.
+    fn pass(&mut self, manager: &mut Manager)
         requires { IsWellFormed manager.old }
     {
-        self.fits = self.fits && fits(alloc, manager, &self.unpassed);
-        self.text.push_str(&self.unpassed)?;
-        self.unpassed.clear();
-        Ok(())
+        self.fits = self.fits
+            && self.items.are_known
+            && match self.items.list.get(self.passed..) {
+                Some(unpassed) => fits(manager, unpassed),
+                None => false,
+            };
+        self.passed = self.items.list.len();
     }
 
-    fn task(&mut self, number: usize) -> TaskLines<'_, 'a> {
-        TaskLines {
-            functions: &self.run.functions,
-            number,
-            text: &mut self.unpassed,
-        }
-    }
-
-    fn patch(&mut self, patch: usize) -> PatchLines<'_> {
-        let name = match self.run.functions.patches.get(patch) {
-            Some(patch) => patch.name,
-            None => b"",
-        };
-        PatchLines {
-            name,
-            text: &mut self.unpassed,
-        }
-    }
-
-    fn poll(&mut self) -> Result<(), AllocError> {
-        self.unpassed.push_str("poll\n")
+    fn event(&mut self, event: Event) -> Result<(), AllocError> {
+        self.items.event(event)
     }
 
     fn pose(&self, number: usize) -> Pose {
@@ -173,45 +154,45 @@ impl<'r, 'a> Attempt<'r, 'a> {
         }
     }
 
-    /// Writes that a task wakes up, if it sleeps.
+    /// Adds that a task wakes up, if it sleeps.
     fn wake(&mut self, number: usize) -> Result<(), AllocError> {
         let pose = self.pose(number);
         if pose.mode == Some(Mode::Asleep) {
-            self.task(number).event("wake")?;
+            self.event(Event::Wake(task_id(number)))?;
             self.set_pose(number, Some(Mode::Kernel), pose.kept);
         }
         Ok(())
     }
 
-    /// Writes that a task returns to a function that it was inside of, or from all functions.
+    /// Adds that a task returns to a function that it was inside of, or from all functions.
     fn return_to(&mut self, number: usize, kept: usize) -> Result<(), AllocError> {
         let pose = self.pose(number);
-        self.task(number)
-            .return_from(pose.kept.saturating_sub(kept))?;
+        let count = pose.kept.saturating_sub(kept);
+        self.items.return_from(task_id(number), count)?;
         self.set_pose(number, pose.mode, pose.kept.min(kept));
         Ok(())
     }
 
-    /// Writes that a task is in the kernel and awake.
+    /// Adds that a task is in the kernel and awake.
     fn enter(&mut self, number: usize) -> Result<(), AllocError> {
         self.wake(number)?;
         let pose = self.pose(number);
         if pose.mode == Some(Mode::User) {
-            self.task(number).event("enter")?;
+            self.event(Event::EnterKernel(task_id(number)))?;
             self.set_pose(number, Some(Mode::Kernel), pose.kept);
         }
         Ok(())
     }
 
-    /// Writes that a task leaves the kernel, so that it is switched, and comes back.
+    /// Adds that a task leaves the kernel, so that it is switched, and comes back.
     fn switch(&mut self, number: usize) -> Result<(), AllocError> {
         self.enter(number)?;
         self.return_to(number, 0)?;
-        self.task(number).event("exit")?;
-        self.task(number).event("enter")
+        self.event(Event::ExitToUser(task_id(number)))?;
+        self.event(Event::EnterKernel(task_id(number)))
     }
 
-    /// Writes that a task begins outside of all functions. During a transition it begins at the target, or as a copy of
+    /// Adds that a task begins outside of all functions. During a transition it begins at the target, or as a copy of
     /// the task of the others, which lags.
     fn begin(&mut self, manager: &Manager, number: usize) -> Result<(), AllocError> {
         let wanted = self.wanted(number);
@@ -219,32 +200,31 @@ impl<'r, 'a> Attempt<'r, 'a> {
             .moving()
             .is_some_and(|moving| state_at(moving.target) != wanted);
         if lags && self.is_alive(OTHERS) {
-            self.task(number).fork(OTHERS)?;
+            self.event(Event::Fork(task_id(OTHERS), task_id(number)))?;
             self.set_pose(number, Some(Mode::Kernel), 0);
         } else {
-            self.task(number).event("new")?;
+            self.event(Event::NewTask(task_id(number)))?;
             self.set_pose(number, Some(Mode::User), 0);
         }
         Ok(())
     }
 
-    /// Writes that a task returns from all functions, and ends.
+    /// Adds that a task returns from all functions, and ends.
     fn end(&mut self, number: usize) -> Result<(), AllocError> {
         if self.is_alive(number) {
             self.enter(number)?;
             self.return_to(number, 0)?;
-            self.task(number).event("end")?;
+            self.event(Event::EndTask(task_id(number)))?;
             self.set_pose(number, None, 0);
         }
         Ok(())
     }
 
-    /// Writes which modules came or went, and which tasks have ended. Before the first sample, writes which patches
+    /// Adds which modules came or went, and which tasks have ended. Before the first sample, writes which patches
     /// were enabled already, and that the tasks begin that aren't followed. Tasks that are first seen in this sample
     /// begin here if no patch is in transition, and else when they are seen.
     pub(crate) fn prepare(
         &mut self,
-        alloc: Global,
         manager: &mut Manager,
         comings: &[usize],
         goings: &[usize],
@@ -252,12 +232,13 @@ impl<'r, 'a> Attempt<'r, 'a> {
         requires { IsWellFormed manager.old }
     {
         for object in comings {
-            self.module("insmod", *object)?;
+            self.event(Event::Coming(object_id(*object)))?;
         }
         if self.run.last.is_none() {
             for patch in 0..self.run.files.len() {
                 if self.run.files.get(patch).copied().unwrap_or(None).is_some() {
-                    self.patch(patch).stand()?;
+                    self.event(Event::Enable(patch_id(patch)))?;
+                    self.event(Event::Poll)?;
                 }
             }
             self.begin(manager, OTHERS)?;
@@ -279,12 +260,13 @@ impl<'r, 'a> Attempt<'r, 'a> {
             }
         }
         for object in goings {
-            self.module("rmmod", *object)?;
+            self.event(Event::Going(object_id(*object)))?;
         }
-        self.pass(alloc, manager)
+        self.pass(manager);
+        Ok(())
     }
 
-    /// Writes that tasks end which are gone, and that tasks wake up which aren't followed any longer, so that they may do
+    /// Adds that tasks end which are gone, and that tasks wake up which aren't followed any longer, so that they may do
     /// anything. A task that the sample names was gone or left after it was read, so it is released with the next sample.
     fn release(&mut self) -> Result<(), AllocError> {
         let (run, step) = (self.run, self.step);
@@ -301,18 +283,9 @@ impl<'r, 'a> Attempt<'r, 'a> {
         Ok(())
     }
 
-    fn module(&mut self, word: &str, object: usize) -> Result<(), AllocError> {
-        let name = match self.run.functions.objects.get(object) {
-            Some(name) => Text(name),
-            None => Text(b""),
-        };
-        writeln!(self.unpassed, "{word} {name}")
-    }
-
-    /// Writes one event that changes patches, and what tasks do for it. `rest` are the events after it.
+    /// Adds one event that changes patches, and what tasks do for it. `rest` are the events after it.
     pub(crate) fn go(
         &mut self,
-        alloc: Global,
         manager: &mut Manager,
         event: Move,
         rest: &[Move],
@@ -320,19 +293,19 @@ impl<'r, 'a> Attempt<'r, 'a> {
         requires { IsWellFormed manager.old }
     {
         match event {
-            Move::Load(patch) => self.patch(patch).load()?,
-            Move::Disable(patch) => self.patch(patch).echo(false)?,
+            Move::Load(patch) => self.event(Event::Enable(patch_id(patch)))?,
+            Move::Disable(patch) => self.event(Event::SetEnabled(patch_id(patch), false))?,
             Move::Reverse => self.reverse(manager, rest)?,
             Move::Complete => self.complete(manager)?,
         }
-        self.pass(alloc, manager)?;
+        self.pass(manager);
         if event == Move::Complete {
             self.fits = self.fits && manager.moving().is_none();
         }
         Ok(())
     }
 
-    /// Writes that the transition is reversed. A task that is at the target after that, and wasn't before, was switched
+    /// Adds that the transition is reversed. A task that is at the target after that, and wasn't before, was switched
     /// before. The others are switched before, so that they lag again.
     fn reverse(&mut self, manager: &Manager, rest: &[Move]) -> Result<(), AllocError> {
         let Some(moving) = manager.moving() else {
@@ -354,16 +327,16 @@ impl<'r, 'a> Attempt<'r, 'a> {
                 }
             }
             if needs_poll {
-                self.poll()?;
+                self.event(Event::Poll)?;
             }
             if self.is_alive(OTHERS) && !is_in(manager, OTHERS, target) {
                 self.switch(OTHERS)?;
             }
         }
-        self.patch(usize::from(moving.patch.0)).echo(!moving.target)
+        self.event(Event::SetEnabled(moving.patch, !moving.target))
     }
 
-    /// Writes that all tasks that ran are switched, and a poll for those that slept.
+    /// Adds that all tasks that ran are switched, and a poll for those that slept.
     fn complete(&mut self, manager: &Manager) -> Result<(), AllocError> {
         let Some(moving) = manager.moving() else {
             return Ok(());
@@ -376,12 +349,12 @@ impl<'r, 'a> Attempt<'r, 'a> {
                 self.switch(number)?;
             }
         }
-        self.poll()
+        self.event(Event::Poll)
     }
 }
 
 impl<'r, 'a> Attempt<'r, 'a> {
-    /// Writes how a task that may have run came to be as it was seen.
+    /// Adds how a task that may have run came to be as it was seen.
     fn go_on(
         &mut self,
         manager: &Manager,
@@ -414,24 +387,27 @@ impl<'r, 'a> Attempt<'r, 'a> {
         let same = common(before, &seen.places);
         self.wake(number)?;
         self.return_to(number, same)?;
-        self.task(number)
-            .call_all(seen.places.get(same..).unwrap_or(&[]))?;
+        let called = seen.places.get(same..).unwrap_or(&[]);
+        self.items
+            .call_all(&run.functions, task_id(number), called)?;
         if seen.is_asleep() {
-            self.task(number).sleep(&seen.places)?;
+            self.items
+                .sleep(&run.functions, task_id(number), &seen.places)?;
             self.set_pose(number, Some(Mode::Asleep), same);
         }
         Ok(())
     }
 
-    /// Writes how a named task came to be as it was seen, and what its `patch_state` read.
+    /// Adds how a named task came to be as it was seen, and what its `patch_state` read.
     fn see(&mut self, manager: &Manager, named: &NamedTask<'a>) -> Result<(), AllocError> {
         if !self.is_fixed(named.number) {
             self.go_on(manager, named.number, &named.seen)?;
         }
-        self.task(named.number).saw(named.seen.state)
+        self.items
+            .saw_state(task_id(named.number), named.seen.state)
     }
 
-    /// Writes what the `patch_state` of a task reads that wasn't named. If the task is awake, it may have been
+    /// Adds what the `patch_state` of a task reads that wasn't named. If the task is awake, it may have been
     /// switched.
     fn see_unnamed(&mut self, manager: &Manager, number: usize) -> Result<(), AllocError> {
         let wanted = self.wanted(number);
@@ -441,10 +417,10 @@ impl<'r, 'a> Attempt<'r, 'a> {
         if !self.is_fixed(number) && is_target && !is_in(manager, number, wanted) {
             self.switch(number)?;
         }
-        self.task(number).saw(wanted)
+        self.items.saw_state(task_id(number), wanted)
     }
 
-    /// Writes what the sample doesn't list: tasks that are unchanged, or were named by a sample that was left out.
+    /// Adds what the sample doesn't list: tasks that are unchanged, or were named by a sample that was left out.
     /// `are_asleep` says of which: of those that slept all the time and have the state now that they are to have, or of
     /// the others.
     fn see_unlisted(&mut self, manager: &Manager, are_ready: bool) -> Result<(), AllocError> {
@@ -502,35 +478,36 @@ impl<'r, 'a> Attempt<'r, 'a> {
         count
     }
 
-    /// Writes what the sample shows: the tasks, with a poll among them if one that slept must have been switched, and
+    /// Adds what the sample shows of these tasks, but of those that it doesn't list.
+    fn see_listed(&mut self, manager: &Manager, named: &[NamedTask<'a>]) -> Result<(), AllocError> {
+        for task in named {
+            if task.is_listed {
+                self.see(manager, task)?;
+            }
+        }
+        Ok(())
+    }
+
+    /// Adds what the sample shows: the tasks, with a poll among them if one that slept must have been switched, and
     /// the patches' files. The poll comes as early as it can, since a task that is seen asleep after it isn't switched.
-    pub(crate) fn see_all(&mut self, alloc: Global, manager: &mut Manager) -> Result<(), AllocError>
+    pub(crate) fn see_all(&mut self, manager: &mut Manager) -> Result<(), AllocError>
         requires { IsWellFormed manager.old }
     {
         let has_poll = (0..self.run.tasks.len()).any(|number| self.needs_poll(manager, number));
-        let before = self.before_poll(manager);
-        self.see_unlisted(manager, true)?;
         let (step, after) = (self.step, self.after);
-        for (place, named) in step.named.iter().enumerate() {
-            if place == before && has_poll {
-                self.poll()?;
-            }
-            if place == before {
-                self.see_unlisted(manager, false)?;
-            }
-            if named.is_listed {
-                self.see(manager, named)?;
-            }
+        let before = self.before_poll(manager).min(step.named.len());
+        let (before_poll, behind_poll) = step.named.split_at(before);
+        self.see_unlisted(manager, true)?;
+        self.see_listed(manager, before_poll)?;
+        if has_poll {
+            self.event(Event::Poll)?;
         }
-        if before >= step.named.len() {
-            if has_poll {
-                self.poll()?;
-            }
-            self.see_unlisted(manager, false)?;
-        }
+        self.see_unlisted(manager, false)?;
+        self.see_listed(manager, behind_poll)?;
         for (patch, files) in after.iter().enumerate() {
-            self.patch(patch).saw(*files)?;
+            self.items.saw_files(patch_id(patch), *files)?;
         }
-        self.pass(alloc, manager)
+        self.pass(manager);
+        Ok(())
     }
 }

@@ -2,7 +2,7 @@
 use klp_capture::{Activity, BootTime, PatchedState};
 use klp_capture_catalog::SeenVersion;
 use klp_core::Lag;
-use klp_types::{Mode, Version};
+use klp_types::Mode;
 
 /// A task of the run.
 #[derive(Drop)]
@@ -36,8 +36,6 @@ pub struct Followed<'a> {
     /// Why the task wasn't at the target in the last sample that showed a transition. `None` if the task was at the
     /// target.
     pub lag: Option<Lag>,
-    /// The sleeps in which the task held a transition up, in order of time.
-    pub sleeps: Vec<HoldingSleep>,
     /// The function of a patch's module that the task was last seen asleep in, if the log doesn't show which of the
     /// patch's functions it is. `None` otherwise.
     pub(crate) unplaced: Option<&'a [u8]>,
@@ -56,19 +54,6 @@ pub struct UnplacedSleep<'a> {
     pub to: BootTime,
     /// The function's name.
     pub function: &'a [u8],
-}
-
-/// A time in which a task held a transition up, in one function and without running.
-#[derive(Clone, Copy)]
-pub struct HoldingSleep {
-    /// The index of the transition.
-    pub transition: usize,
-    /// When the first sample that shows the sleep was taken.
-    pub from: BootTime,
-    /// When the last sample that shows the sleep was taken.
-    pub to: BootTime,
-    /// The function that the task slept in.
-    pub version: Version,
 }
 
 /// What a sample shows of a task that it names.

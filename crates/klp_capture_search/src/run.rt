@@ -1,13 +1,15 @@
 //! Looks for a run of the rules that shows what a log shows, sample by sample.
 //!
 //! A log says in which states the kernel was, but not what happened. For each two successive samples, this module looks
-//! for events that the rules allow and that lead from one sample to the other. It tries lines of a trace on a manager,
-//! and compares what the manager then shows with the log. If the log shows something else, it undoes the lines.
+//! for events that the rules allow and that lead from one sample to the other. It tries items on a manager, and
+//! compares what the manager then shows with the log. If the log shows something else, it undoes them.
 //! `explain` checks the trace that the search finds.
 ghost use Rattle.klp_core.specs.Journaled.{IsWellFormed};
 
 use crate::attempt::{Attempt, Pose};
 use crate::followed::Followed;
+use crate::item_line::ItemLines;
+use crate::items::Items;
 use crate::moves::{Move, PatchFiles, detours, straight_way};
 use crate::step::Step;
 use crate::threads::{FollowedThreads, OTHERS, ThreadKey, followed_in};
@@ -15,6 +17,7 @@ use klp_capture::{BootTime, Capture, PatchRow, Sample, Thread};
 use klp_capture_catalog::{Files, Functions, SeenTransition, TransitionEnd, since_when};
 use klp_core::Manager;
 use klp_types::{MAX_GROUPS, Mode};
+use klp_watch::Observed;
 use std::alloc::{AllocError, Global};
 
 /// How many events the journal may have before a sample. If it has more, the journal is sealed first, so that there is
@@ -33,25 +36,38 @@ pub(crate) struct Reach<'a> {
     pub(crate) goings: Vec<usize>,
 }
 
-/// Lines that were tried.
+/// Items that were tried.
 #[derive(Drop)]
 struct Found {
-    text: String,
+    items: Vec<Observed>,
     poses: Vec<Pose>,
-    /// Whether the lines lead to the sample.
+    /// Whether the items lead to the sample.
     fits: bool,
 }
 
 impl Found {
     fn of(attempt: Attempt<'_, '_>) -> Found {
         let Attempt {
-            text,
+            items: Items { list, .. },
             poses,
             fits,
             ..
         } = attempt;
-        Found { text, poses, fits }
+        Found {
+            items: list,
+            poses,
+            fits,
+        }
     }
+}
+
+/// A sample that the run shows.
+#[derive(Clone, Copy)]
+pub struct ShownSample {
+    /// The last line of the trace that is about the sample. Lines are counted from 1.
+    pub last_line: u64,
+    /// When the sample was begun.
+    pub at: BootTime,
 }
 
 /// The run as far as it was found.
@@ -71,6 +87,11 @@ pub struct Run<'a> {
     pub(crate) loaded: Vec<bool>,
     /// The trace so far.
     pub trace: String,
+    /// For each line of the trace, the index of its sample among those that the run shows. Lines that were tried for a
+    /// sample to which nothing leads have the number of these samples.
+    pub samples_of_lines: Vec<usize>,
+    /// The samples that the run shows, in order of time.
+    pub shown_samples: Vec<ShownSample>,
     /// How many of the threads that the log follows have no number in the trace.
     pub left_out: u64,
     /// How many samples were left out because a patch changed while they were taken.
@@ -107,12 +128,23 @@ impl<'a> Run<'a> {
             files,
             loaded,
             trace: String::new(alloc),
+            samples_of_lines: Vec::new(alloc),
+            shown_samples: Vec::new(alloc),
             left_out,
             torn: 0,
             shown: 0,
             transitions: Vec::new(alloc),
             last: None,
         })
+    }
+
+    /// Returns how many lines of the trace stand before the second sample. They were made up, to lead to what the first
+    /// sample shows.
+    pub fn set_up(&self) -> u64 {
+        match self.shown_samples.first() {
+            Some(first) => first.last_line,
+            None => 0,
+        }
     }
 
     /// Returns the threads that have a number in the trace.
@@ -160,7 +192,7 @@ impl<'a> Run<'a> {
         Ok(before)
     }
 
-    /// Tries to lead the run to a sample by these events. Returns the lines that were tried, and what they did.
+    /// Tries to lead the run to a sample by these events. Returns the items that were tried, and what they did.
     fn attempt<'r>(
         &'r self,
         alloc: Global,
@@ -171,22 +203,22 @@ impl<'a> Run<'a> {
         requires { IsWellFormed manager.old }
     {
         let mut attempt = Attempt::new(alloc, self, &reach.step, &reach.after)?;
-        attempt.prepare(alloc, manager, &reach.comings, &reach.goings)?;
+        attempt.prepare(manager, &reach.comings, &reach.goings)?;
         for (number, event) in way.iter().enumerate() {
             // For the proof only: the contract of mark says that the manager is well-formed.
             let _for_its_clause = manager.mark();
             if attempt.fits {
                 let rest = way.get(number.saturating_add(1)..).unwrap_or(&[]);
-                attempt.go(alloc, manager, *event, rest)?;
+                attempt.go(manager, *event, rest)?;
             }
         }
         // For the proof only: the contract of mark says that the manager is well-formed.
         let _for_its_clause = manager.mark();
-        attempt.see_all(alloc, manager)?;
+        attempt.see_all(manager)?;
         Ok(attempt)
     }
 
-    /// Tries the straight way to a sample, and then detours. Returns the lines that lead there, or the lines that were
+    /// Tries the straight way to a sample, and then detours. Returns the items that lead there, or those that were
     /// tried first.
     fn found(
         &self,
@@ -220,9 +252,9 @@ impl<'a> Run<'a> {
         Ok(first)
     }
 
-    /// Looks for lines that lead to a sample, passes their events to the manager, and adds them to the trace. Returns
-    /// false if there are no such lines. In this case, if the log is whole, the lines that were tried first are added
-    /// to the trace. A log that was cut off may lack the line of a force, so lines tried for it aren't judged and
+    /// Looks for items that lead to a sample, passes their events to the manager, and adds them to the trace. Returns
+    /// false if there are no such items. In this case, if the log is whole, the items that were tried first are added
+    /// to the trace. A log that was cut off may lack the line of a force, so items tried for it aren't judged and
     /// aren't added.
     fn advance(
         &mut self,
@@ -254,18 +286,28 @@ impl<'a> Run<'a> {
         let _for_its_clause = manager.mark();
         let found = self.found(alloc, manager, &reach)?;
         if found.fits || capture.is_whole {
-            self.add_lines(&found.text, reach.step.at)?;
+            self.add_lines(&found.items, reach.step.at)?;
         }
         if found.fits {
+            self.shown_samples.push(ShownSample {
+                last_line: self.samples_of_lines.len() as u64,
+                at: reach.step.at,
+            })?;
             self.settle(reach, &found.poses);
         }
         Ok(found.fits)
     }
 
-    /// Adds lines to the trace, each with the sample's time.
-    fn add_lines(&mut self, text: &str, at: BootTime) -> Result<(), AllocError> {
-        for line in text.lines() {
-            writeln!(self.trace, "@{at} {line}")?;
+    /// Adds items to the trace, a line for each, with the sample's time.
+    fn add_lines(&mut self, items: &[Observed], at: BootTime) -> Result<(), AllocError> {
+        for item in items {
+            write!(self.trace, "@{at} ")?;
+            let mut lines = ItemLines {
+                functions: &self.functions,
+                text: &mut self.trace,
+            };
+            lines.write(item)?;
+            self.samples_of_lines.push(self.shown_samples.len())?;
         }
         Ok(())
     }

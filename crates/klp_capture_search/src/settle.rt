@@ -1,6 +1,6 @@
 //! Notes the state that a run has reached with a sample.
 use crate::attempt::Pose;
-use crate::followed::{Followed, HoldingSleep, UnplacedSleep};
+use crate::followed::{Followed, UnplacedSleep};
 use crate::run::{Reach, Run};
 use crate::step::{NamedTask, Step};
 use crate::threads::OTHERS;
@@ -10,37 +10,17 @@ use klp_core::Lag;
 use std::alloc::AllocError;
 
 impl<'a> Followed<'a> {
-    /// If the task lags in a sample of a transition, notes why. A sleep continues through successive samples as long as
-    /// the task holds the transition up in the same function and doesn't run.
+    /// Notes why the task lags in a sample of a transition, if it does.
     pub(crate) fn note_lag(
         &mut self,
         lag: Option<Lag>,
         transition: usize,
         at: BootTime,
     ) -> Result<(), AllocError> {
-        let is_same = self.lag == lag;
         self.lag = lag;
         if lag.is_some() {
             self.note_unplaced(transition, at)?;
         }
-        let Some(Lag::Holds(version)) = lag else {
-            return Ok(());
-        };
-        let since = self.since;
-        if let Some(sleep) = self.sleeps.last_mut()
-            && is_same
-            && sleep.transition == transition
-            && since <= sleep.to
-        {
-            sleep.to = at;
-            return Ok(());
-        }
-        self.sleeps.push(HoldingSleep {
-            transition,
-            from: at,
-            to: at,
-            version,
-        })?;
         Ok(())
     }
 
@@ -89,7 +69,7 @@ impl<'a> Followed<'a> {
 }
 
 impl<'a> Run<'a> {
-    /// Notes that the run has reached this sample, after lines that left the tasks in these poses.
+    /// Notes that the run has reached this sample, after items that left the tasks in these poses.
     pub(crate) fn settle(&mut self, reach: Reach<'a>, poses: &[Pose]) {
         let Reach {
             step,

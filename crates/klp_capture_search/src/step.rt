@@ -129,7 +129,6 @@ impl<'a> Run<'a> {
             has_ended: false,
             is_left: false,
             lag: None,
-            sleeps: Vec::new(alloc),
             unplaced: None,
             unplaced_sleeps: Vec::new(alloc),
         })?;

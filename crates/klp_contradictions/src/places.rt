@@ -103,14 +103,18 @@ fn asleep_in_original<'a>(
 }
 
 impl<'c, 'a> Patches<'c, 'a> {
-    fn name_of(&self, patch: usize) -> &'a [u8] {
-        match self.functions.patches.get(patch) {
+    /// Returns the name of a function's patch, which is empty for a function that no patch changes.
+    fn name_of(&self, patch: Option<usize>) -> &'a [u8] {
+        let Some(number) = patch else {
+            return b"";
+        };
+        match self.functions.patches.get(number) {
             Some(patch) => patch.name,
             None => b"",
         }
     }
 
-    fn files_of(&self, patch: usize) -> Files {
+    fn files_of(&self, patch: Option<usize>) -> Files {
         files_in(self.rows, self.name_of(patch))
     }
 

@@ -1,5 +1,5 @@
 //! The two files of a program, and the messages to standard error about their lines.
-ghost use Rattle.std.specs.Prelude.{◌≡◌, IfErr};
+ghost use Rattle.std.specs.Prelude.{◌≡◌};
 
 use crate::calls::Calls;
 use crate::dishonest::act_of;
@@ -14,12 +14,12 @@ use klp_faulty_words::catalog_fault::{begins_as_catalog, begins_as_utf16};
 use klp_faulty_words::item::Item;
 use klp_faulty_words::names::CatalogNames;
 use klp_faulty_words::same_site::first_pair;
-use klp_faulty_words::stray::{FileKind, STRAYS, Stray};
+use klp_faulty_words::stray::{FileKind, STRAYS, Stray, begins_as_log};
 use klp_faulty_words::unpicked::first_unloadable;
 use klp_faulty_words::wrong::Wrong;
 use klp_faulty_words::{catalog_fault, image, item};
 use klp_messages::{Escaped, Quoted, line_at};
-use klp_program::{Counts, Verdict, bytes_in};
+use klp_program::{Counts, Verdict};
 use klp_trace::{LineParts, TraceFault, TraceFaultKind};
 use klp_types::MAX_CONSOLE_LINE;
 use klp_watch::{Cause, Differs, NotHonest};
@@ -27,10 +27,9 @@ use klp_words::microseconds;
 use std::alloc::Global;
 use std::io;
 use std::io::Write;
-use std::rt::Files;
 
 /// The exit status of a fault.
-const FAULT: u8 = 1;
+pub(crate) const FAULT: u8 = 1;
 
 /// What is wanted in a line in which a task falls asleep.
 const SLEEP: &str = "is each function that the task is inside of";
@@ -50,26 +49,6 @@ pub struct Inputs<'a> {
     pub catalog: FileText<'a>,
     pub second: FileText<'a>,
     pub kind: FileKind,
-}
-
-/// Returns the bytes of a file that a program was given. If the file can't be read, or if memory runs out, writes so to
-/// `err` as a line of the program, and returns the exit status, 1, as `Err`.
-pub fn file_in<R: Files + AllocGlobal, E: Write>(
-    rt: &R,
-    program: &str,
-    name: &str,
-    err: &mut E,
-) -> Result<Vec<u8>, u8>
-    ensures { IfErr result (λ status. status ≡ 1) }
-{
-    match bytes_in(rt, name) {
-        Ok(bytes) => Ok(bytes),
-        Err(fault) => {
-            let name = Escaped(name.as_bytes());
-            let _ = writeln!(err, "{program}: {name}: {fault}");
-            Err(FAULT)
-        }
-    }
 }
 
 /// Returns what is wrong with a line of a trace that has no item. `plan` and `catalog` are the plan and the text of the
@@ -344,6 +323,8 @@ impl<'a> Inputs<'a> {
     ) -> io::Result<()> {
         let wrong = if self.are_swapped() {
             Wrong::Swapped(self.second.name)
+        } else if begins_as_log(self.catalog.bytes) {
+            Wrong::Log
         } else {
             catalog_fault::wrong_of(alloc, self.catalog.bytes, fault)
         };

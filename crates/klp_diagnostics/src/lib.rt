@@ -11,6 +11,8 @@
 //! numbers of tasks (`differing.rt`, `rules.rt`, `named.rt`). A program writes them as sentences (`sentences.rt`), in
 //! which tasks have the program's own names ([`TaskNames`]).
 //!
+//! [`file_in`] reads a file or standard input (`reading.rt`), and [`hint_typed`] helps at a terminal (`typed.rt`).
+//!
 //! The messages are for people, and have no contract. No bytes of a file can control a terminal through a message. Each
 //! call works with any files.
 #![tactic(auto)]
@@ -21,15 +23,18 @@ mod dishonest;
 mod inputs;
 mod lack;
 mod named;
+mod reading;
 mod replay;
 mod rules;
 mod sentences;
 mod tasks;
+mod typed;
 
 pub use differing::Sides;
-pub use inputs::{FileText, Inputs, file_in};
+pub use inputs::{FileText, Inputs};
 pub use klp_faulty_words::stray::FileKind;
 pub use named::{NamedSight, NamedVersion, SpelledVersion};
+pub use reading::{STANDARD_INPUT, file_in, only_one_input};
 pub use replay::sides_in;
 pub use rules::{
     AnswerReason, LagReason, LaggingTask, LaggingTasks, NoCallReason, RulesHave, StateReason,
@@ -37,3 +42,4 @@ pub use rules::{
 };
 pub use sentences::InWords;
 pub use tasks::{TaskNames, TaskNumbers};
+pub use typed::hint_typed;

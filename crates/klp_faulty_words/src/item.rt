@@ -57,7 +57,11 @@ static KINDS: [(&str, WordKind); 10] = [
 /// What is wanted in place of a line that has none of these forms. It is also wanted in place of a console line that
 /// asks for no event.
 const ITEM: &str =
-    "is call TASK SYMBOL, return TASK, or a line of the console that asks for an event";
+    "is call, return, saw, ran, hooked, plain, or a line of the console that asks for an event";
+
+/// What is wanted in place of a line that begins with `saw` and says neither what a task's file read nor what those of a
+/// patch did.
+const SAW: &str = "is saw TASK STATE, saw PATCH ENABLED TRANSITION, or saw PATCH gone";
 
 /// What is wanted in place of a line with an answer whose item isn't an event.
 const ANSWERED: &str = "is a line without =>, behind which an event's answer stands";
@@ -71,6 +75,12 @@ const TIME: &str = "is seconds, with 6 decimals at most, and an item behind a sp
 
 /// What is wanted in place of a script's line that has none of the console's forms.
 const LINE: &str = "is a line of the console";
+
+/// What is wanted in place of a typed line that has none of the console's forms.
+const TYPED: &str = "is a line of the console: help lists them";
+
+/// What is wanted in place of a typed line with a tab, which the console takes for a part of a word.
+const TABS: &str = "is a space in place of each tab";
 
 /// What a line of a trace says about a task, or about a module that is unloaded. Other lines have no item of this type.
 #[derive(Clone, Copy)]
@@ -205,6 +215,19 @@ fn wrong_without_form<'a>(line: &'a [u8], wanted: &'static str) -> Wrong<'a> {
     }
 }
 
+/// Whether a line begins with `saw`, and neither names a task by its number nor has as many words as are needed to say
+/// what the files of a patch read.
+fn is_no_sight(line: &[u8]) -> bool {
+    let (first, second, third, fourth) = (
+        word(line, 1),
+        word(line, 2),
+        word(line, 3),
+        word(line, 4),
+    );
+    let is_short = third.is_empty() || (third != b"gone".as_slice() && fourth.is_empty());
+    first == b"saw".as_slice() && number64(second).is_none() && is_short
+}
+
 /// Returns the form that a line should have, by the words with which it begins. If the first word is `saw`, the third
 /// and fourth words decide. Returns `None` if no form begins so.
 fn form_of(line: &[u8]) -> Option<&'static str> {
@@ -244,6 +267,9 @@ pub fn wrong_of<'a>(line: &'a [u8], names: &CatalogNames<'_>, catalog: &'a [u8])
     {
         return Wrong::Word(time, TIME);
     }
+    if parts.answer.is_none() && is_no_sight(parts.item) {
+        return Wrong::Word(parts.item, SAW);
+    }
     match form_of(parts.item) {
         Some(form) => {
             wrong_in(form, parts.item, names, catalog).unwrap_or_else(|| wrong_answer(parts, form))
@@ -254,6 +280,26 @@ pub fn wrong_of<'a>(line: &'a [u8], names: &CatalogNames<'_>, catalog: &'a [u8])
             ),
             _ => wrong_without_form(parts.item, ITEM),
         },
+    }
+}
+
+/// Returns what may be misspelled in a line that was typed for the console, as [`misspelled_in`] does, also for a line
+/// with a tab or a carriage return, or one that begins as a comment or as a line of a trace does.
+pub fn mistyped_in<'a>(
+    line: &'a [u8],
+    names: &CatalogNames<'_>,
+    catalog: &'a [u8],
+) -> Option<Wrong<'a>> {
+    if line.contains(&b'\t') {
+        return Some(Wrong::Word(line, TABS));
+    }
+    let first = word(line, 1);
+    if first.is_empty() || first == b"shadow".as_slice() || is_query(line) {
+        return None;
+    }
+    match form_of(line) {
+        Some(form) if !is_of_no_event(line) => wrong_in(form, line, names, catalog),
+        _ => Some(wrong_without_form(line, TYPED)),
     }
 }
 

@@ -22,6 +22,8 @@ pub enum Stray {
     Script,
     /// The whole file is a trace, since it has a line that a script can't have.
     Trace,
+    /// The whole file is a log of klpcap, by its first word.
+    Log,
     /// The whole file is UTF-16.
     Utf16,
     /// A byte-order mark before the first line.
@@ -33,9 +35,10 @@ pub enum Stray {
 }
 
 /// All strays, in the order in which they are looked for. If the file is UTF-16, no other stray is reported.
-pub const STRAYS: [Stray; 8] = [
+pub const STRAYS: [Stray; 9] = [
     Stray::Utf16,
     Stray::Catalog,
+    Stray::Log,
     Stray::Script,
     Stray::Trace,
     Stray::ByteOrderMark,
@@ -56,6 +59,12 @@ pub(crate) fn is_query(line: &[u8]) -> bool {
         (b"shadow", second) => second == b"get".as_slice(),
         (first, _) => QUERIES.iter().any(|own| own.as_bytes() == first),
     }
+}
+
+/// Whether a text begins as a log of klpcap does.
+pub fn begins_as_log(text: &[u8]) -> bool {
+    let first = text.split(|b| *b == b'\n').next().unwrap_or(&[]);
+    first_words(first).0 == b"klpcap".as_slice()
 }
 
 /// Whether a line begins in a way in which only lines of a trace do: with a time, or with the first word of an item
@@ -81,13 +90,14 @@ pub(crate) fn is_reported_elsewhere(line: &[u8]) -> bool {
 }
 
 impl Stray {
-    /// Whether this stray is in `line`. For UTF-16, a catalog and a byte-order mark, `line` is the whole text, whose
+    /// Whether this stray is in `line`. For UTF-16, a catalog, a log and a byte-order mark, `line` is the whole text, whose
     /// beginning decides.
     fn is_in(self, line: &[u8]) -> bool {
         match self {
             Stray::Catalog => begins_as_catalog(line),
             Stray::Script => is_query(line),
             Stray::Trace => is_of_trace(line),
+            Stray::Log => begins_as_log(line),
             Stray::Utf16 => begins_as_utf16(line),
             Stray::ByteOrderMark => line.starts_with(&BYTE_ORDER_MARK),
             Stray::CarriageReturn => line.contains(&b'\r'),
@@ -101,7 +111,9 @@ impl Stray {
     pub fn first_line(self, text: &[u8]) -> Option<usize> {
         let mut lines = text.split(|b| *b == b'\n');
         let place = match self {
-            Stray::Utf16 | Stray::Catalog | Stray::ByteOrderMark => self.is_in(text).then_some(0),
+            Stray::Utf16 | Stray::Catalog | Stray::Log | Stray::ByteOrderMark => self
+                .is_in(text)
+                .then_some(0),
             _ => lines.position(|line| self.is_in(line)),
         };
         Some(place?.saturating_add(1))
@@ -113,13 +125,15 @@ impl Stray {
         Some(match (self, kind) {
             (Stray::Catalog, FileKind::Script) => "a catalog, where a script is wanted",
             (Stray::Catalog, FileKind::Trace) => "a catalog, where a trace is wanted",
+            (Stray::Log, _) => "a log of klpcap, which klpsee takes: klpsee LOG",
             (Stray::Script, FileKind::Trace) => {
                 "a line of a script, where a trace is wanted: klppage takes scripts"
             }
             (Stray::Trace, FileKind::Script) => {
                 "a line of a trace, where a script is wanted: klpwatch takes traces"
             }
-            (Stray::Script, FileKind::Script) | (Stray::Trace, FileKind::Trace) => return None,
+            (Stray::Script | Stray::Comment, FileKind::Script) | (Stray::Trace, FileKind::Trace) =>
+                return None,
             (Stray::Utf16, _) => "UTF-16, by its first two bytes: wanted is ASCII or UTF-8",
             (Stray::ByteOrderMark, _) => "a byte-order mark, which is part of the first word",
             (Stray::CarriageReturn, FileKind::Script) =>
@@ -128,7 +142,8 @@ impl Stray {
                 "a carriage return, which is dropped at the end of a line, and else is part of a word"
             }
             (Stray::Tab, _) => "a tab, which is part of a word: spaces separate words",
-            (Stray::Comment, _) => "a line that begins with #, and is no comment here",
+            (Stray::Comment, FileKind::Trace) =>
+                "a line that begins with #, and is no comment here",
         })
     }
 }

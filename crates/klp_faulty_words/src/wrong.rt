@@ -39,6 +39,8 @@ pub enum Wrong<'a> {
     /// The first object isn't the kernel, since it has this name.
     First(&'a str),
     SameSite(SitePair<'a>),
+    /// A log of klpcap is in the place of a catalog.
+    Log,
     /// The two files are swapped. The file with this name is the one that is wanted in this place.
     Swapped(&'a str),
 }
@@ -83,6 +85,9 @@ impl<'a> fmt::Display for Wrong<'a> {
             }
             Wrong::First(name) => write!(f, "the first object is {name}: wanted is vmlinux"),
             Wrong::SameSite(pair) => write!(f, "{pair}"),
+            Wrong::Log => f.write_str(
+                "wanted is a catalog, and this is a log of klpcap, which klpsee takes: klpsee LOG",
+            ),
             Wrong::Swapped(name) => write!(
                 f,
                 "wanted is a catalog, which {} is: are the two swapped?",

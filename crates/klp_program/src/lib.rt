@@ -20,4 +20,4 @@ pub use sample::CATALOG;
 pub use serve::{console, over_text};
 pub use verdict::{Counts, Verdict};
 pub use wanted::Wanted;
-pub use watch::{status_of, watch_over_text, watch_trace};
+pub use watch::{status_of, verdict_of, watch_over_text, watch_trace};

@@ -64,7 +64,7 @@ fn reported(differs: Differs) -> Verdict
 }
 
 /// Returns the verdict on `items`. `ended` is what [`compare_whole`] returned for them.
-fn verdict_of(ended: Result<RefusedEvents, Differs>, items: &[Observed]) -> Verdict
+pub fn verdict_of(ended: Result<RefusedEvents, Differs>, items: &[Observed]) -> Verdict
     ensures { MatchResult ended (λ refused. result ≡ Honest (counted items.now refused))
         (λ differs. result ≡ reported differs) }
 {

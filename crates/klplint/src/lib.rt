@@ -4,7 +4,7 @@
 #![tactic(auto)]
 
 use klp_arguments::{LintWords, Program, given_words, lint_words};
-use klp_diagnostics::{FileKind, FileText, Inputs, file_in};
+use klp_diagnostics::{FileKind, FileText, Inputs, file_in, only_one_input};
 use klp_lint_remarks::{Form, LintFault, LintInput, NamedText, lint_over_text, print_mark_fault};
 use std::alloc::Global;
 use std::env::FillError;
@@ -95,6 +95,7 @@ fn status_in(rt: &HostRuntime) -> Result<u8, u8> {
         script,
         is_json,
     } = lint_words(rt.alloc(), &given, &mut out, &mut err)?;
+    only_one_input(NAME, catalog, script.unwrap_or(""), &mut err)?;
     let first = file_in(rt, NAME, catalog, &mut err)?;
     let second = script_in(rt, script, &mut err)?;
     let inputs = Inputs {

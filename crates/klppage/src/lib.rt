@@ -5,11 +5,11 @@
 
 use klp_arguments::{PageWords, Program, given_words, page_words};
 use klp_boot::Fault;
-use klp_diagnostics::{FileKind, FileText, Inputs, file_in};
+use klp_diagnostics::{FileKind, FileText, Inputs, STANDARD_INPUT, file_in, only_one_input};
 use klp_names::{Misread, Names, NamesFault};
 use klp_page::write_page;
 use klp_trace_page::{timed_names, write_trace_page};
-use std::alloc::Global;
+use std::alloc::{AllocError, Global};
 use std::io;
 use std::io::{Input, Write};
 
@@ -19,12 +19,30 @@ const NAME: &str = "klppage";
 /// The exit status if a file is faulty or can't be read.
 const FAULT: u8 = 1;
 
-/// Returns the part of a path after its last slash.
+/// Returns the part of a path after its last slash. Standard input has a name in words.
 fn file_name(path: &str) -> &str {
+    if path == STANDARD_INPUT {
+        return "standard input";
+    }
     match path.rsplit_once('/') {
         Some((_, name)) => name,
         None => path,
     }
+}
+
+/// Returns a script in which each line that begins with `#` is empty, so that the console skips it, and all other lines
+/// keep their numbers. Returns `Err` if memory runs out.
+fn without_comments(alloc: Global, script: &[u8]) -> Result<Vec<u8>, AllocError> {
+    let mut served = Vec::new(alloc);
+    for (place, line) in script.split(|b| *b == b'\n').enumerate() {
+        if place > 0 {
+            served.push(b'\n')?;
+        }
+        if line.first() != Some(&b'#') {
+            served.extend_from_slice(line)?;
+        }
+    }
+    Ok(served)
 }
 
 /// Writes the page of the second file, a script or a trace, to `out`. The page's title is the name of that file.
@@ -37,7 +55,10 @@ fn write<W: Write>(
     let name = file_name(inputs.second.name).as_bytes();
     let (catalog, run) = (inputs.catalog.bytes, inputs.second.bytes);
     match inputs.kind {
-        FileKind::Script => write_page(alloc, catalog, name, names, run, out),
+        FileKind::Script => {
+            let served = without_comments(alloc, run)?;
+            write_page(alloc, catalog, name, names, &served, out)
+        }
         FileKind::Trace => write_trace_page(alloc, catalog, name, names, run, out),
     }
 }
@@ -113,6 +134,10 @@ fn status_in(rt: &HostRuntime) -> Result<u8, u8> {
     let (mut out, mut err) = (io::writer(rt), rt.stderr());
     let given = given_words(rt, Program::Klppage, &mut out, &mut err)?;
     let files = page_words(rt.alloc(), &given, &mut out, &mut err)?;
+    let named = files.names.unwrap_or("");
+    only_one_input(NAME, files.catalog, files.run, &mut err)?;
+    only_one_input(NAME, files.catalog, named, &mut err)?;
+    only_one_input(NAME, files.run, named, &mut err)?;
     let catalog = file_in(rt, NAME, files.catalog, &mut err)?;
     let run = file_in(rt, NAME, files.run, &mut err)?;
     let trace = if files.is_trace {

@@ -8,7 +8,10 @@ use std::fmt;
 #[derive(Clone, Copy)]
 pub(crate) struct FaultyLine<'a> {
     pub(crate) fault: CaptureFault,
+    /// The log, or only its faulty line.
     pub(crate) log: &'a [u8],
+    /// How many lines of the log stand before `log`.
+    pub(crate) before: u64,
 }
 
 impl FaultyLine<'_> {
@@ -54,7 +57,7 @@ fn line_before(first: &[u8]) -> &'static str {
 impl fmt::Display for FaultyLine<'_> {
     fn fmt<W: fmt::Write>(&self, f: &mut fmt::Formatter<W>) -> fmt::Result {
         let number = self.fault.line;
-        let line = line_at(self.log, number);
+        let line = line_at(self.log, number.saturating_sub(self.before));
         let (first, _rest) = cut(line, b' ');
         write!(f, "line {number}: ")?;
         match self.fault.kind {

@@ -79,6 +79,7 @@ fn page_of(
             found.catalog.as_bytes(),
             title.as_bytes(),
             &names,
+            found.run.set_up(),
             trace,
         ),
         None => Err(Fault::from(AllocError)),

@@ -5,6 +5,7 @@
 
 mod called;
 mod synopsis;
+mod typed;
 
 ghost use Rattle.std.specs.Prelude.{◌≡◌, ◌⊎◌, ℕ, List, Option, None, IfErr};
 ghost use Rattle.klp_program.specs.declared.sample.TheConstants.{CATALOG};
@@ -13,12 +14,13 @@ ghost use Rattle.klp_live_run.specs.Living.{Exits};
 
 use crate::called::{CalledProgram, program_called};
 use crate::synopsis::write_synopsis;
+use crate::typed::TypedLines;
 use klp_live_run::live;
 use klp_program::{
     Wanted, bytes_in_both, catalog_in, console, parse_arguments, program_arguments, report_fault,
 };
 use std::io;
-use std::io::{Input, Write};
+use std::io::{Input, IsTerminal, Write};
 use std::process::ExitCode;
 use std::rt::Files;
 use std::sync::Wait;
@@ -26,6 +28,11 @@ use std::thread::Threads;
 
 /// The exit status if the arguments are refused.
 const USAGE: u8 = 2;
+
+// Whether lines are typed at a terminal, and hints at them can be read there.
+fn is_typed(rt: &HostRuntime) -> bool {
+    rt.stdin().is_terminal() && rt.stderr().is_terminal()
+}
 
 // Serves standard input over a catalog, or over the built-in one if no file is named. Returns the exit status. It is 1
 // also if the catalog can't be read.
@@ -35,7 +42,9 @@ fn serve(rt: &HostRuntime, path: Option<String>) -> u8
     let mut err = rt.stderr();
     match catalog_in(rt, path) {
         Ok(catalog) => {
-            let (input, out) = (rt.reader(), io::writer(rt));
+            let (is_typed, out) = (is_typed(rt), io::writer(rt));
+            let hints = is_typed.then_some(rt.stderr());
+            let input = TypedLines::new(rt.alloc(), rt.reader(), hints, &catalog);
             console(rt.alloc(), &catalog, input, out, &mut err).0
         }
         Err(fault) => report_fault(fault, &mut err),

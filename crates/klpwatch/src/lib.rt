@@ -4,7 +4,7 @@
 #![tactic(auto)]
 
 use klp_arguments::{Program, WatchWords, given_words, watch_words};
-use klp_diagnostics::{FileKind, FileText, Inputs, file_in};
+use klp_diagnostics::{FileKind, FileText, Inputs, file_in, only_one_input};
 use klp_program::{status_of, watch_trace};
 use std::alloc::Global;
 use std::io;
@@ -30,6 +30,7 @@ fn status_in(rt: &HostRuntime) -> Result<u8, u8> {
     let (mut out, mut err) = (io::writer(rt), rt.stderr());
     let given = given_words(rt, Program::Klpwatch, &mut out, &mut err)?;
     let WatchWords { catalog, trace } = watch_words(rt.alloc(), &given, &mut out, &mut err)?;
+    only_one_input(NAME, catalog, trace, &mut err)?;
     let first = file_in(rt, NAME, catalog, &mut err)?;
     let second = file_in(rt, NAME, trace, &mut err)?;
     let inputs = Inputs {

@@ -1,5 +1,2 @@
 use Rattle.klp_arguments.proofs.CommandLemmas.{seen_by-found}
 use Rattle.klp_arguments.proofs.reading.seen.Goals as goal
-
-pub returns-in-Some : goal.returns-in-Some
-returns-in-Some c = seen_by-found _ _ _ _ _ _ c.in-Some.ensures c.value_of-in-Some.ensures c.is_given.ensures

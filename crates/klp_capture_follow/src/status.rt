@@ -1,0 +1,45 @@
+//! What stands in the last line of a terminal while a log is followed.
+use crate::change::{shown, word_of};
+use crate::follower::{Follower, UnderWay};
+use klp_capture::{BootTime, Elapsed};
+use std::fmt;
+
+/// The state after the latest sample, which was begun at this time. Printed as one line without its end.
+#[derive(Clone, Copy)]
+pub struct Status<'a> {
+    pub follower: &'a Follower,
+    pub at: BootTime,
+}
+
+impl Status<'_> {
+    fn write_under_way<W: fmt::Write>(
+        &self,
+        under_way: &UnderWay,
+        f: &mut fmt::Formatter<W>,
+    ) -> fmt::Result {
+        let (patch, becomes) = (shown(&under_way.patch), word_of(under_way.becomes));
+        let time = Elapsed(under_way.from, self.at);
+        write!(f, "{patch} is being {becomes} for {time} s")?;
+        let mut before = "; held up by ";
+        for held in &self.follower.holding {
+            write!(f, "{before}{held}")?;
+            before = ", ";
+        }
+        match self.follower.lagging {
+            0 => Ok(()),
+            lagging => write!(f, "; {lagging} more lag"),
+        }
+    }
+}
+
+impl fmt::Display for Status<'_> {
+    fn fmt<W: fmt::Write>(&self, f: &mut fmt::Formatter<W>) -> fmt::Result {
+        match &self.follower.under_way {
+            Some(under_way) => self.write_under_way(under_way, f),
+            None => {
+                let at = self.at;
+                write!(f, "{at} s: no patch is in transition")
+            }
+        }
+    }
+}

@@ -1,8 +1,0 @@
-use Rattle.std.proofs.Common.{◌≡◌, ◌++◌, ◌+◌, ◌≤◌, false, drop}
-use Rattle.klp_page.specs.Text.{rows_from, rows_text}
-use Rattle.klp_page.proofs.row.add_rows.Given as goal
-
--- what is written, and what is left to be
-abbrev pub invariant-loop-index : goal.invariant-loop-index
-invariant-loop-index l = (l.quiet ≤ l.index) × (l.sheet.is_short ≡ false
-    → (l.initial.sheet.is_short ≡ false) × (l.sheet.text ++ rows_from l.names l.quiet (l.index + 1) (drop l.index l.rows) ≡ l.initial.sheet.text ++ rows_text l.names l.rows))
