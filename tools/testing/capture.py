@@ -1,6 +1,7 @@
 """klpcap, over a stored machine (tools/testing/machine) in place of a running kernel, by each shell that is there."""
 import contextlib
 import functools
+import glob
 import os
 import pty
 import re
@@ -8,9 +9,10 @@ import shutil
 import signal
 import subprocess
 import tempfile
+import termios
 import time
 
-from testing.run import SECONDS, TOP, fault, finish, start
+from testing.run import EXAMPLES, SECONDS, TOP, fault, finish, start
 
 MACHINE = f"{TOP}/tools/testing/machine"
 # What klpcap needs is in POSIX, so that each of these runs it. busybox is on few machines where this is built.
@@ -209,20 +211,37 @@ def machine():
         yield Machine(room)
 
 
-def samples(shell, it, changes, *words):
-    """The lines of each sample, where the machine changes between them: klpcap is stopped right behind a sample, while it waits
-    for the next, and goes on when the change is made."""
-    process, found = it.begin(shell, "-c", str(len(changes) + 1), "-i", "1", *words), [[]]
+# How long klpcap waits for the next sample, in seconds, where a test ends each wait itself.
+WAIT = "3600"
+
+
+def waits_in(process):
+    """The process by which klpcap waits for its next sample: a `sleep` of its own. It is there soon after a sample."""
+    end = time.monotonic() + SECONDS
+    while time.monotonic() < end:
+        for folder in glob.glob("/proc/[0-9]*"):
+            with contextlib.suppress(OSError), open(f"{folder}/stat", encoding="utf-8", errors="replace") as it:
+                name, _, rest = it.read().partition("(")[2].rpartition(")")
+                if name == "sleep" and int(rest.split(" ")[2]) == process.pid:
+                    return int(folder.rpartition("/")[2])
+        time.sleep(0.01)
+    raise TimeoutError("klpcap doesn't wait for its next sample")
+
+
+def samples(shell, it, changes, *words, **how):
+    """The lines of each sample, where the machine changes between them: while klpcap waits for the next sample, the change is
+    made, and then the wait is ended. No shell tells of a child that a pipe's signal ended."""
+    process, found = it.begin(shell, "-c", str(len(changes) + 1), "-i", WAIT, *words, **how), [[]]
     for line in process.stdout:
         found[-1].append(line.decode().removesuffix("\n"))
         if line.startswith(b"sample "):
             if len(found) <= len(changes):
-                process.send_signal(signal.SIGSTOP)
+                sleeper = waits_in(process)
                 changes[len(found) - 1]()
-                process.send_signal(signal.SIGCONT)
+                os.kill(sleeper, signal.SIGPIPE)
             found.append([])
-    err = finish(process)[2]
-    assert (process.returncode, err) == (0, ""), (process.returncode, err)
+    err = process.communicate(timeout=SECONDS)[1]
+    assert (process.returncode, err or b"") == (0, b""), (process.returncode, err)
     return found[:-1]
 
 
@@ -289,8 +308,8 @@ def processes(shell):
 
         def line(thread, process, begun=100, runs=7):
             return f"task {thread} {process} {begun} S 0 {runs} 1 0 {'po?ol' if thread == process else 'worker'}"
-        wanted = [line(500, 500), "process 500 po?ol", line(501, 500), line(502, 500), "process 600 po?ol", line(601, 600), line(602, 600)]
-        wanted.append("task 700 700 100 S 0 7 1 0 billing")
+        wanted = [line(500, 500), "process 600 po?ol", line(601, 600), "task 700 700 100 S 0 7 1 0 billing"]
+        wanted += ["process 500 po?ol", line(501, 500), line(502, 500), line(602, 600)]
         return differs(
             (of(one, "process", "task"), wanted), (of(two, "process", "task"), ["task 504 500 100 S 0 7 1 0 late"]),
             (of(three, "gone"), ["gone 504"]),
@@ -520,83 +539,223 @@ def lacking(shell):
         return differs((err, wanted), ("find eventfd_raed" in out.decode().splitlines(), True))
 
 
-def told(it, shell, *words, hear=()):
-    """What it says at a terminal, and its status and output. Once it has said each of these words, this is done."""
+@contextlib.contextmanager
+def terminal():
+    """A terminal of 60 columns, and a call that returns what was said there, once nothing has it open any longer."""
     master, slave = pty.openpty()
-    try:
-        process = it.begin(shell, *words, stderr=slave)
+    termios.tcsetwinsize(slave, (24, 60))
+
+    def said():
         os.close(slave)
-        said = b""
-        for words, act in hear:
-            while words not in said.decode():
-                said += os.read(master, 1000)
-            act()
-        out = process.communicate(timeout=SECONDS)[0]
-        while True:
-            try:
-                said += os.read(master, 1000)
-            except OSError:  # all that it said is read
-                return process.returncode, out, said.decode().replace("\r\n", "\n")
+        text = b""
+        with contextlib.suppress(OSError):  # all that was said is read
+            while True:
+                text += os.read(master, 1000)
+        return text.decode().replace("\r\n", "\n").splitlines()
+    try:
+        yield slave, said
     finally:
         os.close(master)
 
 
 def at_terminal(shell):
-    """At a terminal it says that it waits, what is in transition, who holds it up, and where the log is, each once; elsewhere it
-    doesn't."""
+    """At a terminal it says what is in transition, who is inside, and where the log is; elsewhere, and where standard error is
+    closed, it doesn't. The log is the same."""
     with machine() as it:
         it.task(91)
         log = f"{it.root}/log"
-        held = "billing[91] asleep (S) in eventfd_read"
-        moving = f"klpcap: eventfd_fix is in transition\nklpcap: eventfd_fix: enabling for 0 s or more; {held}\n"
-        at_once = told(it, shell, "-c", "3", "-i", "0.01", log)
-        unheard = finish(it.begin(shell, "-c", "3", "-i", "0.01", log))
-        it.turn(0)
-        waited = told(it, shell, "-i", "0.1", log, hear=(("waits", lambda: it.turn(1)), (held, lambda: it.turn(0))))
-        quiet = told(it, shell, "--once", log)
-        place = f"klpcap: the log is in {log}; read it with: klpsee {log}\n"
+        closed = ["sh", "-c", 'exec "$@" 2>&-', "sh", *shell]
+
+        def recorded(kind, *words):
+            came = finish(it.begin(kind, "--once", *words, log))
+            with open(log, encoding="utf-8") as file:
+                return came, file.read()
+        unheard = recorded(shell)
+        without = recorded(closed)
+        full = finish(it.begin(closed, "-i", "0.1", "/dev/full"))
+        with terminal() as (device, said):
+            process = it.begin(shell, "--once", log, stderr=device)
+            process.communicate(timeout=SECONDS)
+            heard = said()
+        place = f"klpcap: the log is in {log}; read it with: klpsee {log}"
         return differs(
-            (at_once, (0, b"", moving + place)), (unheard, (0, b"", "")),
-            (waited, (0, b"", f"klpcap: waits for a transition; Ctrl-C ends it\n{moving.replace(' or more', '')}{place}")),
-            (quiet, (0, b"", place)),
+            (process.returncode, 0), (unheard[0], (0, b"", "")), (unheard[1].endswith("end count\n"), True), (without, unheard),
+            (full, (1, b"", "")), (heard, ["klpcap: eventfd_fix is in transition: enabling", f"klpcap: eventfd_fix: enabling for 0 s or more; billing[91] {ASLEEP}", place]),
         )
 
 
-def holders_at_terminal(shell):
-    """At a terminal it says whenever something else holds the transition up: threads of a process together, and how many lag."""
-    with machine() as it:
-        for thread in (500, 501, 502):
-            it.task(thread, 500, name="nginx")
-        it.task(91, letter="D", name="in\x1bdexer")
-        it.task(92, frames=("do_sys_poll+0x1/0x2",))
-        it.task(93, state=1)
+def stopped_at_terminal(shell):
+    """Ctrl-C at a terminal ends the log, and where it is is said."""
+    with machine() as it, terminal() as (device, said):
+        it.turn(0)
         log = f"{it.root}/log"
+        process = it.begin(shell, "-i", "0.1", log, stderr=device)
+        while not os.path.exists(log) or b"\nsample " not in read_whole(log):
+            time.sleep(0.01)
+        process.send_signal(signal.SIGINT)
+        process.communicate(timeout=SECONDS)
+        return differs(
+            (said(), ["klpcap: waits for a transition; Ctrl-C ends it", f"klpcap: the log is in {log}; read it with: klpsee {log}"]),
+            (read_whole(log).endswith(b"\nend stopped\n"), True),
+        )
 
-        def later():
-            it.put("proc/uptime", "12.70 1.00\n")
-            it.end(91)
-            it.task(92, state=1)
-            it.task(501, 500, state=1, frames=(), runs=9)
 
-        first = "nginx[500], 3 threads asleep (S) in eventfd_read; in?dexer[91] asleep (D) in eventfd_read; 1 lag elsewhere"
-        then = "nginx[500], 2 threads asleep (S) in eventfd_read"
-        it.put("proc/uptime", "10.10 1.00\n")
-        said = told(it, shell, "-i", "0.1", log, hear=((first, later), (then, lambda: it.turn(0))))
-        place = f"klpcap: the log is in {log}; read it with: klpsee {log}\n"
-        lines = f"klpcap: eventfd_fix is in transition\nklpcap: eventfd_fix: enabling for 0 s or more; {first}\n"
-        return differs((said, (0, b"", f"{lines}klpcap: eventfd_fix: enabling for 2 s or more; {then}\n{place}")))
+def read_whole(path):
+    """The bytes of a file."""
+    with open(path, "rb") as it:
+        return it.read()
+
+
+def crowd(it, process, many, name="nginx", **how):
+    """Puts a process with so many threads there."""
+    for thread in range(process, process + many):
+        it.task(thread, process, name=name, **how)
+
+
+def named_groups(it):
+    """Ten processes, of one to ten threads, in one function."""
+    for many in range(1, 11):
+        crowd(it, 100 * many, many, f"p{many}")
+
+
+def next_patch(it):
+    """Another patch is in transition in place of the first."""
+    it.put("sys/kernel/livepatch/other/vmlinux/eventfd_read,1/.keep", "")
+    it.put("sys/kernel/livepatch/other/vmlinux/patched", "1\n")
+    it.put("sys/kernel/livepatch/other/enabled", "1\n")
+    it.put("sys/kernel/livepatch/other/transition", "1\n")
+    it.turn(0)
+
+
+def two_processes(it):
+    """Threads of one process asleep, another task asleep for good, one that lags elsewhere, and one that is switched."""
+    crowd(it, 500, 3)
+    it.task(91, letter="D", name="indexer")
+    it.task(92, frames=ELSEWHERE)
+    it.task(93, state=1)
+
+
+def fewer(it):
+    """Of those one thread is left inside, that isn't its process's first."""
+    it.end(91)
+    it.task(92, state=1)
+    it.task(500, name="nginx", state=1, frames=(), runs=9)
+    it.end(500, 501)
+
+
+def unlink(*names):
+    """Takes files of the machine away."""
+    return lambda it: [os.remove(f"{it.root}/proc/self/{name}") for name in names]
+
+
+def both(*acts):
+    """All of these changes."""
+    return lambda it: [act(it) for act in acts]
+
+
+ASLEEP = "asleep (S) in eventfd_read"
+STARTS = "eventfd_fix is in transition: enabling"
+ENABLING = "eventfd_fix: enabling for"
+PLACE = "the log went to standard output; read it with: klpsee LOG"
+HELD = f"nginx[500], 3 threads {ASLEEP}; indexer[91] asleep (D) in eventfd_read; 1 lag elsewhere"
+# What is said at a terminal: the name of the test, the options, what the machine is at first, the time of each further sample
+# and what has changed until then, and what is said of them all.
+SPOKEN = (
+    ("who is inside", (), two_processes, ((13.05, fewer),), (STARTS, f"{ENABLING} 0 s or more; {HELD}", f"{ENABLING} 3 s or more; nginx[500], thread 502 {ASLEEP}")),
+    (
+        "a line a second", (), lambda it: it.task(91), ((10.95, lambda it: it.task(92)), (11.00, lambda it: it.task(94))),
+        (STARTS, f"{ENABLING} 0 s or more; billing[91] {ASLEEP}", f"{ENABLING} 1 s or more; billing[91] {ASLEEP}; billing[92] {ASLEEP}; billing[94] {ASLEEP}"),
+    ),
+    ("nothing new", (), lambda it: it.task(91), ((12.0, lambda it: it.task(93, state=1)), (14.0, lambda it: None)), (STARTS, f"{ENABLING} 0 s or more; billing[91] {ASLEEP}")),
+    (
+        "a start", (), both(lambda it: it.turn(0), lambda it: it.task(91)), ((20.0, lambda it: it.turn(1)), (25.0, lambda it: it.task(91, letter="D")), (26.0, lambda it: it.turn(0))),
+        (STARTS, f"{ENABLING} 0 s; billing[91] {ASLEEP}", f"{ENABLING} 5 s; billing[91] asleep (D) in eventfd_read"),
+    ),
+    (
+        "a reversal", (), lambda it: it.task(91), ((22.0, both(lambda it: it.turn(1, 0), lambda it: it.task(91, state=1))), (24.0, lambda it: it.task(92, state=1))),
+        (
+            STARTS, f"{ENABLING} 0 s or more; billing[91] {ASLEEP}", "eventfd_fix is in transition: disabling", f"eventfd_fix: disabling for 0 s; billing[91] {ASLEEP}; 1 lag elsewhere",
+            f"eventfd_fix: disabling for 2 s; billing[91] {ASLEEP}; billing[92] {ASLEEP}; 1 lag elsewhere",
+        ),
+    ),
+    (
+        "another patch", (), lambda it: it.task(91), ((22.0, next_patch),),
+        (STARTS, f"{ENABLING} 0 s or more; billing[91] {ASLEEP}", "other is in transition: enabling", f"other: enabling for 0 s; billing[91] {ASLEEP}"),
+    ),
+    ("nobody", (), lambda it: it.task(91, state=1), (), (STARTS, f"{ENABLING} 0 s or more; no task that it can see lags")),
+    ("one that runs", (), lambda it: it.task(91, letter="R"), (), (STARTS, f"{ENABLING} 0 s or more; billing[91] runs in eventfd_read")),
+    (
+        "one that may have run", (), both(lambda it: it.task(91), lambda it: os.remove(f"{it.root}/proc/91/task/91/schedstat")), (),
+        (STARTS, f"{ENABLING} 0 s or more; billing[91] seen in eventfd_read"),
+    ),
+    (
+        "more groups than it names", (), named_groups, (),
+        (STARTS, f"{ENABLING} 0 s or more; {'; '.join(f'p{many}[{100 * many}], {many} threads {ASLEEP}' for many in range(10, 2, -1))}; 3 more inside of patched functions"),
+    ),
+    (
+        "more tasks than slots", (), both(lambda it: crowd(it, 100, 70), lambda it: crowd(it, 900, 2, frames=ELSEWHERE)), (),
+        (STARTS, f"{ENABLING} 0 s or more; nginx[100], 64 threads {ASLEEP}; 6 more inside of patched functions; 2 lag elsewhere"),
+    ),
+    (
+        "behind -f", ("-f", "eventfd_read"), both(lambda it: crowd(it, 100, 70), lambda it: crowd(it, 100, 3, state=1)), (),
+        (STARTS, f"{ENABLING} 0 s or more; nginx[100], 61 threads {ASLEEP}; 6 more inside of patched functions or those asked for"),
+    ),
+    ("a name", (), lambda it: it.task(91, name="\x9b2J\x1b[2J\u202e"), (), (STARTS, f"{ENABLING} 0 s or more; ??2J?[2J???[91] {ASLEEP}")),
+    (
+        "nothing readable", (), both(lambda it: it.task(91), unlink("stack")), (),
+        ("ROOT/proc/self/stack isn't there: the kernel needs CONFIG_STACKTRACE", STARTS, f"{ENABLING} 0 s or more; who holds it up could not be read"),
+    ),
+    (
+        "a command for a time", (), both(lambda it: it.task(91), lambda it: it.put("proc/uptime", "a[$(touch${IFS}made)] 1\n")), (),
+        (STARTS, f"{ENABLING} 0 s or more; billing[91] {ASLEEP}"),
+    ),
+)
+
+
+def spoken(options, first, changes, lines, shell):
+    """At a terminal it says these lines, whole, however many columns there are, and no command runs."""
+    def change(seconds, act):
+        it.put("proc/uptime", f"{seconds:.2f} 1.00\n")
+        act(it)
+    with machine() as it, terminal() as (device, said):
+        change(10.10, first)
+        samples(shell, it, [functools.partial(change, *step) for step in changes], *options, stderr=device)
+        made = [path for path, _, names in os.walk(it.root) for name in names if name == "made"]
+        wanted = [f"klpcap: {line.replace('ROOT', it.root)}" for line in (*lines, PLACE)]
+        return differs((said(), wanted), (made + [name for name in os.listdir(EXAMPLES) if name == "made"], []))
+
+
+def waiting(shell):
+    """At a terminal it says that it waits, once, and then that a transition starts, and ends with it."""
+    with machine() as it, terminal() as (device, said):
+        it.turn(0)
+        process = it.begin(shell, "-i", WAIT, stderr=device)
+        for turn in (None, 1, 0, None):  # one sample more shows what the transition left
+            line = b""
+            while not line.startswith(b"sample "):
+                line = process.stdout.readline()
+            sleeper = waits_in(process)
+            if turn is not None:
+                it.turn(turn)
+            os.kill(sleeper, signal.SIGPIPE)
+        out = process.communicate(timeout=SECONDS)[0]
+        wanted = ("waits for a transition; Ctrl-C ends it", STARTS, f"{ENABLING} 0 s; no task that it can see lags", PLACE)
+        return differs((said(), [f"klpcap: {line}" for line in wanted]), (out.endswith(b"\nend over\n"), True))
 
 
 def unreadable(shell):
-    """What it can't read is told always: livepatch, or what only root may read."""
+    """What it can't read is told always, and what to do: livepatch, what only root may read, and what the kernel doesn't have."""
     with machine() as it:
         shutil.rmtree(f"{it.root}/sys/kernel/livepatch")
-        os.remove(f"{it.root}/proc/self/stack")
+        it.put("proc/self/stack", "")  # root may open any file, so an empty one stands for one that can't be read
         os.remove(f"{it.root}/proc/self/schedstat")
         status, out, err = finish(it.begin(shell, "--once"))
-        lines = ("sys/kernel/livepatch", "proc/self/stack", "proc/self/schedstat")
+        lines = (
+            "sys/kernel/livepatch isn't there: the kernel needs CONFIG_LIVEPATCH", "proc/self/stack can't be read: are you root?",
+            "proc/self/schedstat isn't there: the kernel needs CONFIG_SCHEDSTATS",
+        )
         return differs(
-            (status, 0), (err, "".join(f"klpcap: {it.root}/{line} can't be read: are you root?\n" for line in lines)),
+            (status, 0), (err, "".join(f"klpcap: {it.root}/{line}\n" for line in lines)),
             (of(out.decode().splitlines(), "missing"), ["missing livepatch", "missing stack", "missing schedstat"]),
         )
 
@@ -626,7 +785,8 @@ RUN = (
     (", to the end", ended), (", its head", headed), (", names of processes", processes), (", a process's number again", processes_again),
     (", more tasks than slots", chosen), (", those that merely lag", preferred), (", slots given up", left), (", no transition any more", left_at_end),
     (", slots behind -f", left_asked), (", no livepatch", without_livepatch), (", one patch behind another", kept_through_patches), (", what can't be written", unwritten),
-    (", signals", stopped), (", names behind -f", asked), (", names that the kernel lacks", lacking), (", at a terminal", at_terminal), (", holders at a terminal", holders_at_terminal),
+    (", signals", stopped), (", names behind -f", asked), (", names that the kernel lacks", lacking), (", at a terminal", at_terminal), (", waits at a terminal", waiting),
+    (", Ctrl-C at a terminal", stopped_at_terminal), *((f", at a terminal: {name}", functools.partial(spoken, *scene)) for name, *scene in SPOKEN),
     (", what can't be read", unreadable), (", help and version", helped),
 )
 

@@ -3,10 +3,12 @@
 Each function gives the cases of one kind: a name, and a call that returns what is wrong, or None.
 """
 import functools
+import html
 import json
 import os
 import re
 import tempfile
+import unicodedata
 
 import testing.run
 from testing.run import EXAMPLES, TOP, fault, read, run, run_itself
@@ -113,6 +115,42 @@ def pages():
             file = f"pages/{name}"
             made.append((f"{file}.html", functools.partial(page, file, *words, f"{file}{ending}")))
     return made
+
+
+# Bytes that a page mustn't have as they are: control bytes, what is no UTF-8, and characters that act on what is around them. Each has
+# the number of characters that a page shows in its place.
+ODD = {
+    b"\x00": 1, b"\x01": 1, b"\t": 1, b"\r": 1, b"\x1b": 1, b"\x7f": 1, b"\xff": 1, b"\xc0\xaf": 2, b"\xc3": 1, b"\xe2\x82": 2, b"\xed\xa0\x80": 3,
+    b"\xf4\x90\x80\x80": 4, b"\x80": 1, b"\xc2\x85": 2, b"\xd8\x9c": 2, b"\xe2\x80\xae": 3, b"\xe2\x80\xa8": 3, b"\xe2\x81\xa6": 3, b"\xe2\x80\x8f": 3,
+}
+# Text that a page shows as it is.
+PLAIN = ("é", "ß", "€", "日本", "…", "\u0700", "\ud7ff", "\ue000", "\U0001f427", "\U0010ffff", "‐", "‧", " ", "a<b>&\"c'")
+
+
+def odd_bytes():
+    """No byte of a script or of a name acts on what is around it in a page, and all other text stands there as it is."""
+    with tempfile.TemporaryDirectory(prefix="odd-") as room:
+        lines = [b"x" + odd + b"y" for odd in ODD] + [b"x" + it.encode() + b"y" for it in PLAIN]
+        with open(f"{room}/a.script", "wb") as it:
+            it.write(b"\n".join(lines) + b"\n")
+        with open(f"{room}/a.names", "wb") as it:
+            it.write(b"task 1 evil\xe2\x80\xaename\ntask 2 bad\xff\n")
+        status, out, _ = run(["klppage", "k.catalog", f"{room}/a.script", f"{room}/a.names"])
+    if status:
+        return f"status {status}"
+    try:
+        page = html.unescape(out.decode())
+    except UnicodeDecodeError as error:
+        return f"{error}"
+    acts = {it for it in out.decode() if it != "\n" and (unicodedata.category(it) in ("Cc", "Zl", "Zp") or unicodedata.bidirectional(it) in
+            ("LRE", "RLE", "LRO", "RLO", "PDF", "LRI", "RLI", "FSI", "PDI") or it in "\u061c\u200e\u200f")}
+    lost = [it for it in PLAIN if f"x{it}y" not in page]
+    lost += [odd for odd, count in ODD.items() if not re.search(f"x[\u2400-\u2421\ufffd]{{{count}}}y", page)]
+    return f"acts: {acts}; lost: {lost}" if acts or lost else None
+
+
+def odd_pages():
+    return [("a page of odd bytes", odd_bytes)]
 
 
 def lint_words(name):
@@ -261,5 +299,5 @@ def unreadable_paths():
 
 
 def cases():
-    kinds = (scripts, traces, long_traces, cut_traces, lives, pages, lints, refused_catalogs, faulty_lines, unreadable_paths)
+    kinds = (scripts, traces, long_traces, cut_traces, lives, pages, odd_pages, lints, refused_catalogs, faulty_lines, unreadable_paths)
     return [case for kind in kinds for case in kind()]

@@ -19,7 +19,8 @@ LINE = "wanted is handler, object, symbol, patch, target, func, pre, post, preun
 FUNC = "wanted is func .klp.sym.OBJECT.SYMBOL,POSITION NEWNAME ADDRESS"
 EDIT = "wanted is alloc:OBJ:ID:VALUE, free:OBJ:ID, freeall:ID, set:STATE:VALUE or takeprev:STATE"
 DROPPED = "a carriage return, which is dropped at the end of a line, and else is part of a word"
-ITEM = "wanted is call TASK SYMBOL, return TASK, or a line of the console that asks for an event"
+ITEM = "wanted is call, return, saw, ran, hooked, plain, or a line of the console that asks for an event"
+SAW = "wanted is saw TASK STATE, saw PATCH ENABLED TRANSITION, or saw PATCH gone"
 OWN_SYMBOL = "wanted is one symbol of the catalog, as .klp.sym.OBJECT.SYMBOL,POSITION"
 FRAME = "wanted is .klp.sym.OBJECT.SYMBOL,POSITION or PATCH:INDEX, of the catalog"
 FILE = "wanted is /sys/kernel/livepatch/PATCH/enabled or force, of a known patch"
@@ -29,6 +30,8 @@ SCRIPT_LINE = "a line of a script, where a trace is wanted: klppage takes script
 TRACE_LINE = "a line of a trace, where a script is wanted: klpwatch takes traces"
 ANSWER = "wanted is ?, or an answer as the console writes it, like ok, pending 2 or error 16 Busy"
 NO_EVENT = "wanted is a line without =>, behind which an event's answer stands"
+LOG = "a log of klpcap, which klpsee takes: klpsee LOG"
+NO_CATALOG = "wanted is a catalog, and this is a log of klpcap, which klpsee takes: klpsee LOG"
 TIME = "wanted is seconds, with 6 decimals at most, and an item behind a space"
 F = ".klp.sym.vmlinux.f,0"
 # Lines behind the five of PATCH, and what is told of the last one.
@@ -75,6 +78,7 @@ CATALOGS = [
     (f"{KERNEL}\ufeffobject m\n", f"line 4: NotAscii: '\\u{{feff}}object m': {MARK}"),
     (b"\xfe\xffx\n", "line 1: NotAscii: '\\xfe\\xffx': wanted is ASCII alone, and this is UTF-16"),
     (b"\xff\xfex\n", "line 1: NotAscii: '\\xff\\xfex': wanted is ASCII alone, and this is UTF-16"),
+    ("klpcap 2\nkernel 6.1 x86_64\n", f"line 1: UnknownWord: {NO_CATALOG}"),
     (f"{KERNEL}object vmlinux\n", "line 4: Twice: 'vmlinux': wanted is a name that no object has"),
     (f"{HANDLER}{HANDLER}", "line 2: Twice: 'handler': wanted is one handler"),
     (
@@ -147,10 +151,12 @@ ITEMS = [
     ("task sleep 1 p:65536", f"'p:65536': {FRAME}"),
     (f"task sleep 1{33 * ' p:0'}", f"'task sleep 1{13 * ' p:0'}'..: wanted are 32 functions at most"),
     ("shadow put 1 2", f"'shadow put 1 2': {ITEM}"),
-    ("saw", "'saw': wanted is saw TASK STATE"),
+    ("saw", f"'saw': {SAW}"),
+    ("saw p", f"'saw p': {SAW}"),
+    ("saw cve_2024_1086 enabled", f"'saw cve_2024_1086 enabled': {SAW}"),
     ("saw 64 0", "'64': wanted is a task, from 0 to 63"),
     ("saw 1 2", "'2': wanted is -1, 0 or 1"),
-    ("saw p 1", "'p': wanted is a task, from 0 to 63"),
+    ("saw p 1", f"'saw p 1': {SAW}"),
     ("saw z gone", "'z': wanted is a patch of the catalog"),
     ("saw z 1 0", "'z': wanted is a patch of the catalog"),
     ("saw p 1 2", "'2': wanted is 0 or 1"),
@@ -201,6 +207,7 @@ TRACES = [
     ("shadow get 1 2\n", f"line 1: hint: {SCRIPT_LINE}\nline 1: BadItem: 'shadow get 1 2': {ITEM}"),
     (b"\xff\xfep\r\n", f"line 1: hint: {WIDE}\nline 1: BadItem: '\\xff\\xfep': {ITEM}"),
     (b"\xfe\xffp\n", f"line 1: hint: {WIDE}\nline 1: BadItem: '\\xfe\\xffp': {ITEM}"),
+    ("klpcap 2\nkernel 6.1 x86_64\n", f"line 1: hint: {LOG}\nline 1: BadItem: 'klpcap 2': {ITEM}"),
     (KERNEL, f"line 1: hint: a catalog, where a trace is wanted\nline 1: BadItem: 'handler ffffffff81000000': {ITEM}"),
 ]
 # Traces over MORE, and what is told of their last line, which isn't honest.
@@ -305,7 +312,8 @@ SCRIPTS = [
     ("\ufeffmark\n", 0, "line 1: hint: a byte-order mark, which is part of the first word"),
     ("mark\nmark\r\n", 0, "line 2: hint: a carriage return, which is part of a word"),
     ("mark\tmark\n\tmark\n", 0, "line 1: hint: a tab, which is part of a word: spaces separate words"),
-    ("mark\n mark #\n#\n", 0, "line 3: hint: a line that begins with #, and is no comment here"),
+    ("mark\n# laod p\n#\n\nmark\n", 0, ""),
+    ("klpcap 2\nkernel 6.1 x86_64\n", 0, f"line 1: hint: {LOG}\nline 1: hint: 'klpcap 2': wanted is a line of the console"),
     (KERNEL, 0, "line 1: hint: a catalog, where a script is wanted"),
     ("task new 1\nlaod p\nload q\n", 0, "line 2: hint: 'laod p': wanted is a line of the console"),
     ("mark\nshadow alloc 1 2 x\ntask entr 1\n", 0, "line 3: hint: 'entr': wanted is new, end, enter, exit, wake, fork or sleep"),
@@ -408,8 +416,11 @@ def cases():
         made.append((f"klppage, {names[:60]!r}", functools.partial(told, "klppage", texts, 1, f"klppage: a.names: {said}\n")))
     swapped = "line 1: UnknownWord: wanted is a catalog, which a.script is: are the two swapped?"
     made.append(case("klppage", "load p\n", PATCH, 1, swapped))
-    missing = [("klpwatch", ("k.catalog", "missing"), "missing"), ("klppage", (".", "k.script"), ".")]
-    for program, words, name in missing:
-        said = f"{program}: {name}: CannotRead\n"
+    missing = [
+        ("klpwatch", ("k.catalog", "missing"), "missing", "No such file or directory (os error 2)"), ("klppage", (".", "k.script"), ".", "Is a directory (os error 21)"),
+        ("klplint", ("k.catalog", "missing"), "missing", "No such file or directory (os error 2)"), ("klpsee", ("missing",), "missing", "No such file or directory (os error 2)"),
+    ]
+    for program, words, name, reason in missing:
+        said = f"{program}: {name}: CannotRead: {reason}\n"
         made.append((f"{program}, {name} can't be read", functools.partial(unreadable, program, words, said)))
     return made

@@ -35,7 +35,7 @@ WHOLE = {
 }
 # Threads of one process that sleep in one function share a line.
 GROUP = re.compile(r"^  .*\[(\d+)\]: (\d+) threads h(?:old|eld) it up", re.M)
-HOLDS = re.compile(r"^  .*\[(\d+)\].* holds it up: asleep \([^)]*\) in (\S+) since ([\d.]+) s or before, for ([\d.]+) s$", re.M)
+HOLDS = re.compile(r"^  .*\[(\d+)\].* holds it up: asleep \([^)]*\) in (\S+) since ([\d.]+) s or before, for ([\d.]+) s(?:; .*)?$", re.M)
 
 
 def holders(said):
@@ -149,6 +149,19 @@ def headed():
             page = it.read()
     head = f"a.log: kernel 6.1.0-56-amd64 x86_64 on &lt;db7&gt;, begun 8.05 s after boot, on {date}"
     return None if (status, err) == (EXPLAINED, "") and head in page else f"{status}, {out} and {err}, {page[:2000]}"
+
+
+def preflight_page():
+    """The page of a log that was made before a patch is loaded shows who sleeps in the functions that were asked for: by the
+    log, both tasks in eventfd_read, and nobody in cmdline_proc_show."""
+    with tempfile.TemporaryDirectory(prefix="log-") as room:
+        status, _, err = finish(start(["klpsee", "-o", room, f"{EXAMPLES}/captures/preflight.log"], executable=built_program()))
+        with open(f"{room}/run.html", encoding="utf-8") as it:
+            page = it.read()
+    sleeps = r"<bdi class=m>{}\[\d+\]</bdi></b> sleeps in<ul class=m><li>\.klp\.<wbr>sym\.<wbr>vmlinux\.<wbr>eventfd_<wbr>read,1</ul>"
+    missing = [it for it in ("billing", "indexer") if not re.search(sleeps.format(it), page)]
+    is_well = (status, err) == (EXPLAINED, "") and not missing and "cmdline_<wbr>proc_<wbr>show,1</ul>" not in page
+    return None if is_well else f"{status}, {err}, and {missing} of {page[-3000:]}"
 
 
 def cut_off(name):
@@ -483,7 +496,7 @@ def cases():
     made += [("a log that begins with a reversed cumulative patch", begun_reversed)]
     made += [("the kernel's log against the samples", kernel_says_otherwise), ("a function that can't be placed", unplaced)]
     made += [(f"a task that is named, and {word} with {runs} runs", functools.partial(named_and, word, runs)) for word in ("left", "gone") for runs in (1, 2)]
-    made += [("an idle task", idle), ("a log with an older force", forced_before), ("a page's head", headed)]
+    made += [("an idle task", idle), ("a log with an older force", forced_before), ("a page's head", headed), ("the page of a pre-flight", preflight_page)]
     made += [("nothing in transition", functools.partial(stopped, "enable", "8.05", "no patch was in transition\n"))]
     switched = "  billing[90] held it up, asleep in livepatch_eventfd_read, from 56.44 s to 59.20 s\n"
     made += [("a cumulative patch that isn't complete", functools.partial(stopped, "replace", "59.98", switched))]

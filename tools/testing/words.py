@@ -1,5 +1,6 @@
 """The words behind a program's name: which are refused, which ask for help, and which mean the same."""
 import functools
+import os
 import re
 import tempfile
 
@@ -10,7 +11,7 @@ USAGE = {
     "klpwatch": "klpwatch CATALOG TRACE",
     "klppage": "klppage CATALOG SCRIPT|--trace TRACE [NAMES]",
     "klplint": "klplint [--json] CATALOG [SCRIPT]",
-    "klpsee": "klpsee LOG [-o FOLDER] [--json]",
+    "klpsee": "klpsee [-o FOLDER] [--json|--follow] LOG|[--metrics] LOG..",
 }
 REFUSED = {
     "klpsim": [
@@ -25,8 +26,9 @@ REFUSED = {
     ],
     "klplint": [(), ("--json",), ("x", "y", "z"), ("x", "-y"), ("--json", "--json", "x"), ("--json=x", "x"), ("x", "-o", "y"), (b"\xff",)],
     "klpsee": [
-        (), ("x", "y"), ("x", "-o"), ("x", "-o", "-y"), ("x", "-y"), ("-o", "y"), ("x", "-o", "y", "-o", "z"), ("x", "--json", "--json"),
-        ("x", "-o", "y", "z"), (b"\xff",),
+        (), ("x", "-o"), ("x", "-o", "-y"), ("x", "-y"), ("-o", "y"), ("x", "-o", "y", "-o", "z"), ("x", "--json", "--json"),
+        ("x", "-o", "y", "z"), ("x", "y", "--json"), ("x", "y", "--follow"), ("x", "--follow", "--json"), ("x", "--follow", "-o", "y"),
+        ("x", "--follow", "--metrics"), ("x", "--metrics", "--json"), ("x", "--metrics", "-o", "y"), ("--metrics",), (b"\xff",),
     ],
 }
 # Words that mean the same, in each line those in front.
@@ -122,6 +124,21 @@ def alike(name, first, *others):
     return "; ".join(filter(None, wrong)) or (f"status {wanted[0]}" if wanted[0] not in (0, 3) else None)
 
 
+def from_input(name, words, at):
+    """A file that is read from standard input comes to the same, but for its name."""
+    path = words[at]
+    given = [*words[:at], "-", *words[at + 1 :]]
+    status, out, err = run([name, *words])
+    base = os.path.basename(path).encode()
+    wanted = (status, out.replace(path.encode(), b"-") if name == "klplint" else out.replace(base, b"standard input"), err)
+    return fault(run([name, *given], read(path)), wanted) or (f"status {status}" if status not in (0, 3) else None)
+
+
+def twice(name, *words):
+    """Only one file can be standard input: the second one would be empty."""
+    return fault(run([name, *words], b"poll\n"), (1, b"", f"{name}: -: only one file can be standard input\n"))
+
+
 def in_folder(*words):
     """The files of a log go to the folder that is named, wherever that is."""
     with tempfile.TemporaryDirectory(prefix="words-") as room:
@@ -169,6 +186,15 @@ def cases():
     made.update({f"a program called {path!r}": (called, name, path) for name, paths in CALLED.items() for path in paths})
     log = "captures/enable.log"
     made.update({f"klpsee, the words {words}": (in_folder, *words) for words in ((log, "-o", "FOLDER"), ("-o", "FOLDER", log))})
+    inputs = [
+        ("klpwatch", ("k.catalog", "watched.trace"), (0, 1)), ("klppage", ("pages/sleeper.catalog", "pages/sleeper.script"), (0, 1)),
+        ("klppage", ("pages/kernel.catalog", "--trace", "pages/kernel.trace", "pages/kernel.names"), (0, 2, 3)),
+        ("klplint", ("lint/trace.catalog", "lint/trace.script"), (0, 1)), ("klpsee", ("captures/enable.log",), (0,)),
+    ]
+    made.update({f"{name}, {words[at]} from standard input": (from_input, name, words, at) for name, words, places in inputs for at in places})
+    made.update({f"{words[0]}, twice standard input, {words[1:]}": (twice, *words) for words in (
+        ("klpwatch", "-", "-"), ("klplint", "-", "-"), ("klppage", "-", "-"), ("klppage", "-", "x", "-"), ("klppage", "x", "-", "-"), ("klppage", "-", "--trace", "-"),
+    )})
     odd = "\x1b[2J"
     paths = (("klpwatch", odd, "x"), ("klpwatch", "k.catalog", odd), ("klppage", odd, "x"), ("klplint", odd), ("klplint", "k.catalog", odd), ("klpsee", odd))
     made.update({f"{words[0]}, a path that would control a terminal, {words[1:]!r}": (escaped, *words) for words in paths})
