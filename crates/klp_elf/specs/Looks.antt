@@ -1,7 +1,7 @@
 -- What stands at a place of a file.
-use Rattle.std.specs.Prelude.{ℕ, ◌+◌, ◌%◌, ◌^◌, ◌==◌, ◌&&◌, bytes_eq, nat_lt, if◌then◌else◌, Bool, true, false, List, [], ◌∷◌, length, take, drop, filter, position, slice_get, Option, Some, None, Result, Ok, Err}
+use Rattle.std.specs.Prelude.{ℕ, ◌+◌, ◌%◌, ◌^◌, ◌==◌, ◌&&◌, bytes_eq, nat_le, nat_lt, not, if◌then◌else◌, Bool, true, false, List, [], ◌∷◌, length, take, drop, filter, position, slice_get, Option, Some, None, Result, Ok, Err}
 use Rattle.klp_elf.specs.Numbers.{number_at}
-use Rattle.klp_elf.specs.Parts.{bytes_in, is_zero, text_at}
+use Rattle.klp_elf.specs.Parts.{bytes_in, has_bytes, is_zero, text_at}
 use Rattle.klp_elf.specs.declared.elf.Elf.{Elf}
 use Rattle.klp_elf.specs.declared.fault.LookFault.{LookFault}
 use Rattle.klp_elf.specs.declared.fault.LookFault.TheVariants.{Outside as PlaceOutside, NoEnd, Several as SeveralThere, NoAddress, Number}
@@ -24,10 +24,19 @@ use Rattle.klp_elf.specs.declared.row.RelocationKind.TheVariants.{Address}
 abbrev pub bytes_at : Elf → Place → List ℕ
 bytes_at elf place = drop place.offset (bytes_in elf.bytes.now elf.sections.items place.section)
 
+abbrev pub is_room : ℕ → ℕ → Option Section → Bool
+is_room width offset None = false
+is_room width offset (Some section) = not (has_bytes section.kind) && nat_le (offset + width) section.size
+
+-- so many bytes at a place are in a section that has none in the file: all are 0 once the module is loaded
+abbrev pub is_blank : ℕ → Elf → Place → Bool
+is_blank width elf place = is_room width place.offset (slice_get elf.sections.items place.section)
+
 -- the number of so many bytes at a place
 abbrev pub number_of : ℕ → Elf → Place → Result ℕ LookFault
 number_of width elf place =
-    if nat_lt (length (bytes_at elf place)) width then Err (PlaceOutside place) else Ok (number_at width 0 (bytes_at elf place))
+    if is_blank width elf place then Ok 0
+    else if nat_lt (length (bytes_at elf place)) width then Err (PlaceOutside place) else Ok (number_at width 0 (bytes_at elf place))
 
 abbrev pub string_until : Place → List ℕ → Option ℕ → Result (List ℕ) LookFault
 string_until place bytes None = Err (NoEnd place)
@@ -104,8 +113,11 @@ begins_object place symbol = is_object symbol.kind && is_in place symbol.section
 abbrev pub symbol_name : Elf → Symbol → List ℕ
 symbol_name elf symbol = text_at elf.symbol_names.now symbol.name
 
+abbrev pub section_name : Elf → Section → List ℕ
+section_name elf section = text_at elf.section_names.now section.name
+
 abbrev pub has_name : Elf → List ℕ → Section → Bool
-has_name elf name section = bytes_eq (text_at elf.section_names.now section.name) name
+has_name elf name section = bytes_eq (section_name elf section) name
 
 -- the number of the first section of a name
 abbrev pub section_named : Elf → List ℕ → Option ℕ

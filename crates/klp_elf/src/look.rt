@@ -3,13 +3,15 @@ ghost use Rattle.std.specs.Prelude.{◌≡◌, ◌≤◌, ◌+◌, length, posit
 ghost use Rattle.std.specs.List.{find};
 ghost use Rattle.std.specs.Option.{option_copied};
 ghost use Rattle.klp_elf.specs.Parts.{bytes_in};
-ghost use Rattle.klp_elf.specs.Looks.{and_by, begins_function, begins_object, bytes_at, has_name, is_address, is_at, is_in, number_of, pointer_at};
-ghost use Rattle.klp_elf.specs.Looks.{place_in, relocated_at, relocated_by, section_named, string_at, symbol_name, target_of, written};
+ghost use Rattle.klp_elf.specs.Looks.{and_by, begins_function, begins_object, bytes_at, has_name, is_address, is_at, is_blank, is_in, is_room, number_of};
+ghost use Rattle.klp_elf.specs.Looks.{place_in, pointer_at, relocated_at, relocated_by, section_name, section_named, string_at, symbol_name, target_of, written};
 
 use crate::elf::Elf;
 use crate::fault::LookFault;
 use crate::number::{u8_at, u32_at, u64_at};
-use crate::row::{Relocation, RelocationKind, Section, Symbol, SymbolKind, SymbolSection};
+use crate::row::{
+    Relocation, RelocationKind, Section, SectionKind, Symbol, SymbolKind, SymbolSection,
+};
 use crate::table::{bytes_in, first_zero, rest_from, text_at};
 
 /// An offset into the section with this number.
@@ -106,7 +108,27 @@ fn begins_object(symbol: &Symbol, place: Place) -> bool
     }
 }
 
+/// Whether a section has so many bytes at an offset once the module is loaded, and none in the file. They are 0 then.
+fn is_room(section: &Section, offset: u64, width: u64) -> bool
+    ensures { result ≡ is_room width offset (Some section.now) }
+{
+    match section.kind {
+        SectionKind::NoBytes => width <= section.size && offset <= section.size - width,
+        _ => false,
+    }
+}
+
 impl<'a> Elf<'a> {
+    /// Whether so many bytes at a place are 0 once the module is loaded, and not in the file.
+    fn is_blank(&self, place: Place, width: u64) -> bool
+        ensures { result ≡ is_blank width self.now place }
+    {
+        match self.sections.get(place.section as usize) {
+            Some(section) => is_room(section, place.offset, width),
+            None => false,
+        }
+    }
+
     /// Returns the bytes of a place's section, from the place on.
     fn bytes_at(&self, place: Place) -> &'a [u8]
         ensures { result.now ≡ bytes_at self.now place }
@@ -121,6 +143,9 @@ impl<'a> Elf<'a> {
     pub fn number64(&self, place: Place) -> Result<u64, LookFault>
         ensures { result ≡ number_of 8 self.now place }
     {
+        if self.is_blank(place, 8) {
+            return Ok(0);
+        }
         let bytes = self.bytes_at(place);
         if bytes.len() < 8 {
             return Err(LookFault::Outside(place));
@@ -132,6 +157,9 @@ impl<'a> Elf<'a> {
     pub fn number32(&self, place: Place) -> Result<u32, LookFault>
         ensures { result ≡ number_of 4 self.now place }
     {
+        if self.is_blank(place, 4) {
+            return Ok(0);
+        }
         let bytes = self.bytes_at(place);
         if bytes.len() < 4 {
             return Err(LookFault::Outside(place));
@@ -143,6 +171,9 @@ impl<'a> Elf<'a> {
     pub fn byte(&self, place: Place) -> Result<u8, LookFault>
         ensures { result ≡ number_of 1 self.now place }
     {
+        if self.is_blank(place, 1) {
+            return Ok(0);
+        }
         let bytes = self.bytes_at(place);
         if bytes.is_empty() {
             return Err(LookFault::Outside(place));
@@ -220,10 +251,17 @@ impl<'a> Elf<'a> {
         text_at(self.symbol_names, symbol.name)
     }
 
+    /// Returns the name of a section. It is empty if the table of names doesn't have it.
+    pub fn section_name(&self, section: &Section) -> &'a [u8]
+        ensures { result.now ≡ section_name self.now section.now }
+    {
+        text_at(self.section_names, section.name)
+    }
+
     fn has_name(&self, section: &Section, name: &[u8]) -> bool
         ensures { result ≡ has_name self.now name.now section.now }
     {
-        text_at(self.section_names, section.name) == name
+        self.section_name(section) == name
     }
 
     /// Returns the number of the first section of this name.

@@ -1,2 +1,3 @@
 pub mod Matrix
 pub mod Changes
+pub mod Outcomes

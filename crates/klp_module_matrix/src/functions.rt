@@ -83,7 +83,7 @@ pub fn changed_by<'a>(alloc: Global, objects: &[Object<'a>]) -> Result<Vec<Chang
 }
 
 /// Returns the functions that only the older patch changes. If it is taken out, their originals run again.
-pub fn lost<'a>(
+pub(crate) fn lost<'a>(
     alloc: Global,
     older: &[Changed<'a>],
     newer: &[Changed<'_>],
@@ -100,7 +100,7 @@ pub fn lost<'a>(
 }
 
 /// Returns the functions of the older patch that the newer one changes too.
-pub fn shared<'a>(
+pub(crate) fn shared<'a>(
     alloc: Global,
     older: &[Changed<'a>],
     newer: &[Changed<'_>],

@@ -1,12 +1,15 @@
 //! What becomes of a livepatch when another one is loaded over it, by the tables of both.
 //!
-//! [`refusal_over`] is the kernel's rule for system states, `klp_is_patch_compatible` (`specs/Matrix`). [`lost`] lists
-//! the functions that only the older patch changes: if it is taken out, their originals run again. [`shared`] lists
-//! those that both change (`specs/Changes`). Nothing here reads a kernel, or says that a module loads for other reasons.
+//! [`judge`] says whether the newer patch is refused, takes the older one out, or stands beside it (`specs/Outcomes`). It
+//! is refused by the kernel's rule for system states, `klp_is_patch_compatible` (`specs/Matrix`). If it takes the older
+//! one out, the functions are listed that only that one changes, whose originals run again; and else those that both
+//! change (`specs/Changes`). Nothing here reads a kernel, or says that a module loads for other reasons.
 #![tactic(auto)]
 
 mod functions;
+mod outcome;
 mod states;
 
-pub use functions::{Changed, changed_by, lost, shared};
-pub use states::{Refusal, refusal_over};
+pub use functions::{Changed, changed_by};
+pub use outcome::{Judgement, Outcome, Side, judge};
+pub use states::Refusal;

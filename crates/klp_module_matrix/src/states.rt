@@ -62,7 +62,7 @@ fn refused_by(newer: &[State], installed: State) -> Refusal
 
 /// Returns why the kernel refuses to load a patch with the newer states over one with the older ones, if it does.
 /// `replaces` says whether the newer patch replaces those before it.
-pub fn refusal_over(older: &[State], newer: &[State], replaces: bool) -> Option<Refusal>
+pub(crate) fn refusal_over(older: &[State], newer: &[State], replaces: bool) -> Option<Refusal>
     ensures { result ≡ refusal_of older.now newer.now replaces }
 {
     match first_unfit(older, newer, replaces) {

@@ -12,6 +12,7 @@
 
 mod fault;
 mod finding;
+mod limits;
 mod objects;
 mod patch;
 mod place;
@@ -20,8 +21,6 @@ mod row;
 mod rows;
 
 pub use fault::TableFault;
-pub use patch::{
-    Callbacks, Function, MAX_FUNCTIONS, MAX_OBJECTS, MAX_STATES, Object, ObjectRow, Patch,
-    Replaces, State,
-};
+pub use limits::{MAX_FILE, MAX_FUNCTIONS, MAX_OBJECTS, MAX_PATCHES, MAX_STATES};
+pub use patch::{Callbacks, Function, Object, ObjectRow, Patch, Replaces, State};
 pub use reading::read;

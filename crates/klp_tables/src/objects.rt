@@ -1,10 +1,13 @@
 //! All objects of a patch, each with its functions.
-ghost use Rattle.std.specs.Prelude.{◌≡◌, ◌≤◌, ◌<◌, true, map, length, Some, None, Ok, IfOk, MatchOption};
+ghost use Rattle.std.specs.Prelude.{◌≡◌, ◌⊎◌, ◌≤◌, ◌<◌, true, map, length, Some, None, Ok, MatchOption, MatchResult};
 ghost use Rattle.std.specs.List.{All};
+ghost use Rattle.klp_tables.specs.Faults.{FailsAtObject, HasMoreRows, IsObjectFault, IsObjectTableFault};
 ghost use Rattle.klp_tables.specs.Rows.{has_functions, object_at, object_row, row_of, IsObjectTable, IsTable};
+ghost use Rattle.klp_tables.specs.declared.fault.TableFault.TheVariants.{NoMemory, TooManyObjects};
 
 use crate::fault::TableFault;
-use crate::patch::{MAX_FUNCTIONS, MAX_OBJECTS, Object};
+use crate::limits::{MAX_FUNCTIONS, MAX_OBJECTS};
+use crate::patch::Object;
 use crate::place::row_place;
 use crate::row::{has_size, object_at};
 use crate::rows::functions_of;
@@ -22,8 +25,10 @@ fn object_with_functions<'a>(
     room: usize,
 ) -> Result<Option<Object<'a>>, TableFault>
     requires { room ≤ MAX_FUNCTIONS }
-    ensures { IfOk result (λ object. MatchOption object (object_at elf.now place ≡ Ok None)
-        (λ o. (object_at elf.now place ≡ Ok (Some (row_of o))) × has_functions elf.now o × (length o.functions.items ≤ room))) }
+    ensures { MatchResult result
+        (λ object. MatchOption object (object_at elf.now place ≡ Ok None)
+        (λ o. (object_at elf.now place ≡ Ok (Some (row_of o))) × has_functions elf.now o × (length o.functions.items ≤ room)))
+        (λ fault. (fault ≡ NoMemory) ⊎ IsObjectFault elf.now place room fault) }
 {
     let row = match object_at(elf, place) {
         Ok(Some(row)) => row,
@@ -42,8 +47,11 @@ fn objects_to_end<'a>(
     elf: &Elf<'a>,
     table: Place,
 ) -> Result<Vec<Object<'a>>, TableFault>
-    ensures { IfOk result (λ objects. IsTable (object_row elf.now table) (map row_of objects.items)
-        × All (has_functions elf.now) objects.items × (length objects.items ≤ MAX_OBJECTS)) }
+    ensures { MatchResult result
+        (λ objects. IsTable (object_row elf.now table) (map row_of objects.items)
+        × All (has_functions elf.now) objects.items × (length objects.items ≤ MAX_OBJECTS))
+        (λ fault. (fault ≡ NoMemory) ⊎ (FailsAtObject elf.now table fault
+        ⊎ ((fault ≡ TooManyObjects) × HasMoreRows (object_row elf.now table) MAX_OBJECTS))) }
 {
     let mut objects = Vec::new(alloc);
     let mut room = MAX_FUNCTIONS;
@@ -66,7 +74,8 @@ pub(crate) fn object_table<'a>(
     elf: &Elf<'a>,
     table: Place,
 ) -> Result<Vec<Object<'a>>, TableFault>
-    ensures { IfOk result (λ objects. IsObjectTable elf.now table objects.items) }
+    ensures { MatchResult result (λ objects. IsObjectTable elf.now table objects.items)
+        (λ fault. (fault ≡ NoMemory) ⊎ IsObjectTableFault elf.now table fault) }
 {
     let objects = match objects_to_end(alloc, elf, table) {
         Ok(objects) => objects,

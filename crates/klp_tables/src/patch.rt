@@ -1,15 +1,6 @@
 //! What the tables of a livepatch say.
 use klp_elf::Place;
 
-/// How many functions a patch may have.
-pub const MAX_FUNCTIONS: usize = 4096;
-
-/// How many objects a patch may have.
-pub const MAX_OBJECTS: usize = 256;
-
-/// How many states a patch may have.
-pub const MAX_STATES: usize = 64;
-
 /// Whether a patch replaces all patches before it.
 #[derive(Clone, Copy)]
 pub enum Replaces {

@@ -1,9 +1,11 @@
 //! The tables of a module's file.
-ghost use Rattle.std.specs.Prelude.{◌≡◌, Some, None, Ok, Err, IfOk};
+ghost use Rattle.std.specs.Prelude.{◌≡◌, ◌⊎◌, Some, None, Ok, Err, MatchResult};
 ghost use Rattle.klp_elf.specs.Looks.{pointer_at};
 ghost use Rattle.klp_elf.specs.declared.look.Pointer.TheVariants.{To};
+ghost use Rattle.klp_tables.specs.Faults.{table_by, IsPatchFault, IsStaticFault, IsStatesFault};
 ghost use Rattle.klp_tables.specs.Rows.{moved};
 ghost use Rattle.klp_tables.specs.Patches.{replaces_by, replaces_of, IsPatch, IsStaticPatch, IsStates};
+ghost use Rattle.klp_tables.specs.declared.fault.TableFault.TheVariants.{NoMemory};
 
 use crate::fault::TableFault;
 use crate::finding::{is_changed, patch_of};
@@ -39,7 +41,8 @@ fn replaces_of(elf: &Elf<'_>, patch: Place) -> Result<Replaces, TableFault>
 
 /// Reads the states of the patch with this struct.
 fn states_of(alloc: Global, elf: &Elf<'_>, patch: Place) -> Result<Vec<State>, TableFault>
-    ensures { IfOk result (λ states. IsStates elf.now (pointer_at elf.now (moved patch 16)) states.items) }
+    ensures { MatchResult result (λ states. IsStates elf.now (pointer_at elf.now (moved patch 16)) states.items)
+        (λ fault. (fault ≡ NoMemory) ⊎ IsStatesFault elf.now (moved patch 16) (pointer_at elf.now (moved patch 16)) fault) }
 {
     match elf.pointer(moved(patch, 16)) {
         Ok(Pointer::To(table)) => state_table(alloc, elf, table),
@@ -51,7 +54,8 @@ fn states_of(alloc: Global, elf: &Elf<'_>, patch: Place) -> Result<Vec<State>, T
 
 /// Returns where the objects of the patch with this struct are.
 fn objects_place(elf: &Elf<'_>, patch: Place) -> Result<Place, TableFault>
-    ensures { IfOk result (λ table. pointer_at elf.now (moved patch 8) ≡ Ok (To table)) }
+    ensures { MatchResult result (λ table. pointer_at elf.now (moved patch 8) ≡ Ok (To table))
+        (λ fault. table_by (moved patch 8) (pointer_at elf.now (moved patch 8)) ≡ Err fault) }
 {
     match elf.pointer(moved(patch, 8)) {
         Ok(Pointer::To(table)) => Ok(table),
@@ -62,7 +66,8 @@ fn objects_place(elf: &Elf<'_>, patch: Place) -> Result<Place, TableFault>
 
 /// Reads the patch with this struct.
 fn static_patch<'a>(alloc: Global, elf: &Elf<'a>, patch: Place) -> Result<Patch<'a>, TableFault>
-    ensures { IfOk result (λ read. IsStaticPatch elf.now patch read) }
+    ensures { MatchResult result (λ read. IsStaticPatch elf.now patch read)
+        (λ fault. (fault ≡ NoMemory) ⊎ IsStaticFault elf.now patch fault) }
 {
     let replaces = match replaces_of(elf, patch) {
         Ok(replaces) => replaces,
@@ -86,9 +91,9 @@ fn static_patch<'a>(alloc: Global, elf: &Elf<'a>, patch: Place) -> Result<Patch<
     }
 }
 
-/// Reads the tables of a livepatch. Returns as `Err` why they can't be read.
+/// Reads the tables of a livepatch. Returns as `Err` why they can't be read, or that memory ran out.
 pub fn read<'a>(alloc: Global, elf: &Elf<'a>) -> Result<Patch<'a>, TableFault>
-    ensures { IfOk result (λ patch. IsPatch elf.now patch) }
+    ensures { MatchResult result (λ patch. IsPatch elf.now patch) (λ fault. (fault ≡ NoMemory) ⊎ IsPatchFault elf.now fault) }
 {
     match patch_of(elf) {
         Ok(patch) => static_patch(alloc, elf, patch),

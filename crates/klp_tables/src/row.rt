@@ -78,18 +78,13 @@ fn named_function<'a>(
     ensures { MatchResult result (λ function. named_function elf.now place old new position ≡ Ok (function_meaning function))
         (λ fault. named_function elf.now place old new position ≡ Err fault) }
 {
-    let old_name = match name_to(elf, place, old) {
-        Ok(name) => name,
-        Err(fault) => return Err(fault),
-    };
-    match function_name_to(elf, moved(place, 8), new) {
-        Ok(new_name) => Ok(Function {
-            old_name,
-            position,
-            new_name,
-        }),
-        Err(fault) => Err(fault),
-    }
+    let old_name = name_to(elf, place, old)?;
+    let new_name = function_name_to(elf, moved(place, 8), new)?;
+    Ok(Function {
+        old_name,
+        position,
+        new_name,
+    })
 }
 
 /// Reads the row of a function. Returns `None` if it is empty.
@@ -100,25 +95,14 @@ pub(crate) fn function_at<'a>(
     ensures { MatchResult result (λ row. function_at elf.now place ≡ Ok (option_map function_meaning row))
         (λ fault. function_at elf.now place ≡ Err fault) }
 {
-    let old = match pointer(elf, place) {
-        Ok(old) => old,
-        Err(fault) => return Err(fault),
-    };
-    let new = match pointer(elf, moved(place, 8)) {
-        Ok(new) => new,
-        Err(fault) => return Err(fault),
-    };
-    let position = match number64(elf, moved(place, 16)) {
-        Ok(position) => position,
-        Err(fault) => return Err(fault),
-    };
+    let old = pointer(elf, place)?;
+    let new = pointer(elf, moved(place, 8))?;
+    let position = number64(elf, moved(place, 16))?;
     if is_null(old) && is_null(new) && position == 0 {
         return Ok(None);
     }
-    match named_function(elf, place, old, new, position) {
-        Ok(function) => Ok(Some(function)),
-        Err(fault) => Err(fault),
-    }
+    let function = named_function(elf, place, old, new, position)?;
+    Ok(Some(function))
 }
 
 /// Returns the name of an object. The kernel's image has none.
@@ -154,37 +138,24 @@ fn rows_to(at: Place, pointer: Pointer) -> Result<Option<Place>, TableFault>
 fn is_set(elf: &Elf<'_>, place: Place) -> Result<bool, TableFault>
     ensures { result ≡ is_set elf.now place }
 {
-    match pointer(elf, place) {
-        Ok(pointer) => Ok(!is_null(pointer)),
-        Err(fault) => Err(fault),
-    }
+    let pointer = pointer(elf, place)?;
+    Ok(!is_null(pointer))
 }
 
 /// Reads which of the four callbacks at a place there are.
 fn callbacks_at(elf: &Elf<'_>, place: Place) -> Result<Callbacks, TableFault>
     ensures { result ≡ callbacks_at elf.now place }
 {
-    let pre_patch = match is_set(elf, place) {
-        Ok(is_set) => is_set,
-        Err(fault) => return Err(fault),
-    };
-    let post_patch = match is_set(elf, moved(place, 8)) {
-        Ok(is_set) => is_set,
-        Err(fault) => return Err(fault),
-    };
-    let pre_unpatch = match is_set(elf, moved(place, 16)) {
-        Ok(is_set) => is_set,
-        Err(fault) => return Err(fault),
-    };
-    match is_set(elf, moved(place, 24)) {
-        Ok(post_unpatch) => Ok(Callbacks {
-            pre_patch,
-            post_patch,
-            pre_unpatch,
-            post_unpatch,
-        }),
-        Err(fault) => Err(fault),
-    }
+    let pre_patch = is_set(elf, place)?;
+    let post_patch = is_set(elf, moved(place, 8))?;
+    let pre_unpatch = is_set(elf, moved(place, 16))?;
+    let post_unpatch = is_set(elf, moved(place, 24))?;
+    Ok(Callbacks {
+        pre_patch,
+        post_patch,
+        pre_unpatch,
+        post_unpatch,
+    })
 }
 
 /// Returns the object of a row with these pointers.
@@ -197,22 +168,14 @@ fn named_object<'a>(
     ensures { MatchResult result (λ row. named_object elf.now place name functions ≡ Ok (object_meaning row))
         (λ fault. named_object elf.now place name functions ≡ Err fault) }
 {
-    let name = match object_name_to(elf, place, name) {
-        Ok(name) => name,
-        Err(fault) => return Err(fault),
-    };
-    let functions = match rows_to(moved(place, 8), functions) {
-        Ok(functions) => functions,
-        Err(fault) => return Err(fault),
-    };
-    match callbacks_at(elf, moved(place, 16)) {
-        Ok(callbacks) => Ok(ObjectRow {
-            name,
-            functions,
-            callbacks,
-        }),
-        Err(fault) => Err(fault),
-    }
+    let name = object_name_to(elf, place, name)?;
+    let functions = rows_to(moved(place, 8), functions)?;
+    let callbacks = callbacks_at(elf, moved(place, 16))?;
+    Ok(ObjectRow {
+        name,
+        functions,
+        callbacks,
+    })
 }
 
 /// Reads the row of a `struct klp_object`. Returns `None` if it is empty.
@@ -223,36 +186,25 @@ pub(crate) fn object_at<'a>(
     ensures { MatchResult result (λ row. object_at elf.now place ≡ Ok (option_map object_meaning row))
         (λ fault. object_at elf.now place ≡ Err fault) }
 {
-    let name = match pointer(elf, place) {
-        Ok(name) => name,
-        Err(fault) => return Err(fault),
-    };
-    let functions = match pointer(elf, moved(place, 8)) {
-        Ok(functions) => functions,
-        Err(fault) => return Err(fault),
-    };
+    let name = pointer(elf, place)?;
+    let functions = pointer(elf, moved(place, 8))?;
     if is_null(name) && is_null(functions) {
         return Ok(None);
     }
-    match named_object(elf, place, name, functions) {
-        Ok(row) => Ok(Some(row)),
-        Err(fault) => Err(fault),
-    }
+    let row = named_object(elf, place, name, functions)?;
+    Ok(Some(row))
 }
 
 /// Reads the row of a `struct klp_state`. Returns `None` if it is empty.
 pub(crate) fn state_at(elf: &Elf<'_>, place: Place) -> Result<Option<State>, TableFault>
     ensures { result ≡ state_at elf.now place }
 {
-    let id = match number64(elf, place) {
-        Ok(0) => return Ok(None),
-        Ok(id) => id,
-        Err(fault) => return Err(fault),
-    };
-    match number32(elf, moved(place, 8)) {
-        Ok(version) => Ok(Some(State { id, version })),
-        Err(fault) => Err(fault),
+    let id = number64(elf, place)?;
+    if id == 0 {
+        return Ok(None);
     }
+    let version = number32(elf, moved(place, 8))?;
+    Ok(Some(State { id, version }))
 }
 
 /// Whether the variable that begins at a place, if there is one, has this size.

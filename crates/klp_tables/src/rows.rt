@@ -1,9 +1,12 @@
 //! All rows of a table, in order.
-ghost use Rattle.std.specs.Prelude.{◌≡◌, ◌≤◌, ◌<◌, ◌+◌, ◌*◌, true, map, length, Some, None, IfOk};
+ghost use Rattle.std.specs.Prelude.{◌≡◌, ◌⊎◌, ◌≤◌, ◌<◌, ◌+◌, ◌*◌, true, map, length, Some, None, MatchResult};
+ghost use Rattle.klp_tables.specs.Faults.{IsFunctionsFault, IsFunctionTableFault, IsRowsFault, IsStateTableFault};
 ghost use Rattle.klp_tables.specs.Rows.{function_meaning, function_row, IsFunctions, IsFunctionTable, IsStateTable, IsTable, state_row};
+ghost use Rattle.klp_tables.specs.declared.fault.TableFault.TheVariants.{NoMemory, TooManyFunctions, TooManyStates};
 
 use crate::fault::TableFault;
-use crate::patch::{Function, MAX_FUNCTIONS, MAX_STATES, State};
+use crate::limits::{MAX_FUNCTIONS, MAX_STATES};
+use crate::patch::{Function, State};
 use crate::place::row_place;
 use crate::row::{function_at, has_size, state_at};
 use klp_elf::{Elf, Place};
@@ -22,8 +25,9 @@ fn functions_to_end<'a>(
     room: usize,
 ) -> Result<Vec<Function<'a>>, TableFault>
     requires { room ≤ MAX_FUNCTIONS }
-    ensures { IfOk result (λ functions. IsTable (function_row elf.now table) (map function_meaning functions.items)
-        × (length functions.items ≤ room)) }
+    ensures { MatchResult result
+        (λ functions. IsTable (function_row elf.now table) (map function_meaning functions.items) × (length functions.items ≤ room))
+        (λ fault. (fault ≡ NoMemory) ⊎ IsRowsFault (function_row elf.now table) room TooManyFunctions fault) }
 {
     let mut functions = Vec::new(alloc);
     for k in 0..room + 1 {
@@ -44,7 +48,8 @@ fn function_table<'a>(
     room: usize,
 ) -> Result<Vec<Function<'a>>, TableFault>
     requires { room ≤ MAX_FUNCTIONS }
-    ensures { IfOk result (λ functions. IsFunctionTable elf.now table functions.items × (length functions.items ≤ room)) }
+    ensures { MatchResult result (λ functions. IsFunctionTable elf.now table functions.items × (length functions.items ≤ room))
+        (λ fault. (fault ≡ NoMemory) ⊎ IsFunctionTableFault elf.now table room fault) }
 {
     let functions = match functions_to_end(alloc, elf, table, room) {
         Ok(functions) => functions,
@@ -66,7 +71,8 @@ pub(crate) fn functions_of<'a>(
     room: usize,
 ) -> Result<Vec<Function<'a>>, TableFault>
     requires { room ≤ MAX_FUNCTIONS }
-    ensures { IfOk result (λ functions. IsFunctions elf.now table functions.items × (length functions.items ≤ room)) }
+    ensures { MatchResult result (λ functions. IsFunctions elf.now table functions.items × (length functions.items ≤ room))
+        (λ fault. (fault ≡ NoMemory) ⊎ IsFunctionsFault elf.now table room fault) }
 {
     match table {
         Some(table) => function_table(alloc, elf, table, room),
@@ -76,7 +82,8 @@ pub(crate) fn functions_of<'a>(
 
 /// Reads states up to the first empty row.
 fn states_to_end(alloc: Global, elf: &Elf<'_>, table: Place) -> Result<Vec<State>, TableFault>
-    ensures { IfOk result (λ states. IsTable (state_row elf.now table) states.items) }
+    ensures { MatchResult result (λ states. IsTable (state_row elf.now table) states.items)
+        (λ fault. (fault ≡ NoMemory) ⊎ IsRowsFault (state_row elf.now table) MAX_STATES TooManyStates fault) }
 {
     let mut states = Vec::new(alloc);
     for k in 0..MAX_STATES + 1 {
@@ -95,7 +102,8 @@ pub(crate) fn state_table(
     elf: &Elf<'_>,
     table: Place,
 ) -> Result<Vec<State>, TableFault>
-    ensures { IfOk result (λ states. IsStateTable elf.now table states.items) }
+    ensures { MatchResult result (λ states. IsStateTable elf.now table states.items)
+        (λ fault. (fault ≡ NoMemory) ⊎ IsStateTableFault elf.now table fault) }
 {
     let states = match states_to_end(alloc, elf, table) {
         Ok(states) => states,

@@ -1,7 +1,8 @@
 use Rattle.std.proofs.Common.{◌≡◌, ◌≤◌, length, map}
 use Rattle.std.specs.List.{All}
+use Rattle.klp_tables.specs.Faults.{room_behind}
 use Rattle.klp_tables.specs.Rows.{has_functions, object_row, row_of, IsBegun}
-use Rattle.klp_tables.specs.declared.patch.TheConstants.{MAX_FUNCTIONS}
+use Rattle.klp_tables.specs.declared.limits.TheConstants.{MAX_FUNCTIONS}
 use Rattle.klp_tables.proofs.objects.objects_to_end.Given as goal
 
 abbrev pub invariant-loop-k : goal.invariant-loop-k
@@ -10,4 +11,5 @@ invariant-loop-k l = record {
   functions : All (has_functions l.elf) l.objects.items;
   count : length l.objects.items ≡ l.k;
   small : l.room ≤ MAX_FUNCTIONS;
+  left : l.room ≡ room_behind l.objects.items;
 }
