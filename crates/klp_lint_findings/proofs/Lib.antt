@@ -1,1 +1,2 @@
 pub mod SaidLemmas
+pub mod MarkLemmas

@@ -1,3 +1,4 @@
 pub mod Deciding
 pub mod Traces
 pub mod Sound
+pub mod Marking

@@ -4,7 +4,13 @@
 //! made from a module's file has marks, since the file doesn't show what each callback does. All other programs pass
 //! over marks, as over each comment.
 
-use klp_catalog_text::words_of;
+ghost use Rattle.std.specs.Prelude.{◌≡◌, ◌||◌, true, false, IfOk, IfSome, MatchOption, bytes_eq, codes, drop, nat_eq};
+ghost use Rattle.std.specs.List.{list_any, starts_with};
+ghost use Rattle.klp_catalog_text.specs.Lines.{words_of};
+ghost use Rattle.klp_lint_findings.specs.Deciding.{is_unknown_word, is_unknown};
+ghost use Rattle.klp_lint_findings.specs.Marking.{begins_unknown, is_unknown_line, has_unknown};
+
+use klp_catalog_text::{Lines, words_of};
 use klp_messages::word_at;
 use std::alloc::{AllocError, Global};
 
@@ -86,12 +92,16 @@ fn number_of(word: &[u8]) -> Option<u64> {
 }
 
 /// Whether two words are equal, byte by byte.
-fn is_word(word: &[u8], other: &[u8]) -> bool {
+fn is_word(word: &[u8], other: &[u8]) -> bool
+    ensures { result ≡ bytes_eq word.now other.now }
+{
     word == other
 }
 
 /// What `left out N functions, M targets` says. `None` if the words have another form.
-fn left_out(words: &[u8]) -> Option<MarkWord> {
+fn left_out(words: &[u8]) -> Option<MarkWord>
+    ensures { IfSome result (λ word. is_unknown_word word ≡ false) }
+{
     let word = |number: usize| word_at(words_of(words), number);
     let is_form = is_word(word(2), b"out")
         && is_word(word(4), b"functions,")
@@ -105,14 +115,24 @@ fn left_out(words: &[u8]) -> Option<MarkWord> {
     }
 }
 
-/// What the words of a mark say. `None` if no mark has this form.
-fn meaning_of(words: &[u8]) -> Option<MarkWord> {
+/// Whether the first word of a mark is `unknown`.
+fn begins_unknown(words: &[u8]) -> bool
+    ensures { result ≡ begins_unknown (words_of words.now) }
+{
+    match words_of(words).next() {
+        Some(first) => is_word(first, b"unknown"),
+        None => false,
+    }
+}
+
+/// What the words of a mark say whose first word isn't `unknown`. `None` if no such mark has this form.
+fn known_meaning_of(words: &[u8]) -> Option<MarkWord>
+    ensures { IfSome result (λ word. is_unknown_word word ≡ false) }
+{
     let first = word_at(words_of(words), 1);
     let is_alone = word_at(words_of(words), 2).is_empty();
     if is_word(first, b"guessed") && !is_alone {
         Some(MarkWord::Guessed)
-    } else if is_word(first, b"unknown") && !is_alone {
-        Some(MarkWord::Unknown)
     } else if is_word(first, b"assumed") && !is_alone {
         Some(MarkWord::Assumed)
     } else if is_word(first, b"data") && is_alone {
@@ -123,6 +143,21 @@ fn meaning_of(words: &[u8]) -> Option<MarkWord> {
         Some(MarkWord::FailsIfThere)
     } else {
         None
+    }
+}
+
+/// What the words of a mark say. `None` if no mark has this form.
+fn meaning_of(words: &[u8]) -> Option<MarkWord>
+    ensures { IfSome result (λ word. is_unknown_word word ≡ begins_unknown (words_of words.now)) }
+{
+    if !begins_unknown(words) {
+        return known_meaning_of(words);
+    }
+    let is_alone = word_at(words_of(words), 2).is_empty();
+    if is_alone {
+        None
+    } else {
+        Some(MarkWord::Unknown)
     }
 }
 
@@ -145,14 +180,6 @@ fn fits(mark: MarkWord, word: &[u8]) -> bool {
     }
 }
 
-/// A line without a carriage return at its end.
-fn without_return(line: &[u8]) -> &[u8] {
-    match line {
-        [front @ .., b'\r'] => front,
-        _ => line,
-    }
-}
-
 /// Where a walk over the lines of a catalog is.
 #[derive(Clone, Copy)]
 struct Place<'a> {
@@ -165,9 +192,20 @@ struct Place<'a> {
     objects: usize,
 }
 
+/// The words of a mark: what is behind [`MARK_PREFIX`]. `None` if the line is no mark.
+fn words_in(line: &[u8]) -> Option<&[u8]>
+    ensures { MatchOption result (starts_with nat_eq line.now (codes "#? ") ≡ false)
+        (λ words. (starts_with nat_eq line.now (codes "#? ") ≡ true) × (words.now ≡ drop 3 line.now)) }
+{
+    line.strip_prefix(MARK_PREFIX)
+}
+
 /// The mark of a line. `None` if the line is no mark.
-fn mark_in(line: &[u8], place: &Place<'_>) -> Result<Option<Mark>, MarkFault> {
-    let Some(words) = line.strip_prefix(MARK_PREFIX) else {
+fn mark_in(line: &[u8], place: &Place<'_>) -> Result<Option<Mark>, MarkFault>
+    ensures { IfOk result (λ found. MatchOption found (is_unknown_line line.now ≡ false)
+        (λ mark. is_unknown mark ≡ is_unknown_line line.now)) }
+{
+    let Some(words) = words_in(line) else {
         return Ok(None);
     };
     let number = place.number;
@@ -191,8 +229,26 @@ fn mark_in(line: &[u8], place: &Place<'_>) -> Result<Option<Mark>, MarkFault> {
     }))
 }
 
-/// The place behind a line that is no comment.
+/// Adds the mark of a line, if the line is one.
+fn add_mark(marks: &mut Vec<Mark>, line: &[u8], place: &Place<'_>) -> Result<(), NoMarks>
+    ensures { IfOk result (λ done. list_any is_unknown marks.new.items
+        ≡ (list_any is_unknown marks.old.items || is_unknown_line line.now)) }
+{
+    match mark_in(line, place) {
+        Ok(Some(mark)) => {
+            marks.push(mark).map_err(AllocError::from)?;
+            Ok(())
+        }
+        Ok(None) => Ok(()),
+        Err(fault) => Err(NoMarks::Fault(fault)),
+    }
+}
+
+/// The place behind a line. A comment changes nothing.
 fn behind<'a>(place: Place<'a>, line: &'a [u8]) -> Place<'a> {
+    if line.first() == Some(&b'#') {
+        return place;
+    }
     let is_object = is_word(word_at(words_of(line), 1), b"object");
     let objects = if is_object {
         place.objects.saturating_add(1)
@@ -207,8 +263,11 @@ fn behind<'a>(place: Place<'a>, line: &'a [u8]) -> Place<'a> {
     }
 }
 
-/// Reads the marks of a catalog, in the order of the text. `Err` has the first faulty mark.
-pub fn read_marks(alloc: Global, text: &[u8]) -> Result<Vec<Mark>, NoMarks> {
+/// Reads the marks of a catalog, in the order of the text. A mark says that something isn't known exactly if a line of the
+/// text does. `Err` has the first faulty mark.
+pub fn read_marks(alloc: Global, text: &[u8]) -> Result<Vec<Mark>, NoMarks>
+    ensures { IfOk result (λ marks. list_any is_unknown marks.items ≡ has_unknown text.now) }
+{
     let mut marks = Vec::new(alloc);
     let mut place = Place {
         number: 0,
@@ -216,17 +275,11 @@ pub fn read_marks(alloc: Global, text: &[u8]) -> Result<Vec<Mark>, NoMarks> {
         about: 0,
         objects: 0,
     };
-    for line in text.split(|b| *b == b'\n') {
-        let line = without_return(line);
+    let mut rest = Lines::new(text);
+    while let Some(line) = rest.next() {
         place.number = place.number.saturating_add(1);
-        match mark_in(line, &place) {
-            Ok(Some(mark)) => marks.push(mark).map_err(AllocError::from)?,
-            Ok(None) => {}
-            Err(fault) => return Err(NoMarks::Fault(fault)),
-        }
-        if line.first() != Some(&b'#') {
-            place = behind(place, line);
-        }
+        add_mark(&mut marks, line, &place)?;
+        place = behind(place, line);
     }
     Ok(marks)
 }

@@ -15,6 +15,6 @@ mod words;
 mod writing;
 
 pub use klp_lint_findings::{LintInput, NamedText};
-pub use klp_lint_together::LintFault;
+pub use klp_lint_worlds::LintFault;
 pub use lint::{lint_over_text, print_mark_fault};
 pub use writing::Form;

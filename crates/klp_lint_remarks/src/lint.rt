@@ -1,11 +1,13 @@
 //! Judges the patches of a catalog, and writes what is found.
+ghost use Rattle.std.specs.Prelude.{◌≡◌, true, IfOk};
+ghost use Rattle.klp_lint_worlds.specs.Whole.{IsCleanText};
 
 use crate::mark_words::MarkFaultWords;
 use crate::writing::{Form, write_findings};
 use klp_boot::Fault;
 use klp_console::ServeFault;
 use klp_lint_findings::{LintInput, MarkFault};
-use klp_lint_together::{LintFault, LintPlan, find_all};
+use klp_lint_worlds::{LintFault, LintPlan, find_all};
 use klp_messages::Escaped;
 use std::alloc::Global;
 use std::io;
@@ -20,13 +22,16 @@ fn write_fault(error: &io::Error) -> Fault {
     }
 }
 
-/// Judges the patches of a catalog, and writes what is found. Returns whether no finding makes the status 3.
+/// Judges the patches of a catalog, and writes what is found. Returns whether no finding makes the status 3. If so, each
+/// patch of the text is ready in the worlds that are judged: it can be loaded, and leaves no trace.
 pub fn lint_over_text<W: Write>(
     alloc: Global,
     input: LintInput<'_>,
     form: Form,
     out: &mut W,
-) -> Result<bool, LintFault> {
+) -> Result<bool, LintFault>
+    ensures { IfOk result (λ clean. clean ≡ true → IsCleanText input.entry.catalog.bytes.now input.entry.script) }
+{
     let plan = LintPlan::read(alloc, input.catalog.bytes)?;
     let found = find_all(alloc, input, &plan)?;
     match write_findings(alloc, form, &found, out) {

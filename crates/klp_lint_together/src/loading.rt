@@ -1,7 +1,13 @@
 //! Loads patches one after another, and takes the loading back. Afterwards the manager's state is as before, except for
 //! the counts of its callbacks.
-ghost use Rattle.std.specs.Prelude.{◌≡◌};
-ghost use Rattle.klp_core.specs.Journaled.{IsWellFormed};
+ghost use Rattle.std.specs.Prelude.{◌≡◌, ◌≤◌, length, IfOk};
+ghost use Rattle.klp_core.specs.Journaled.{IsWellFormed, Journaled};
+ghost use Rattle.klp_core.specs.Taking.{answer_in};
+ghost use Rattle.klp_manager_state.specs.Managed.{setting_of};
+ghost use Rattle.klp_model.specs.declared.event.Event.TheVariants as AnyEvent;
+ghost use Rattle.klp_lint_together.specs.declared.loading.LoadOutcome.TheVariants as AnyOutcome;
+ghost use Rattle.klp_lint_together.specs.Kept.{IsAsBefore, IsFurther};
+ghost use Rattle.klp_lint_together.specs.Starting.{outcome_of, CanStart};
 
 use crate::twice::{TwiceAdded, twice_added};
 use klp_core::Manager;
@@ -82,9 +88,10 @@ impl Tried {
     }
 }
 
-/// What a manager would answer to `event` after `events`.
+/// What a manager would answer to `event` after `events`. All of them are taken back.
 fn reply_to(manager: &mut Manager, events: &[Event], event: &Event) -> Result<Reply, Refusal>
     requires { IsWellFormed manager.old }
+    ensures { IsAsBefore manager.old manager.new }
 {
     reply_behind(manager, events, event)
 }
@@ -103,13 +110,16 @@ pub(crate) fn events_for(below: &[PatchId]) -> Loading {
 }
 
 /// The outcome for this answer to an `Enable`.
-fn outcome_of(answer: &Result<Reply, Refusal>) -> LoadOutcome {
+fn outcome_of(answer: &Result<Reply, Refusal>) -> LoadOutcome
+    ensures { result ≡ outcome_of answer.now }
+{
     match answer {
+        Ok(Reply::Started) => LoadOutcome::Started,
         Ok(Reply::PreFailed(_, object, status)) => LoadOutcome::Failed {
             object: *object,
             status: *status,
         },
-        Ok(_) => LoadOutcome::Started,
+        Ok(_) => LoadOutcome::Refused,
         Err(Refusal::Incompatible) => LoadOutcome::Incompatible,
         Err(Refusal::NoSymbol) => LoadOutcome::NoSymbol,
         Err(Refusal::Full) => LoadOutcome::Full,
@@ -118,50 +128,68 @@ fn outcome_of(answer: &Result<Reply, Refusal>) -> LoadOutcome {
     }
 }
 
-/// How the transition ends with a poll after these events.
-pub(crate) fn end_of(manager: &mut Manager, events: &[Event]) -> End {
-    let _for_its_clause = manager.mark();
-    match reply_to(manager, events, &Event::Poll) {
+/// How a transition ends, for this answer to a `Poll`.
+fn end_for(answer: &Result<Reply, Refusal>) -> End {
+    match answer {
         Ok(Reply::Completed(_)) => End::Completed,
-        Ok(Reply::Pending(count)) => End::Pending(count),
+        Ok(Reply::Pending(count)) => End::Pending(*count),
         _ => End::Other,
     }
 }
 
-/// Does the events in order.
-fn run(manager: &mut Manager, events: &[Event])
+/// How the transition ends with a poll after these events.
+pub(crate) fn end_of(manager: &mut Manager, events: &[Event]) -> End
+    ensures { IsAsBefore manager.old manager.new }
+{
+    let _for_its_clause = manager.mark();
+    end_for(&reply_to(manager, events, &Event::Poll))
+}
+
+/// Does the events in order. Some may be refused, as the `Enable` of a patch that can't be loaded. Who calls this looks at
+/// the manager afterwards, so the answers are left out. What was done can be taken back.
+pub(crate) fn run(manager: &mut Manager, events: &[Event])
     requires { IsWellFormed manager.old }
+    ensures { IsFurther manager.old manager.new }
 {
     let _ = manager.run(events);
 }
 
-/// Undoes all events after the first `mark`.
+/// Undoes all events after the first `mark`. If the manager went on from where it had `mark` events, it is as it was
+/// then. If it had fewer events, it still goes on from there.
 pub(crate) fn take_back(manager: &mut Manager, mark: u32)
     requires { IsWellFormed manager.old }
+    ensures back { (start : Journaled) → IsWellFormed start → mark ≡ length start.groups
+        → IsFurther start manager.old → IsAsBefore start manager.new }
+    ensures further { (start : Journaled) → length start.groups ≤ mark
+        → IsFurther start manager.old → IsFurther start manager.new }
 {
     let _ = manager.rewind(mark);
 }
 
 /// Starts the transition of a patch, if the rules let it.
-fn start(manager: &mut Manager, patch: PatchId) -> LoadOutcome
+pub(crate) fn start(manager: &mut Manager, patch: PatchId) -> LoadOutcome
     requires { IsWellFormed manager.old }
+    ensures outcome { result ≡ outcome_of (answer_in (setting_of manager.old.managed) manager.old.managed.state
+        manager.old.groups (AnyEvent.Enable patch)) }
+    ensures further { IsFurther manager.old manager.new }
 {
     outcome_of(&manager.apply(Event::Enable(patch)))
 }
 
 /// Polls once, which completes a transition that waits for no task.
-fn finish(manager: &mut Manager) -> End
+pub(crate) fn finish(manager: &mut Manager) -> End
     requires { IsWellFormed manager.old }
+    ensures { IsFurther manager.old manager.new }
 {
-    match manager.apply(Event::Poll) {
-        Ok(Reply::Completed(_)) => End::Completed,
-        Ok(Reply::Pending(count)) => End::Pending(count),
-        _ => End::Other,
-    }
+    end_for(&manager.apply(Event::Poll))
 }
 
 /// The outcome of loading a patch now by the rules alone, and how its transition ends.
-fn try_ruled(manager: &mut Manager, patch: PatchId) -> Tried {
+fn try_ruled(manager: &mut Manager, patch: PatchId) -> Tried
+    ensures starts { result.outcome ≡ AnyOutcome.Started
+        → CanStart (setting_of manager.old.managed) manager.old.managed.state patch }
+    ensures kept { IsAsBefore manager.old manager.new }
+{
     let mark = manager.mark();
     let outcome = start(manager, patch);
     let _for_its_clause = manager.mark();
@@ -172,7 +200,11 @@ fn try_ruled(manager: &mut Manager, patch: PatchId) -> Tried {
 }
 
 /// The outcome of loading a patch now, by the rules and by marks, and how its transition ends.
-fn try_now(linted: &Linted<'_>, manager: &mut Manager, patch: PatchId) -> Tried {
+pub(crate) fn try_now(linted: &Linted<'_>, manager: &mut Manager, patch: PatchId) -> Tried
+    ensures starts { result.outcome ≡ AnyOutcome.Started
+        → CanStart (setting_of manager.old.managed) manager.old.managed.state patch }
+    ensures kept { IsAsBefore manager.old manager.new }
+{
     let tried = try_ruled(manager, patch);
     if tried.outcome != LoadOutcome::Started {
         return tried;
@@ -193,7 +225,9 @@ pub(crate) fn try_each(
     manager: &mut Manager,
     below: &[PatchId],
     patches: &PatchList,
-) -> Result<Vec<Tried>, AllocError> {
+) -> Result<Vec<Tried>, AllocError>
+    ensures { IfOk result (λ all. IsAsBefore manager.old manager.new) }
+{
     // For the borrow checker only: names the types that are parts of a try.
     let _parts: Option<Parts> = None;
     let mut all = Vec::new(alloc);
@@ -265,7 +299,7 @@ impl Outcomes {
 }
 
 /// Those of the first `count` patches that aren't installed.
-pub(crate) fn not_installed(manager: &Manager, count: usize) -> PatchList {
+pub fn not_installed(manager: &Manager, count: usize) -> PatchList {
     let mut free = PatchList::new();
     for number in 0..count {
         let patch = patch_id(number);
@@ -294,7 +328,9 @@ fn fill_row(
     manager: &mut Manager,
     outcomes: &mut Outcomes,
     below: &[PatchId],
-) -> Result<(), AllocError> {
+) -> Result<(), AllocError>
+    ensures { IfOk result (λ done. IsAsBefore manager.old manager.new) }
+{
     let others = all_but(&outcomes.free, below);
     let row = try_each(alloc, linted, manager, below, &others)?;
     for (patch, tried) in others.as_slice().iter().zip(row.as_slice().iter()) {
@@ -308,7 +344,9 @@ pub(crate) fn try_all(
     alloc: Global,
     linted: &Linted<'_>,
     manager: &mut Manager,
-) -> Result<Outcomes, AllocError> {
+) -> Result<Outcomes, AllocError>
+    ensures { IfOk result (λ outcomes. IsAsBefore manager.old manager.new) }
+{
     let count = linted.patches.len();
     let mut outcomes = Outcomes::new(alloc, not_installed(manager, count), count)?;
     fill_row(alloc, linted, manager, &mut outcomes, &[])?;

@@ -1,11 +1,11 @@
 //! Finds what a cumulative patch does to the patches that it takes out.
 ghost use Rattle.std.specs.Prelude.{◌≡◌, IfOk};
-ghost use Rattle.klp_core.specs.Journaled.{IsWellFormed};
 ghost use Rattle.klp_lint_findings.specs.Sound.{Grows};
+ghost use Rattle.klp_lint_together.specs.Kept.{IsAsBefore};
 
 use crate::changes::{Change, change_of, keys_changed};
 use crate::hiding::{ChangedSites, lost_functions};
-use crate::loading::{End, Loading, Outcomes, end_of, events_for};
+use crate::loading::{End, Loading, Outcomes, end_of, events_for, run, take_back};
 use crate::twice::{TwiceAdded, is_there, twice_added};
 use klp_catalog_text::PlanPatch;
 use klp_core::Manager;
@@ -24,12 +24,13 @@ struct Cumulative<'a> {
 /// The value that a system state of a patch would have after these events. `None` if the patch isn't installed then, or
 /// doesn't name the state.
 fn state_after(manager: &mut Manager, events: &[Event], patch: PatchId, id: u64) -> Option<u64>
-    requires { IsWellFormed manager.old }
+    ensures { IsAsBefore manager.old manager.new }
 {
     let mark = manager.mark();
-    let _ = manager.run(events);
+    run(manager, events);
     let value = manager.state_of(patch, id);
-    let _ = manager.rewind(mark);
+    let _for_its_clause = manager.mark();
+    take_back(manager, mark);
     value
 }
 
@@ -74,12 +75,13 @@ fn is_newest_with(
 }
 
 /// The value that a system state of `other` has when a cumulative patch takes `other` out.
-fn value_lost(manager: &mut Manager, outcomes: &Outcomes, other: PatchId, id: u64) -> Option<u64> {
+fn value_lost(manager: &mut Manager, outcomes: &Outcomes, other: PatchId, id: u64) -> Option<u64>
+    ensures { IsAsBefore manager.old manager.new }
+{
     if !outcomes.free.contains(other) {
         return manager.state_of(other, id);
     }
     let events = events_for(&[other]);
-    let _for_its_clause = manager.mark();
     state_after(manager, events.events(), other, id)
 }
 
@@ -99,7 +101,8 @@ fn find_state(
     other: PatchId,
     id: u64,
 ) -> Result<(), AllocError>
-    ensures { IfOk result (λ done. Grows found.old found.new) }
+    ensures grows { IfOk result (λ done. Grows found.old found.new) }
+    ensures kept { IfOk result (λ done. IsAsBefore manager.old manager.new) }
 {
     let Cumulative { patch, plan } = *own;
     if !names_state(plan, id) {
@@ -166,7 +169,9 @@ fn events_withdrawing(patch: PatchId) -> Loading {
 
 /// Whether a variable is there, or missing, all the time from the end of the first patch's transition to the end of the
 /// events.
-fn stays_so(manager: &mut Manager, events: &Loading, key: ShadowKey, is_wanted: bool) -> bool {
+fn stays_so(manager: &mut Manager, events: &Loading, key: ShadowKey, is_wanted: bool) -> bool
+    ensures { IsAsBefore manager.old manager.new }
+{
     let all = events.events().len();
     for count in LOADED..all.saturating_add(1) {
         if is_there(manager, events.first(count), key) != is_wanted {
@@ -184,7 +189,9 @@ fn variable_lost(
     other: PatchId,
     key: ShadowKey,
     is_sure: bool,
-) -> Option<ReplaceFinding> {
+) -> Option<ReplaceFinding>
+    ensures { IsAsBefore manager.old manager.new }
+{
     let was_there = manager.shadow_get(key).is_some();
     if !stays_so(manager, events, key, !was_there) {
         return None;
@@ -218,7 +225,8 @@ fn find_not_again(
     patch: PatchId,
     other: PatchId,
 ) -> Result<(), AllocError>
-    ensures { IfOk result (λ done. Grows found.old found.new) }
+    ensures grows { IfOk result (λ done. Grows found.old found.new) }
+    ensures kept { IfOk result (λ done. IsAsBefore manager.old manager.new) }
 {
     let linted = found.linted;
     match twice_added(&linted, manager, events.events(), other) {
@@ -239,7 +247,8 @@ fn find_lost_variables(
     other: PatchId,
     gone: &PlanPatch,
 ) -> Result<(), AllocError>
-    ensures { IfOk result (λ done. Grows found.old found.new) }
+    ensures grows { IfOk result (λ done. Grows found.old found.new) }
+    ensures kept { IfOk result (λ done. IsAsBefore manager.old manager.new) }
 {
     let mut events = events_replacing(other, patch);
     if end_of(manager, events.events()) != End::Completed {
@@ -267,7 +276,8 @@ fn find_lost(
     own: &Cumulative<'_>,
     other: PatchId,
 ) -> Result<(), AllocError>
-    ensures { IfOk result (λ done. Grows found.old found.new) }
+    ensures grows { IfOk result (λ done. Grows found.old found.new) }
+    ensures kept { IfOk result (λ done. IsAsBefore manager.old manager.new) }
 {
     let linted = found.linted;
     let Some(gone) = linted.patch(other) else {
@@ -292,7 +302,8 @@ pub(crate) fn find_replacing(
     changed: &ChangedSites,
     patch: PatchId,
 ) -> Result<(), AllocError>
-    ensures { IfOk result (λ done. Grows found.old found.new) }
+    ensures grows { IfOk result (λ done. Grows found.old found.new) }
+    ensures kept { IfOk result (λ done. IsAsBefore manager.old manager.new) }
 {
     let linted = found.linted;
     let Some(own) = linted.patch(patch) else {

@@ -1,55 +1,23 @@
 //! Finds out what happens to patches that are loaded over others. Each patch is loaded alone, over one other patch, and
 //! over two others.
-ghost use Rattle.std.specs.Prelude.{IfOk};
+ghost use Rattle.std.specs.Prelude.{◌≡◌, ℕ, ◌<◌, ◌≤◌, length, None, IfOk};
+ghost use Rattle.klp_manager_state.specs.Managed.{setting_of};
 ghost use Rattle.klp_lint_findings.specs.Sound.{Grows};
+ghost use Rattle.klp_lint_together.specs.Kept.{IsAsBefore};
+ghost use Rattle.klp_lint_together.specs.Starting.{StartsUnlessReported};
 
 use crate::hiding::{ChangedSites, find_same_functions};
-use crate::loading::{End, LoadOutcome, Outcomes, Tried, all_but, try_all, try_each};
+use crate::loading::{LoadOutcome, Outcomes, all_but, try_all, try_each};
 use crate::orders::count_orders;
 use crate::replacing::find_replacing;
-use crate::state_conflict::conflict_with;
+use crate::starting::find_each_alone;
+use crate::why::why_of;
 use klp_core::Manager;
 use klp_lint_findings::{
-    CountFinding, Finding, Findings, Linted, LoadFinding, PatchList, Tally, Together, WhyNotLoaded,
-    WhyStays,
+    CountFinding, Finding, Findings, Linted, LoadFinding, PatchList, Tally, Together,
 };
 use klp_types::PatchId;
 use std::alloc::{AllocError, Global};
-
-/// Returns why a patch can't be loaded over the patches in `below`. `outcome` is the outcome of loading it. `None` if
-/// it is loaded, or if a function's symbol isn't there: a finding about the function says so.
-fn why_of(
-    linted: &Linted<'_>,
-    manager: &Manager,
-    below: &[PatchId],
-    patch: PatchId,
-    outcome: LoadOutcome,
-) -> Option<WhyNotLoaded> {
-    match outcome {
-        LoadOutcome::Started | LoadOutcome::NoSymbol => None,
-        LoadOutcome::Failed { object, status } => Some(WhyNotLoaded::Fails { object, status }),
-        LoadOutcome::Exists { object, key } => Some(WhyNotLoaded::Exists { object, key }),
-        LoadOutcome::Incompatible => {
-            let installed = manager.installed();
-            match conflict_with(linted, installed.as_slice(), below, patch) {
-                Some(conflict) => Some(WhyNotLoaded::Conflicts(conflict)),
-                None => Some(WhyNotLoaded::Refused),
-            }
-        }
-        LoadOutcome::Full => Some(WhyNotLoaded::Full),
-        LoadOutcome::Pinned => Some(WhyNotLoaded::Pinned),
-        LoadOutcome::Refused => Some(WhyNotLoaded::Refused),
-    }
-}
-
-/// That a patch isn't loaded over the patches in `below`, or at all if there are none.
-fn not_loaded(below: &[PatchId], why: WhyNotLoaded) -> LoadFinding {
-    if below.is_empty() {
-        return LoadFinding::NotStarted { why };
-    }
-    let below = PatchList::of(below);
-    LoadFinding::NotOver { below, why }
-}
 
 /// Adds that a patch can't be loaded over the patches in `below`, if it can't.
 fn find_not_loaded(
@@ -64,27 +32,8 @@ fn find_not_loaded(
     let Some(why) = why_of(&found.linted, manager, below, patch, outcome) else {
         return Ok(());
     };
-    found.add(Finding::Load(patch, not_loaded(below, why)))
-}
-
-/// Adds that a patch can't be loaded alone, or that it stays in transition.
-fn find_alone(
-    found: &mut Findings<'_>,
-    manager: &Manager,
-    patch: PatchId,
-    tried: Tried,
-) -> Result<(), AllocError>
-    ensures { IfOk result (λ done. Grows found.old found.new) }
-{
-    if tried.outcome != LoadOutcome::Started {
-        return find_not_loaded(found, manager, &[], patch, tried.outcome);
-    }
-    let why = match tried.end {
-        End::Completed => return Ok(()),
-        End::Pending(count) => WhyStays::Pending(count),
-        End::Other => WhyStays::NoEnd,
-    };
-    found.add(Finding::Load(patch, LoadFinding::Stays { why }))
+    let below = PatchList::of(below);
+    found.add(Finding::Load(patch, LoadFinding::NotOver { below, why }))
 }
 
 /// Adds that a patch can't be loaded over another one, if it can't. Adds nothing if the outcome is the same alone.
@@ -111,23 +60,17 @@ fn find_over_one(
     find_not_loaded(found, manager, &[below], patch, over.outcome)
 }
 
-/// Adds what happens to a patch alone and over each other one.
+/// Adds what happens to a patch over each other one.
 fn find_for(
     found: &mut Findings<'_>,
     manager: &Manager,
     outcomes: &Outcomes,
     patch: PatchId,
-    together: &mut Together,
+    tally: &mut Tally,
 ) -> Result<(), AllocError>
     ensures { IfOk result (λ done. Grows found.old found.new) }
 {
-    let Some(alone) = outcomes.over(None, patch) else {
-        return Ok(());
-    };
-    together.alone.add(alone.outcome == LoadOutcome::Started);
-    find_alone(found, manager, patch, alone)?;
     for below in outcomes.free.as_slice() {
-        let tally = &mut together.over_one;
         find_over_one(found, manager, outcomes, *below, patch, tally)?;
     }
     Ok(())
@@ -160,7 +103,8 @@ fn find_over_pair(
     pair: &PatchList,
     tally: &mut Tally,
 ) -> Result<(), AllocError>
-    ensures { IfOk result (λ done. Grows found.old found.new) }
+    ensures grows { IfOk result (λ done. Grows found.old found.new) }
+    ensures kept { IfOk result (λ done. IsAsBefore manager.old manager.new) }
 {
     let linted = found.linted;
     let others = all_but(&outcomes.free, pair.as_slice());
@@ -188,7 +132,8 @@ fn find_over_pairs(
     outcomes: &Outcomes,
     tally: &mut Tally,
 ) -> Result<(), AllocError>
-    ensures { IfOk result (λ done. Grows found.old found.new) }
+    ensures grows { IfOk result (λ done. Grows found.old found.new) }
+    ensures kept { IfOk result (λ done. IsAsBefore manager.old manager.new) }
 {
     for first in outcomes.free.as_slice() {
         for second in outcomes.free.as_slice() {
@@ -201,50 +146,72 @@ fn find_over_pairs(
     Ok(())
 }
 
-/// Adds what happens to each patch alone, and over each other one.
+/// Adds what happens to each patch over each other one.
 fn find_over_ones(
     alloc: Global,
     found: &mut Findings<'_>,
     manager: &mut Manager,
     outcomes: &Outcomes,
-    together: &mut Together,
+    tally: &mut Tally,
 ) -> Result<(), AllocError>
-    ensures { IfOk result (λ done. Grows found.old found.new) }
+    ensures grows { IfOk result (λ done. Grows found.old found.new) }
+    ensures kept { IfOk result (λ done. IsAsBefore manager.old manager.new) }
 {
     let changed = ChangedSites::new(alloc, manager, found.linted.patches.len())?;
     for patch in outcomes.free.as_slice() {
-        find_for(found, manager, outcomes, *patch, together)?;
+        find_for(found, manager, outcomes, *patch, tally)?;
         find_same_functions(found, manager, outcomes, &changed, *patch)?;
         find_replacing(alloc, found, manager, outcomes, &changed, *patch)?;
     }
     Ok(())
 }
 
+/// Loads all patches that aren't installed in each order, if there are several. Adds how many were loaded.
+fn find_orders(
+    found: &mut Findings<'_>,
+    manager: &mut Manager,
+    outcomes: &Outcomes,
+    mut together: Together,
+) -> Result<(), AllocError>
+    ensures grows { IfOk result (λ done. Grows found.old found.new) }
+    ensures kept { IfOk result (λ done. IsAsBefore manager.old manager.new) }
+{
+    if outcomes.free.as_slice().len() < 2 {
+        return Ok(());
+    }
+    together.orders = count_orders(&found.linted, manager, outcomes);
+    found.add(Finding::Count(CountFinding::Together(together)))
+}
+
 /// Loads each patch that isn't installed: alone, over each other such patch, and over each pair of such patches that
 /// stay loaded together. Also loads all such patches in each order. Adds what is found, and at the end how many were
-/// loaded.
-pub(crate) fn judge_together(
+/// loaded. If no patch is in transition, and no finding makes the status 3, each patch can be loaded, or is installed.
+/// All that is loaded is taken back.
+pub fn judge_together(
     alloc: Global,
     found: &mut Findings<'_>,
     manager: &mut Manager,
 ) -> Result<(), AllocError>
-    ensures { IfOk result (λ done. Grows found.old found.new) }
+    ensures starts { IfOk result (λ done. manager.old.managed.state.moving ≡ None
+        → length found.old.linted.patches.now ≤ 256
+        → (patch : ℕ) → patch < length found.old.linted.patches.now
+        → StartsUnlessReported (setting_of manager.old.managed) manager.old.managed.state patch found.new) }
+    ensures grows { IfOk result (λ done. Grows found.old found.new) }
+    ensures kept { IfOk result (λ done. IsAsBefore manager.old manager.new) }
 {
     if manager.moving().is_some() {
         return found.add(Finding::Count(CountFinding::Moving));
     }
-    let outcomes = try_all(alloc, &found.linted, manager)?;
     let mut together = Together {
         alone: Tally::none(),
         over_one: Tally::none(),
         over_two: Tally::none(),
         orders: None,
     };
-    find_over_ones(alloc, found, manager, &outcomes, &mut together)?;
+    find_each_alone(found, manager, &mut together.alone)?;
+    let outcomes = try_all(alloc, &found.linted, manager)?;
+    find_over_ones(alloc, found, manager, &outcomes, &mut together.over_one)?;
     find_over_pairs(alloc, found, manager, &outcomes, &mut together.over_two)?;
-    if outcomes.free.as_slice().len() > 1 {
-        together.orders = count_orders(&found.linted, manager, &outcomes);
-        found.add(Finding::Count(CountFinding::Together(together)))?;
-    }
+    find_orders(found, manager, &outcomes, together)?;
     Ok(())
 }

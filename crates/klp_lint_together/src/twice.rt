@@ -1,6 +1,7 @@
 //! Finds variables that keep a patch from being loaded: its pre-patch adds them by a call that fails if they are there.
 ghost use Rattle.std.specs.Prelude.{◌≡◌};
 ghost use Rattle.klp_core.specs.Journaled.{IsWellFormed};
+ghost use Rattle.klp_lint_together.specs.Kept.{IsAsBefore};
 
 use klp_core::Manager;
 use klp_lint::value_behind;
@@ -8,8 +9,10 @@ use klp_lint_findings::{Linted, MarkWord, callback_mark, edits_for};
 use klp_model::Event;
 use klp_types::{Edit, ObjId, PatchId, ShadowKey, Which};
 
-/// Whether a shadow variable would be there after these events.
-pub(crate) fn is_there(manager: &mut Manager, events: &[Event], key: ShadowKey) -> bool {
+/// Whether a shadow variable would be there after these events. The events are taken back.
+pub(crate) fn is_there(manager: &mut Manager, events: &[Event], key: ShadowKey) -> bool
+    ensures { IsAsBefore manager.old manager.new }
+{
     let _for_its_clause = manager.mark();
     is_there_behind(manager, events, key)
 }
@@ -17,6 +20,7 @@ pub(crate) fn is_there(manager: &mut Manager, events: &[Event], key: ShadowKey) 
 /// The same, of a manager that is known to be well formed.
 fn is_there_behind(manager: &mut Manager, events: &[Event], key: ShadowKey) -> bool
     requires { IsWellFormed manager.old }
+    ensures { IsAsBefore manager.old manager.new }
 {
     value_behind(manager, events, key).is_some()
 }
@@ -86,7 +90,9 @@ fn twice_added_by(
     events: &[Event],
     patch: PatchId,
     edits: &[Edit],
-) -> Option<TwiceAdded> {
+) -> Option<TwiceAdded>
+    ensures { IsAsBefore manager.old manager.new }
+{
     for edit in edits {
         if let Edit::Alloc(key, _) = *edit {
             let was_there = is_there(manager, events, key);
@@ -105,7 +111,9 @@ pub(crate) fn twice_added(
     manager: &mut Manager,
     events: &[Event],
     patch: PatchId,
-) -> Option<TwiceAdded> {
+) -> Option<TwiceAdded>
+    ensures { IsAsBefore manager.old manager.new }
+{
     let own = linted.patch(patch)?;
     for target in own.targets.iter() {
         let mark = callback_mark(linted, target, Which::Pre, MarkWord::FailsIfThere);

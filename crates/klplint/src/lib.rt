@@ -3,6 +3,9 @@
 //! others. What is wrong with the files, and where, goes to standard error.
 #![tactic(auto)]
 
+ghost use Rattle.std.specs.Prelude.{◌≡◌};
+ghost use Rattle.klp_lint_worlds.specs.Whole.{IsCleanText};
+
 use klp_arguments::{LintWords, Program, given_words, lint_words};
 use klp_diagnostics::{FileKind, FileText, Inputs, file_in, only_one_input};
 use klp_lint_remarks::{Form, LintFault, LintInput, NamedText, lint_over_text, print_mark_fault};
@@ -63,7 +66,8 @@ fn input_of<'a>(inputs: &Inputs<'a>, has_script: bool) -> LintInput<'a> {
     }
 }
 
-// Writes the findings to `out`. If there is a fault, writes to `err` where it is. Returns the exit status.
+// Writes the findings to `out`. If there is a fault, writes to `err` where it is. Returns the exit status. If it is 0, each
+// patch of the catalog is ready in the worlds that are judged: it can be loaded, and leaves no trace.
 fn lint<W: Write, E: Write>(
     alloc: Global,
     inputs: &Inputs<'_>,
@@ -71,14 +75,16 @@ fn lint<W: Write, E: Write>(
     form: Form,
     out: &mut W,
     err: &mut E,
-) -> u8 {
+) -> u8
+    ensures { result ≡ 0 → IsCleanText input.entry.catalog.bytes.now input.entry.script }
+{
     if input.script.is_some() {
         inputs.hint_line(alloc, err);
     }
     match lint_over_text(alloc, input, form, out) {
         Ok(true) => CLEAN,
         Ok(false) => FINDINGS,
-        Err(LintFault::Program(fault)) => inputs.print_fault(alloc, fault, err),
+        Err(LintFault::Program(fault)) => inputs.print_fault(alloc, fault, err).max(FAULT),
         Err(LintFault::Mark(fault)) => {
             print_mark_fault(NAME, input, fault, err);
             FAULT

@@ -1,6 +1,7 @@
--- What was found so far is kept.
+-- What was found so far is kept, and the manager is as before.
 use Rattle.klp_lint_findings.specs.Sound.{Grows}
+use Rattle.klp_lint_together.specs.Kept.{IsAsBefore}
 use Rattle.klp_lint_together.proofs.replacing.find_lost.Given as goal
 
 abbrev pub invariant-loop-state : goal.invariant-loop-state
-invariant-loop-state g l = Grows l.fn.found l.found
+invariant-loop-state g l = record { grows : Grows l.fn.found l.found; kept : IsAsBefore l.fn.manager l.manager }

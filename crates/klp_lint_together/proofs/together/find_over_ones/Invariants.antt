@@ -1,6 +1,7 @@
--- What was found so far is kept.
+-- What was found so far is kept, and the manager is as before.
 use Rattle.klp_lint_findings.specs.Sound.{Grows}
+use Rattle.klp_lint_together.specs.Kept.{IsAsBefore}
 use Rattle.klp_lint_together.proofs.together.find_over_ones.Given as goal
 
 abbrev pub invariant-loop-patch : goal.invariant-loop-patch
-invariant-loop-patch g l = Grows l.fn.found l.found
+invariant-loop-patch g l = record { grows : Grows l.fn.found l.found; kept : IsAsBefore l.fn.manager l.manager }

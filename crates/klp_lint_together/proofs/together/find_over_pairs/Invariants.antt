@@ -1,9 +1,10 @@
--- What was found so far is kept.
+-- What was found so far is kept, and the manager is as before.
 use Rattle.klp_lint_findings.specs.Sound.{Grows}
+use Rattle.klp_lint_together.specs.Kept.{IsAsBefore}
 use Rattle.klp_lint_together.proofs.together.find_over_pairs.Given as goal
 
 abbrev pub invariant-loop-first : goal.invariant-loop-first
-invariant-loop-first g l = Grows l.fn.found l.found
+invariant-loop-first g l = record { grows : Grows l.fn.found l.found; kept : IsAsBefore l.fn.manager l.manager }
 
 abbrev pub invariant-loop-second : goal.invariant-loop-second
-invariant-loop-second g l = Grows l.fn.found l.found
+invariant-loop-second g l = record { grows : Grows l.fn.found l.found; kept : IsAsBefore l.fn.manager l.manager }

@@ -1,6 +1,10 @@
 //! Does the lines of a script, and finds those that are refused.
-ghost use Rattle.std.specs.Prelude.{◌≡◌, ◌<◌, ◌≤◌, length, IfSome, IfOk};
+ghost use Rattle.std.specs.Prelude.{◌≡◌, ◌<◌, ◌≤◌, [], ◌∷◌, length, is_some, position, IfSome, IfOk, MatchOption};
+ghost use Rattle.klp_console_io.specs.Lines.{is_line_feed};
+ghost use Rattle.klp_console.specs.Lines.{lines_of};
+ghost use Rattle.klp_manager_state.specs.Managed.{setting_of};
 ghost use Rattle.klp_lint_findings.specs.Sound.{Grows};
+ghost use Rattle.klp_lint_worlds.specs.Worlds.{IsLineDone, IsLineReported, IsScripted};
 
 use klp_boot::Fault;
 use klp_console::{ServeFault, answer_line};
@@ -39,6 +43,7 @@ fn do_line<M: Ledger>(
     writes: Blank,
 ) -> Result<Option<ErrorText>, Fault>
     requires { (writes.name ≡ M.name) × (writes.parts ≡ M.parts) × (2 ≤ writes.parts) }
+    ensures { IfOk result (λ refused. IsLineDone manager.old manager.new line.now (is_some refused)) }
 {
     if line.len() > MAX_CONSOLE_LINE {
         return Err(Fault::Serve(ServeFault::LineTooLong));
@@ -51,17 +56,46 @@ fn do_line<M: Ledger>(
     }
 }
 
+/// The place of the first line feed in a text. `None` if there is none.
+fn line_feed_in(text: &[u8]) -> Option<usize>
+    ensures { result ≡ position is_line_feed text.now }
+{
+    text.iter().position(|b| *b == b'\n')
+}
+
 /// The first line of a text, and the text behind that line. `None` if the text is empty.
 fn cut_line(text: &[u8]) -> Option<(&[u8], &[u8])>
-    ensures { IfSome result (λ cut. length cut.1.now < length text.now) }
+    ensures cut { MatchOption result (lines_of text.now ≡ [])
+        (λ cut. lines_of text.now ≡ cut.0.now ∷ lines_of cut.1.now) }
+    ensures shorter { IfSome result (λ cut. length cut.1.now < length text.now) }
 {
     if text.is_empty() {
         return None;
     }
-    match text.iter().position(|b| *b == b'\n') {
+    match line_feed_in(text) {
         Some(place) => Some((&text[..place], &text[place + 1..])),
         None => Some((text, &[])),
     }
+}
+
+/// Does a line of the script, and adds that it is refused, if it is.
+fn find_line<M: Ledger>(
+    alloc: Global,
+    found: &mut Findings<'_>,
+    manager: &mut Manager,
+    line: &[u8],
+    number: u64,
+    writes: Blank,
+) -> Result<(), Fault>
+    requires { (writes.name ≡ M.name) × (writes.parts ≡ M.parts) × (2 ≤ writes.parts) }
+    ensures reported { IfOk result (λ done. IsLineReported manager.old manager.new line.now found.new) }
+    ensures grows { IfOk result (λ done. Grows found.old found.new) }
+{
+    let Some(error) = do_line::<M>(alloc, manager, line, writes)? else {
+        return Ok(());
+    };
+    found.add(Finding::Line(RefusedLine { number, error }))?;
+    Ok(())
 }
 
 /// Does the lines of the script, and adds those that are refused.
@@ -71,16 +105,16 @@ pub(crate) fn do_lines(
     manager: &mut Manager,
     script: &[u8],
 ) -> Result<(), Fault>
-    ensures { IfOk result (λ done. Grows found.old found.new) }
+    ensures scripted { IfOk result (λ done. IsScripted manager.old manager.new script.now found.new) }
+    ensures setting { IfOk result (λ done. setting_of manager.new.managed ≡ setting_of manager.old.managed) }
+    ensures grows { IfOk result (λ done. Grows found.old found.new) }
 {
     let mut rest = script;
     let mut number = 0u64;
     while let Some((line, behind)) = cut_line(rest) {
         let writes = Blank::new(2);
         number = number.saturating_add(1);
-        if let Some(error) = do_line::<Brand>(alloc, manager, line, writes)? {
-            found.add(Finding::Line(RefusedLine { number, error }))?;
-        }
+        find_line::<Brand>(alloc, found, manager, line, number, writes)?;
         rest = behind;
     }
     Ok(())

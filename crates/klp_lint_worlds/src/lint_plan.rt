@@ -1,4 +1,6 @@
 //! What is read from a catalog before its patches are judged.
+ghost use Rattle.std.specs.Prelude.{◌≡◌, ◌-◌, length, IfOk};
+ghost use Rattle.klp_lint_worlds.specs.Whole.{IsReadFrom};
 
 use klp_boot::Fault;
 use klp_catalog::Catalog;
@@ -43,7 +45,9 @@ impl From<NoMarks> for LintFault {
 
 impl LintPlan {
     /// Reads a catalog. A faulty mark is told before all other faults.
-    pub fn read(alloc: Global, catalog: &[u8]) -> Result<LintPlan, LintFault> {
+    pub fn read(alloc: Global, catalog: &[u8]) -> Result<LintPlan, LintFault>
+        ensures { IfOk result (λ plan. IsReadFrom catalog.now plan) }
+    {
         let marks = read_marks(alloc, catalog)?;
         let mut plan = match Catalog::read(alloc, catalog) {
             Ok(plan) => plan,
@@ -60,8 +64,19 @@ impl LintPlan {
         })
     }
 
+    /// How many modules the catalog has: all objects but the first, which is the kernel.
+    pub(crate) fn modules(&self) -> usize
+        ensures { result ≡ length self.now.objects.items - 1 }
+    {
+        self.objects.len().saturating_sub(1)
+    }
+
     /// What was read, with the files that it was read from.
-    pub fn linted<'a>(&'a self, input: LintInput<'a>) -> Linted<'a> {
+    pub(crate) fn linted<'a>(&'a self, input: LintInput<'a>) -> Linted<'a>
+        ensures input { result.input ≡ input.entry }
+        ensures patches { result.patches.now ≡ self.now.patches.items }
+        ensures marks { result.marks.now ≡ self.now.marks.items }
+    {
         Linted {
             input,
             marks: &self.marks,

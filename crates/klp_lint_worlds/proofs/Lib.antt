@@ -1,0 +1,5 @@
+pub mod LineLemmas
+pub mod ModuleLemmas
+pub mod ReadyLemmas
+pub mod ScriptLemmas
+pub mod WholeLemmas
