@@ -1,9 +1,12 @@
-//! The laws about the sentences on a run (`klp_timeline`). A function of this module does nothing: its contract is the
-//! law.
-ghost use Rattle.std.specs.Prelude.{◌≡◌, ◌+◌, ◌≤◌, ◌⊎◌, List, length, count_by, true, Option, All, Contains};
+//! The laws about the sentences on a run (`klp_timeline`), and about text of a run in a page (`klp_markup`). A function
+//! of this module does nothing: its contract is the law.
+ghost use Rattle.std.specs.Prelude.{◌≡◌, ◌+◌, ◌≤◌, ◌⊎◌, List, length, count_by, true, ℕ, Option, All, Contains};
+ghost use Rattle.std.specs.List.{list_all};
 ghost use Rattle.klp_types.specs.declared.task.Mode.{Mode as AnyMode};
 ghost use Rattle.klp_timeline.specs.declared.moment.Moment.{Moment as AnyMoment};
 ghost use Rattle.klp_timeline.specs.declared.moment.Sentence.{Sentence as AnySentence};
+ghost use Rattle.klp_markup.specs.Escaped.{escaped};
+ghost use Rattle.klp_page_promises.specs.Harmless.{is_harmless, AreShown};
 ghost use Rattle.klp_timeline.specs.declared.moment.View.{View as AnyView};
 ghost use Rattle.klp_timeline.specs.declared.shown.TheConstants.{MAX_SENTENCES};
 ghost use Rattle.klp_timeline.specs.Lagging.{is_in, lagging, IsEachLaggardThere, IsNoLaggardMadeUp};
@@ -58,3 +61,10 @@ pub fn who_lags_is_named()
 {
     klp_timeline::who_lags_is_named();
 }
+
+/// What a page shows of a text from a run is made of whole characters that act on nothing around them, and has no byte
+/// that could be taken for markup, nor a control byte but line feeds.
+pub fn no_text_of_a_run_acts()
+    ensures shown { (text : List ℕ) → AreShown 0 (escaped text) }
+    ensures harmless { (text : List ℕ) → list_all is_harmless (escaped text) ≡ true }
+{}
