@@ -3,15 +3,15 @@ use crate::groups::{groups_of, process_name};
 use crate::inside::inside_of;
 use crate::not_explained::not_explained_of;
 use crate::not_seen::not_seen_of;
-use crate::report::{
-    Becomes, BrokenReport, EndReport, HolderReport, HowEnded, KernelHolderReport, KernelLogReport,
-    LaggingReport, LeftReport, Report, SCHEMA, SampleCounts, TaskCounts, TaskReport,
-    TransitionReport, UnplacedReport, VerdictReport, WhyLags,
-};
 use klp_capture::{BootTime, Capture, Sample, Text};
 use klp_capture_catalog::{
     SeenTransition, TransitionEnding, TransitionStart, first_forced_in, first_named,
     kernel_holders_in, kernel_log_differs,
+};
+use klp_capture_report::{
+    Becomes, BrokenReport, EndReport, HolderReport, HowEnded, KernelHolderReport, KernelLogReport,
+    LaggingReport, LeftReport, Report, SCHEMA, SampleCounts, TaskCounts, TaskReport,
+    TransitionReport, UnplacedReport, VerdictReport, WhyLags,
 };
 use klp_capture_run::{Explained, Holder, HoldingSleep};
 use klp_capture_search::{Followed, Run};

@@ -1,7 +1,7 @@
 //! Puts those who hold a transition up into groups: the threads of one process that sleep in one function.
 use crate::gather::text_of;
-use crate::report::{GroupReport, HolderReport, TaskReport};
 use klp_capture::Capture;
+use klp_capture_report::{GroupReport, HolderReport, TaskReport};
 use std::alloc::{AllocError, Global};
 
 /// Whether two sleeps belong together: of the same process, in the same function and the same kind of sleep, and both in

@@ -1,7 +1,7 @@
 //! The tasks inside of functions that a patch would change, before the patch is loaded.
 use crate::gather::text_of;
-use crate::report::{InsideReport, TaskReport};
 use klp_capture::{Activity, Capture, Sample, SeenTask};
+use klp_capture_report::{InsideReport, TaskReport};
 use std::alloc::{AllocError, Global};
 
 /// A task as it was last seen. Also has the number of samples in which the task was inside of a function for which

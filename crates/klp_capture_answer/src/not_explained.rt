@@ -1,6 +1,6 @@
 //! The sample to which none of the tried runs leads: the state in the log at this sample, and the state by the rules.
-use crate::report::NotExplainedReport;
 use klp_capture::{Capture, Text};
+use klp_capture_report::NotExplainedReport;
 use klp_capture_run::Explained;
 use klp_capture_search::Followed;
 use klp_diagnostics::{NamedSight, Sides, TaskNames, TaskNumbers, sides_in};

@@ -1,7 +1,7 @@
 //! What a verdict needs and couldn't be read.
 use crate::gather::text_of;
-use crate::report::NotSeen;
 use klp_capture::{BootTime, Capture};
+use klp_capture_report::NotSeen;
 use std::alloc::{AllocError, Global};
 
 /// Whether the log lacks a function for which `klpcap` was told to look. A log that was cut off may lack its symbols.

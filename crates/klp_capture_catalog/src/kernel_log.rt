@@ -79,8 +79,16 @@ pub fn since_when(
 }
 
 /// How long after a line of the kernel's log a sample must have begun so that it can contradict the line, in microseconds.
-/// The kernel's log has a clock of its own.
+/// The kernel's log has a clock of its own, which isn't set right while the machine runs. So the two clocks also part by
+/// up to a microsecond for each `PARTING` ones since boot, as much as a clock may be set right by.
 const SURELY_AFTER: u64 = 2_000_000;
+
+const PARTING: u64 = 2_000;
+
+/// Returns how far the clock of the kernel's log may be from that of a sample, in microseconds.
+fn clocks_apart_at(sample: &Sample) -> u64 {
+    SURELY_AFTER.saturating_add(sample.line.to.0 / PARTING)
+}
 
 /// A line of the kernel's log that a later sample contradicts.
 #[derive(Clone, Copy)]
@@ -103,13 +111,14 @@ fn last_before(
     sample: &Sample,
 ) -> Option<(BootTime, Milestone)> {
     let mut last = None;
+    let apart = clocks_apart_at(sample);
     for line in lines {
         let Some(milestone) = milestone_of(line.text, patch) else {
             continue;
         };
-        if line.at.0.saturating_add(SURELY_AFTER) <= sample.line.from.0 {
+        if line.at.0.saturating_add(apart) <= sample.line.from.0 {
             last = Some((line.at, milestone));
-        } else if line.at.0 <= sample.line.to.0.saturating_add(SURELY_AFTER) {
+        } else if line.at.0 <= sample.line.to.0.saturating_add(apart) {
             return None;
         }
     }

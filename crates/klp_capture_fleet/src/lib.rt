@@ -1,7 +1,7 @@
 //! The answers to the logs of many machines: a line for each, worst first, and numbers for Prometheus.
 //!
-//! Nothing is judged here: each answer is that of [`klp_capture_answer`]. A number is given only where the answer has it.
-//! So a machine whose log isn't explained has no number of holders, and its verdict says so.
+//! Nothing is judged here: each answer is that of a [`klp_capture_report::Report`]. A number is given only where the
+//! report has it. So a machine whose log isn't explained has no number of holders, and its verdict says so.
 #![tactic(auto)]
 
 mod label;

@@ -1,5 +1,5 @@
 //! A machine: its log's name, and the answer to the log.
-use klp_capture_answer::{HowEnded, Report, TransitionReport, VerdictReport};
+use klp_capture_report::{HowEnded, Report, TransitionReport, VerdictReport};
 
 /// The microseconds in a second.
 pub(crate) const SECOND: u64 = 1_000_000;

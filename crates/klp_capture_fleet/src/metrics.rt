@@ -1,7 +1,7 @@
 //! The numbers of machines, in the text format of Prometheus.
 use crate::label::Label;
 use crate::machine::{Machine, SECOND};
-use klp_capture_answer::{Becomes, HolderReport, TransitionReport, VerdictReport};
+use klp_capture_report::{Becomes, HolderReport, TransitionReport, VerdictReport};
 use std::alloc::{AllocError, Global};
 use std::io;
 use std::io::Write;

@@ -1,6 +1,6 @@
 //! A change from one answer to the next, and its words.
 use crate::follower::Held;
-use klp_capture_answer::{Becomes, HowEnded, VerdictReport};
+use klp_capture_report::{Becomes, HowEnded, VerdictReport};
 use klp_messages::Escaped;
 use std::alloc::{AllocError, Global};
 use std::fmt;

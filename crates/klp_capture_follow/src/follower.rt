@@ -1,7 +1,7 @@
 //! What has changed from one answer to the next.
 use crate::change::{Change, copied};
 use klp_capture::BootTime;
-use klp_capture_answer::{
+use klp_capture_report::{
     Becomes, GroupReport, HolderReport, HowEnded, Report, TransitionReport, VerdictReport,
 };
 use std::alloc::{AllocError, Global};

@@ -2,7 +2,7 @@
 //!
 //! A sample names only what changed, so no sample says anything without those before it. [`Window`] keeps what the
 //! latest sample has come to, and makes a log of two samples of it: that one, and the next. Such a log is as true as the
-//! whole, and costs the same however long the whole is. Whoever has the answer to it ([`klp_capture_answer::Report`])
+//! whole, and costs the same however long the whole is. Whoever has the answer to it ([`klp_capture_report::Report`])
 //! learns from [`Follower`] what has changed since the answer before. [`Feed`] does all of this for bytes as they come.
 //!
 //! The answer to two samples says nothing of the samples before them. The verdict on the whole log may be another one.

@@ -128,16 +128,18 @@ fn kind_of(files: PageWords<'_>) -> FileKind {
     }
 }
 
-/// Reads the arguments and the files, and writes the page. Returns the exit status. Returns it as `Err` if the
-/// arguments are refused or ask for help, or if a file can't be read.
+/// Reads the arguments and the files, writes the page, and returns the exit status. If it doesn't come to a page, since
+/// the arguments are refused or ask for help, or a file can't be read, returns the status as `Err`, so that `?` ends the
+/// function.
 fn status_in(rt: &HostRuntime) -> Result<u8, u8> {
     let (mut out, mut err) = (io::writer(rt), rt.stderr());
     let given = given_words(rt, Program::Klppage, &mut out, &mut err)?;
     let files = page_words(rt.alloc(), &given, &mut out, &mut err)?;
-    let named = files.names.unwrap_or("");
+    // At most one of the three files is standard input. The name that stands for no file of names isn't that of it.
+    let names_file = files.names.unwrap_or("");
     only_one_input(NAME, files.catalog, files.run, &mut err)?;
-    only_one_input(NAME, files.catalog, named, &mut err)?;
-    only_one_input(NAME, files.run, named, &mut err)?;
+    only_one_input(NAME, files.catalog, names_file, &mut err)?;
+    only_one_input(NAME, files.run, names_file, &mut err)?;
     let catalog = file_in(rt, NAME, files.catalog, &mut err)?;
     let run = file_in(rt, NAME, files.run, &mut err)?;
     let trace = if files.is_trace {
@@ -145,6 +147,7 @@ fn status_in(rt: &HostRuntime) -> Result<u8, u8> {
     } else {
         None
     };
+    // A trace gives its lines their times.
     let names = names_in(rt, files.names, trace, &mut err)?;
     let inputs = Inputs {
         program: NAME,

@@ -27,8 +27,9 @@ impl FaultyLine<'_> {
         )
     }
 
-    /// Writes of a line of a known form what came too early, and of another one its first word.
-    fn write_line<W: fmt::Write>(
+    /// Writes what is wrong with a line that can't be read. If its first word is known, quotes the line, and says which
+    /// form it should have. Otherwise quotes only the first word, with which no line of a log begins.
+    fn write_bad_line<W: fmt::Write>(
         &self,
         line: &[u8],
         first: &[u8],
@@ -67,7 +68,7 @@ impl fmt::Display for FaultyLine<'_> {
                 "{}: a newer klpcap wrote this log: read it with the klpsee that came with it",
                 Quoted(line)
             ),
-            CaptureFaultKind::BadLine => self.write_line(line, first, f),
+            CaptureFaultKind::BadLine => self.write_bad_line(line, first, f),
             CaptureFaultKind::Stray => {
                 let before = line_before(first);
                 write!(f, "{}: wanted before it is {before}", Quoted(first))

@@ -4,14 +4,14 @@ use crate::{FAULTY, NAME, NO_MEMORY};
 use klp_capture_follow::{Feed, FollowFault};
 use klp_diagnostics::STANDARD_INPUT;
 use klp_messages::Escaped;
-use std::io::{IsTerminal, Read, Write};
+use std::io::{Input, IsTerminal, Read, Write};
 use std::time::Duration;
 use std::{fs, io, thread};
 
 /// How long a file is left alone that has no more bytes yet, in milliseconds.
 const PAUSE: u64 = 200;
 
-/// The file that standard input is.
+/// The file that standard input is, where the system has such files.
 const STANDARD_INPUT_FILE: &str = "/dev/stdin";
 
 /// How many bytes are read at once.
@@ -37,21 +37,15 @@ impl From<FollowFault> for Stop {
     }
 }
 
-/// Reads a log as it grows, and tells each change, until the log has its last line. A log that is no file, such as a pipe,
-/// also ends where it ends.
-fn follow_in<W: Write>(
+/// Reads a log as it comes, and tells each change, until the log has its last line. If the log doesn't grow, such as a
+/// pipe, it also ends where its bytes end.
+fn follow_bytes<L: Read, W: Write>(
     rt: &HostRuntime,
-    path: &str,
+    log: &mut L,
+    may_grow: bool,
     feed: &mut Feed,
     out: &mut W,
 ) -> Result<(), Stop> {
-    let path = if path == STANDARD_INPUT {
-        STANDARD_INPUT_FILE
-    } else {
-        path
-    };
-    let mut log = fs::open(rt, path)?;
-    let may_grow = fs::metadata(rt, path)?.is_file();
     let mut buffer = Vec::new(rt.alloc());
     buffer
         .resize(CHUNK, 0u8)
@@ -70,6 +64,26 @@ fn follow_in<W: Write>(
     }
     feed.close(out)?;
     Ok(())
+}
+
+/// Follows a log that is a file, a pipe, or standard input. Standard input is read where it is, since a small system has
+/// no `/dev/stdin`; there it is taken for a pipe.
+fn follow_in<W: Write>(
+    rt: &HostRuntime,
+    path: &str,
+    feed: &mut Feed,
+    out: &mut W,
+) -> Result<(), Stop> {
+    if path == STANDARD_INPUT {
+        let may_grow = match fs::metadata(rt, STANDARD_INPUT_FILE) {
+            Ok(about) => about.is_file(),
+            Err(_) => false,
+        };
+        return follow_bytes(rt, &mut rt.reader(), may_grow, feed, out);
+    }
+    let mut log = fs::open(rt, path)?;
+    let may_grow = fs::metadata(rt, path)?.is_file();
+    follow_bytes(rt, &mut log, may_grow, feed, out)
 }
 
 /// Writes why a log isn't followed any further.

@@ -15,8 +15,8 @@ use crate::fleet::answer_for_all;
 use crate::follow::follow;
 use crate::log::{explain_log, read_log, report_on};
 use klp_arguments::{Program, SeeWords, given_words, see_words};
-use klp_capture_answer::{Report, print_json, print_report};
-use klp_diagnostics::file_in;
+use klp_capture_report::{Report, print_json, print_report};
+use klp_diagnostics::{STANDARD_INPUT, file_in, only_one_input};
 use klp_messages::Escaped;
 use std::alloc::Global;
 use std::io;
@@ -85,6 +85,14 @@ fn status_in(rt: &HostRuntime) -> Result<u8, u8> {
     let (mut out, mut err) = (io::writer(rt), rt.stderr());
     let given = given_words(rt, Program::Klpsee, &mut out, &mut err)?;
     let words = see_words(rt.alloc(), &given, &mut out, &mut err)?;
+    if 1 < words
+        .logs
+        .iter()
+        .filter(|path| **path == STANDARD_INPUT)
+        .count()
+    {
+        only_one_input(NAME, STANDARD_INPUT, STANDARD_INPUT, &mut err)?;
+    }
     match words.logs.as_slice() {
         [path] if words.follows => Ok(follow(rt, path, &mut out, &mut err)),
         [path] if !words.is_metrics => {

@@ -1,8 +1,10 @@
 //! Reads a log, explains it and reports on it. What is at fault is written to standard error.
 use crate::faults::FaultyLine;
 use crate::{FAULTY, NAME, NO_MEMORY};
+use klp_boot::Fault;
 use klp_capture::Capture;
-use klp_capture_answer::{Report, report_of};
+use klp_capture_answer::report_of;
+use klp_capture_report::Report;
 use klp_capture_run::{Explained, explain};
 use klp_messages::Escaped;
 use std::alloc::Global;
@@ -30,8 +32,8 @@ pub(crate) fn read_log<'a, E: Write>(
     }
 }
 
-/// Looks for a run of the rules that shows what a log shows. If the log makes no catalog, writes why to `err`, and
-/// returns the exit status as `Err`.
+/// Looks for a run of the rules that shows what a log shows. If the log makes no catalog, or if memory runs out, writes
+/// so to `err`, and returns the exit status as `Err`.
 pub(crate) fn explain_log<'a, E: Write>(
     alloc: Global,
     path: &str,
@@ -40,6 +42,7 @@ pub(crate) fn explain_log<'a, E: Write>(
 ) -> Result<Explained<'a>, u8> {
     match explain(alloc, capture) {
         Ok(found) => Ok(found),
+        Err(Fault::NoMemory) => Err(no_memory(path, err)),
         Err(fault) => {
             let name = Escaped(path.as_bytes());
             let _ = writeln!(err, "{NAME}: {name}: the log makes no catalog: {fault}");

@@ -48,14 +48,11 @@ pub(crate) fn print_left<W: Write>(
             let (name, process) = (shown(&one.process_name), one.task.process);
             writeln!(
                 out,
-                "  {front}{threads} threads of {name}[{process}] asleep in {function}, which no task calls any more"
+                "  {front}{threads} threads of {name}[{process}] asleep in the old {function}"
             )?;
         } else {
             let task = &one.task;
-            writeln!(
-                out,
-                "  {front}{task} asleep in {function}, which no task calls any more"
-            )?;
+            writeln!(out, "  {front}{task} asleep in the old {function}")?;
         }
         lines = lines.saturating_add(1);
     }

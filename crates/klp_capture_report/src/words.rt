@@ -1,18 +1,14 @@
 //! A report in words.
 use crate::lists::{SHOWN, print_kernel_holders, print_left, print_more};
 use crate::report::{
-    Becomes, BrokenReport, EndReport, GroupReport, HolderReport, HowEnded, InsideReport,
-    KernelLogReport, LaggingReport, NotExplainedReport, NotSeen, Report, TaskReport,
-    TransitionReport, UnplacedReport, VerdictReport, WhyLags, seconds,
+    Becomes, BrokenReport, EndReport, HowEnded, InsideReport, KernelLogReport, NotExplainedReport,
+    NotSeen, Report, TaskReport, VerdictReport, seconds,
 };
+use crate::transition_words::print_transition;
 use httpdate::HttpDate;
-use klp_capture::Elapsed;
 use klp_messages::Escaped;
 use std::io::Write;
 use std::{fmt, io};
-
-/// The microseconds in a second.
-const SECOND: u64 = 1_000_000;
 
 /// Returns a name without bytes that would control a terminal.
 pub(crate) fn shown(name: &String) -> Escaped<'_> {
@@ -34,246 +30,6 @@ impl fmt::Display for Becomes {
             Becomes::Disabled => "disabled",
         })
     }
-}
-
-/// Returns the time between two times, the earlier one first.
-fn elapsed(from_us: u64, to_us: u64) -> Elapsed {
-    Elapsed(seconds(from_us), seconds(to_us))
-}
-
-/// Returns what can free a sleeper: a signal wakes one in state S, and no signal one in state D or a kernel thread.
-fn way_out(task: &TaskReport) -> &'static str {
-    if task.is_kernel_thread {
-        "kill does nothing to it"
-    } else if task.state.as_str() == "S" {
-        "a signal may free it"
-    } else {
-        "no signal frees it"
-    }
-}
-
-/// That the kernel's own log named a holder, or the first of some threads, a second or more before a sample showed it.
-/// Printed as nothing if it didn't.
-#[derive(Clone, Copy)]
-struct NamedEarlier {
-    named_us: Option<u64>,
-    from_us: u64,
-}
-
-impl fmt::Display for NamedEarlier {
-    fn fmt<W: fmt::Write>(&self, f: &mut fmt::Formatter<W>) -> fmt::Result {
-        match self.named_us {
-            Some(named_us) if named_us.saturating_add(SECOND) <= self.from_us => {
-                let named = seconds(named_us);
-                write!(f, "; the kernel's log names it from {named} s on")
-            }
-            _ => Ok(()),
-        }
-    }
-}
-
-/// Writes which task holds the transition up, or held it up, and for how long.
-fn print_holder<W: Write>(holder: &HolderReport, last_us: u64, out: &mut W) -> io::Result<()> {
-    let (task, function) = (&holder.task, shown(&holder.function));
-    let kind = if task.is_kernel_thread {
-        ", a kernel thread,"
-    } else {
-        ""
-    };
-    let (from, to) = (seconds(holder.from_us), seconds(holder.to_us));
-    let named = NamedEarlier {
-        named_us: holder.named_us,
-        from_us: holder.from_us,
-    };
-    if holder.holds_still {
-        let (time, state) = (elapsed(holder.from_us, last_us), &task.state);
-        let way_out = way_out(task);
-        writeln!(
-            out,
-            "  {task}{kind} holds it up: asleep ({state}: {way_out}) in {function} since {from} s or before, for {time} s{named}"
-        )
-    } else {
-        writeln!(
-            out,
-            "  {task}{kind} held it up, asleep in {function}, from {from} s to {to} s{named}"
-        )
-    }
-}
-
-/// Writes how many threads of a process hold the transition up, or held it up, in one function.
-fn print_group<W: Write>(
-    group: &GroupReport,
-    holder: &HolderReport,
-    last_us: u64,
-    out: &mut W,
-) -> io::Result<()> {
-    let (name, process, threads) = (shown(&group.process_name), group.process, group.threads);
-    let function = shown(&holder.function);
-    let (from, to) = (seconds(group.from_us), seconds(group.to_us));
-    let named = NamedEarlier {
-        named_us: group.named_us,
-        from_us: group.from_us,
-    };
-    if holder.holds_still {
-        let (time, state) = (elapsed(group.from_us, last_us), &holder.task.state);
-        let way_out = way_out(&holder.task);
-        writeln!(
-            out,
-            "  {name}[{process}]: {threads} threads hold it up: asleep ({state}: {way_out}) in {function}, \
-            the first since {from} s or before, for {time} s{named}"
-        )
-    } else {
-        writeln!(
-            out,
-            "  {name}[{process}]: {threads} threads held it up, asleep in {function}, between {from} s and {to} s{named}"
-        )
-    }
-}
-
-/// Writes who holds the transition up, or held it up. Threads of one process that sleep in one function share a line.
-fn print_holders<W: Write>(
-    transition: &TransitionReport,
-    hold_still: bool,
-    out: &mut W,
-) -> io::Result<()> {
-    let (mut lines, mut more): (usize, u64) = (0, 0);
-    for group in &transition.groups {
-        let Some(holder) = transition.holders.get(group.first_holder) else {
-            continue;
-        };
-        if holder.holds_still != hold_still {
-            continue;
-        }
-        if lines >= SHOWN {
-            more = more.saturating_add(group.threads);
-        } else if group.threads > 1 {
-            print_group(group, holder, transition.last_sample_us, out)?;
-        } else {
-            print_sleeps(transition, group, holder, out)?;
-        }
-        lines = lines.saturating_add(1);
-    }
-    let what = if hold_still {
-        "hold it up"
-    } else {
-        "held it up"
-    };
-    match more {
-        0 => Ok(()),
-        more => writeln!(out, "  and {more} more {what} (--json names them)"),
-    }
-}
-
-/// Writes each sleep of the only thread of a group.
-fn print_sleeps<W: Write>(
-    transition: &TransitionReport,
-    group: &GroupReport,
-    first: &HolderReport,
-    out: &mut W,
-) -> io::Result<()> {
-    for holder in transition.holders.iter().skip(group.first_holder) {
-        if holder.task.thread == first.task.thread
-            && holder.function == first.function
-            && holder.holds_still == first.holds_still
-        {
-            print_holder(holder, transition.last_sample_us, out)?;
-        }
-    }
-    Ok(())
-}
-
-/// Writes which task slept in a function that the log can't place.
-fn print_unplaced<W: Write>(unplaced: &UnplacedReport, out: &mut W) -> io::Result<()> {
-    let (task, function) = (&unplaced.task, shown(&unplaced.function));
-    let (from, to) = (seconds(unplaced.from_us), seconds(unplaced.to_us));
-    writeln!(
-        out,
-        "  {task} may have held it up: asleep from {from} s to {to} s in {function} of a patch's module, \
-        which the log can't place"
-    )
-}
-
-/// Writes which task lags without holding the transition up.
-fn print_lagging<W: Write>(lagging: &LaggingReport, out: &mut W) -> io::Result<()> {
-    let task = &lagging.task;
-    match lagging.why {
-        WhyLags::AsleepElsewhere => writeln!(
-            out,
-            "  {task} lags, asleep in no function that the log has of the patch: a try switches it, \
-            unless its stack can't be read"
-        ),
-        WhyLags::Runs if task.is_kernel_thread => writeln!(
-            out,
-            "  {task}, a kernel thread, lags, and runs: a try switches it once it sleeps elsewhere"
-        ),
-        WhyLags::Runs => writeln!(
-            out,
-            "  {task} lags, and runs: it is switched when it next leaves the kernel"
-        ),
-    }
-}
-
-/// Returns in words how a transition ended.
-fn ending(transition: &TransitionReport, end: EndReport) -> &'static str {
-    match (end.how, transition.becomes) {
-        (HowEnded::Complete, _) => "and that is complete",
-        (HowEnded::Reversed, Becomes::Enabled) => "and that was reversed",
-        (HowEnded::Reversed, Becomes::Disabled) => "and that was reversed: it stays enabled",
-        (HowEnded::Forced, _) => "and then it was forced",
-    }
-}
-
-/// Writes how many tasks a log only counts that held up a transition which has ended. As long as it goes on, they are
-/// among the others.
-fn print_counted<W: Write>(transition: &TransitionReport, out: &mut W) -> io::Result<()> {
-    let counted = transition.counted_inside;
-    if transition.end.is_none() || counted == 0 {
-        return Ok(());
-    }
-    writeln!(
-        out,
-        "  up to {counted} more were unswitched inside of patched functions: the log counts them without a line of their own"
-    )
-}
-
-fn print_transition<W: Write>(transition: &TransitionReport, out: &mut W) -> io::Result<()> {
-    let (name, way) = (shown(&transition.patch), transition.becomes);
-    let since = seconds(transition.since_us);
-    let or_before = if transition.is_start_known {
-        ""
-    } else {
-        " or before"
-    };
-    match transition.end {
-        Some(end) => {
-            let (time, ending) = (
-                elapsed(transition.since_us, end.at_us),
-                ending(transition, end),
-            );
-            writeln!(
-                out,
-                "{name} was being {way} from {since} s{or_before}, for {time} s, {ending}"
-            )?;
-        }
-        None => {
-            let time = elapsed(transition.since_us, transition.last_sample_us);
-            writeln!(
-                out,
-                "{name} is being {way} since {since} s{or_before}, for {time} s so far"
-            )?;
-        }
-    }
-    print_holders(transition, false, out)?;
-    print_holders(transition, true, out)?;
-    print_counted(transition, out)?;
-    for unplaced in transition.unplaced.iter().take(SHOWN) {
-        print_unplaced(unplaced, out)?;
-    }
-    print_more(transition.unplaced.len(), "may hold it up", out)?;
-    for lagging in transition.lagging.iter().take(SHOWN) {
-        print_lagging(lagging, out)?;
-    }
-    print_more(transition.lagging.len(), "lag", out)
 }
 
 impl Report {
@@ -450,13 +206,13 @@ impl Report {
     /// Writes that a run of the rules shows the samples, and what that means.
     fn print_explained<W: Write>(&self, out: &mut W) -> io::Result<()> {
         let (shown, left_out) = (self.samples.shown, self.samples.left_out);
-        write!(out, "a run of the rules shows each of {shown} samples")?;
+        match shown {
+            1 => write!(out, "a run of the rules shows the one sample")?,
+            _ => write!(out, "a run of the rules shows each of {shown} samples")?,
+        }
         match left_out {
             0 => writeln!(out)?,
-            _ => writeln!(
-                out,
-                "; {left_out} more left out, since a patch changed meanwhile"
-            )?,
+            _ => writeln!(out, "; {left_out} more left out as torn")?,
         }
         match self.forced_at_us {
             Some(_) => Ok(()),

@@ -1,0 +1,293 @@
+//! A transition in words: since when, how it ended, and who holds it up.
+use crate::lists::{SHOWN, print_more};
+use crate::report::{
+    Becomes, EndReport, GroupReport, HolderReport, HowEnded, LaggingReport, TaskReport,
+    TransitionReport, UnplacedReport, WhyLags, seconds,
+};
+use crate::words::shown;
+use klp_capture::Elapsed;
+use std::io::Write;
+use std::{fmt, io};
+
+/// The microseconds in a second.
+const SECOND: u64 = 1_000_000;
+
+/// Returns the time between two times, the earlier one first.
+fn elapsed(from_us: u64, to_us: u64) -> Elapsed {
+    Elapsed(seconds(from_us), seconds(to_us))
+}
+
+/// Returns what can free a sleeper: a signal wakes one in state S, and no signal one in state D or a kernel thread.
+fn way_out(task: &TaskReport) -> &'static str {
+    if task.is_kernel_thread {
+        "kill does nothing to it"
+    } else if task.state.as_str() == "S" {
+        "a signal may free it"
+    } else {
+        "no signal frees it"
+    }
+}
+
+/// Returns when the kernel's own log first named a holder, or the first of some threads, if that was a second or more
+/// before a sample showed it.
+fn named_earlier(named_us: Option<u64>, from_us: u64) -> Option<u64> {
+    named_us.filter(|named| named.saturating_add(SECOND) <= from_us)
+}
+
+/// Since when a task holds a transition up: by the kernel's own log if that named it earlier, and by the samples.
+#[derive(Clone, Copy)]
+struct Since {
+    named_us: Option<u64>,
+    from_us: u64,
+    last_us: u64,
+}
+
+impl fmt::Display for Since {
+    fn fmt<W: fmt::Write>(&self, f: &mut fmt::Formatter<W>) -> fmt::Result {
+        let from = seconds(self.from_us);
+        match named_earlier(self.named_us, self.from_us) {
+            Some(named_us) => {
+                let (named, time) = (seconds(named_us), elapsed(named_us, self.last_us));
+                write!(
+                    f,
+                    ": named by the kernel's log since {named} s, for {time} s, and asleep in each sample since {from} s"
+                )
+            }
+            None => {
+                let time = elapsed(self.from_us, self.last_us);
+                write!(f, " since {from} s or before, for {time} s")
+            }
+        }
+    }
+}
+
+/// That the kernel's own log named a task earlier than the samples whose times follow. Printed as nothing if it didn't.
+#[derive(Clone, Copy)]
+struct NamedFrom(Option<u64>);
+
+impl fmt::Display for NamedFrom {
+    fn fmt<W: fmt::Write>(&self, f: &mut fmt::Formatter<W>) -> fmt::Result {
+        match self.0 {
+            Some(named_us) => {
+                let named = seconds(named_us);
+                write!(
+                    f,
+                    "named by the kernel's log from {named} s on, and in samples "
+                )
+            }
+            None => Ok(()),
+        }
+    }
+}
+
+/// Writes which task holds the transition up, or held it up, and for how long.
+fn print_holder<W: Write>(holder: &HolderReport, last_us: u64, out: &mut W) -> io::Result<()> {
+    let (task, function) = (&holder.task, shown(&holder.function));
+    let kind = if task.is_kernel_thread {
+        ", a kernel thread,"
+    } else {
+        ""
+    };
+    let (named_us, from_us) = (holder.named_us, holder.from_us);
+    if holder.holds_still {
+        let (state, way_out) = (&task.state, way_out(task));
+        let since = Since {
+            named_us,
+            from_us,
+            last_us,
+        };
+        writeln!(
+            out,
+            "  {task}{kind} holds it up: asleep ({state}: {way_out}) in {function}{since}"
+        )
+    } else {
+        let (from, to) = (seconds(from_us), seconds(holder.to_us));
+        let named = NamedFrom(named_earlier(named_us, from_us));
+        writeln!(
+            out,
+            "  {task}{kind} held it up, asleep in {function}, {named}from {from} s to {to} s"
+        )
+    }
+}
+
+/// Writes how many threads of a process hold the transition up, or held it up, in one function.
+fn print_group<W: Write>(
+    group: &GroupReport,
+    holder: &HolderReport,
+    last_us: u64,
+    out: &mut W,
+) -> io::Result<()> {
+    let (name, process, threads) = (shown(&group.process_name), group.process, group.threads);
+    let function = shown(&holder.function);
+    let (named_us, from_us) = (group.named_us, group.from_us);
+    if holder.holds_still {
+        let (state, way_out) = (&holder.task.state, way_out(&holder.task));
+        let since = Since {
+            named_us,
+            from_us,
+            last_us,
+        };
+        writeln!(
+            out,
+            "  {name}[{process}]: {threads} threads hold it up: asleep ({state}: {way_out}) in {function}, \
+            the first{since}"
+        )
+    } else {
+        let (from, to) = (seconds(from_us), seconds(group.to_us));
+        let named = NamedFrom(named_earlier(named_us, from_us));
+        writeln!(
+            out,
+            "  {name}[{process}]: {threads} threads held it up, asleep in {function}, {named}between {from} s and {to} s"
+        )
+    }
+}
+
+/// Writes who holds the transition up, or held it up. Threads of one process that sleep in one function share a line.
+fn print_holders<W: Write>(
+    transition: &TransitionReport,
+    hold_still: bool,
+    out: &mut W,
+) -> io::Result<()> {
+    let (mut lines, mut more): (usize, u64) = (0, 0);
+    for group in &transition.groups {
+        let Some(holder) = transition.holders.get(group.first_holder) else {
+            continue;
+        };
+        if holder.holds_still != hold_still {
+            continue;
+        }
+        if lines >= SHOWN {
+            more = more.saturating_add(group.threads);
+        } else if group.threads > 1 {
+            print_group(group, holder, transition.last_sample_us, out)?;
+        } else {
+            print_sleeps(transition, group, holder, out)?;
+        }
+        lines = lines.saturating_add(1);
+    }
+    let what = if hold_still {
+        "hold it up"
+    } else {
+        "held it up"
+    };
+    match more {
+        0 => Ok(()),
+        more => writeln!(out, "  and {more} more {what} (--json names them)"),
+    }
+}
+
+/// Writes each sleep of the only thread of a group.
+fn print_sleeps<W: Write>(
+    transition: &TransitionReport,
+    group: &GroupReport,
+    first: &HolderReport,
+    out: &mut W,
+) -> io::Result<()> {
+    for holder in transition.holders.iter().skip(group.first_holder) {
+        if holder.task.thread == first.task.thread
+            && holder.function == first.function
+            && holder.holds_still == first.holds_still
+        {
+            print_holder(holder, transition.last_sample_us, out)?;
+        }
+    }
+    Ok(())
+}
+
+/// Writes which task slept in a function that the log can't place.
+fn print_unplaced<W: Write>(unplaced: &UnplacedReport, out: &mut W) -> io::Result<()> {
+    let (task, function) = (&unplaced.task, shown(&unplaced.function));
+    let (from, to) = (seconds(unplaced.from_us), seconds(unplaced.to_us));
+    writeln!(
+        out,
+        "  {task} may have held it up: asleep from {from} s to {to} s in {function} of a patch's module, \
+        which the log can't place"
+    )
+}
+
+/// Writes which task lags without holding the transition up.
+fn print_lagging<W: Write>(lagging: &LaggingReport, out: &mut W) -> io::Result<()> {
+    let task = &lagging.task;
+    match lagging.why {
+        WhyLags::AsleepElsewhere => writeln!(
+            out,
+            "  {task} lags, asleep in no function that the log has of the patch: a try switches it, \
+            unless its stack can't be read"
+        ),
+        WhyLags::Runs if task.is_kernel_thread => writeln!(
+            out,
+            "  {task}, a kernel thread, lags, and runs: a try switches it once it sleeps elsewhere"
+        ),
+        WhyLags::Runs => writeln!(
+            out,
+            "  {task} lags, and runs: it is switched when it next leaves the kernel"
+        ),
+    }
+}
+
+/// Returns in words how a transition ended.
+fn ending(transition: &TransitionReport, end: EndReport) -> &'static str {
+    match (end.how, transition.becomes) {
+        (HowEnded::Complete, _) => "and that is complete",
+        (HowEnded::Reversed, Becomes::Enabled) => "and that was reversed",
+        (HowEnded::Reversed, Becomes::Disabled) => "and that was reversed: it stays enabled",
+        (HowEnded::Forced, _) => "and then it was forced",
+    }
+}
+
+/// Writes how many tasks a log only counts that held up a transition which has ended. As long as it goes on, they are
+/// among the others.
+fn print_counted<W: Write>(transition: &TransitionReport, out: &mut W) -> io::Result<()> {
+    let counted = transition.counted_inside;
+    if transition.end.is_none() || counted == 0 {
+        return Ok(());
+    }
+    writeln!(
+        out,
+        "  up to {counted} more were unswitched inside of patched functions: the log counts them without a line of their own"
+    )
+}
+
+/// Writes since when a transition goes on, or from when to when it went on, and who holds or held it up.
+pub(crate) fn print_transition<W: Write>(
+    transition: &TransitionReport,
+    out: &mut W,
+) -> io::Result<()> {
+    let (name, way) = (shown(&transition.patch), transition.becomes);
+    let since = seconds(transition.since_us);
+    let or_before = if transition.is_start_known {
+        ""
+    } else {
+        " or before"
+    };
+    match transition.end {
+        Some(end) => {
+            let (time, ending) = (
+                elapsed(transition.since_us, end.at_us),
+                ending(transition, end),
+            );
+            writeln!(
+                out,
+                "{name} was being {way} from {since} s{or_before}, for {time} s, {ending}"
+            )?;
+        }
+        None => {
+            let time = elapsed(transition.since_us, transition.last_sample_us);
+            writeln!(
+                out,
+                "{name} is being {way} since {since} s{or_before}, for {time} s so far"
+            )?;
+        }
+    }
+    print_holders(transition, false, out)?;
+    print_holders(transition, true, out)?;
+    print_counted(transition, out)?;
+    for unplaced in transition.unplaced.iter().take(SHOWN) {
+        print_unplaced(unplaced, out)?;
+    }
+    print_more(transition.unplaced.len(), "may hold it up", out)?;
+    for lagging in transition.lagging.iter().take(SHOWN) {
+        print_lagging(lagging, out)?;
+    }
+    print_more(transition.lagging.len(), "lag", out)
+}
