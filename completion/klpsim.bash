@@ -1,5 +1,5 @@
-# Completion of klpsim, klpwatch, klppage, klplint and klpsee for bash: what they do, and files of the kind that they take in this place.
-# Folders are completed too, and behind `<` or `>` files of any kind. To have it without installing: source
+# Completion of klpsim, klpwatch, klppage, klplint, klpsee and klpko for bash: what they do, and files of the kind that they take in
+# this place. Folders are completed too, and behind `<` or `>` files of any kind. To have it without installing: source
 # completion/klpsim.bash
 
 _klp_files() {
@@ -96,8 +96,19 @@ _klpsee() {
   else _klp_offer '-o --json --follow --metrics --help --version'; fi
 }
 
+_klpko() {
+  local klp_words klp_before klp_option klp_word
+  _klp_words || return 0
+  if _klp_options --symbols; then _klp_files ko "$klp_word"
+  elif [ "$klp_option" = --symbols ]; then
+    compopt -o filenames 2>/dev/null
+    mapfile -t COMPREPLY < <(compgen -f -- "$klp_word")
+  else _klp_offer '--list --matrix --json --symbols --help --version'; fi
+}
+
 complete -F _klpsim klpsim
 complete -F _klpwatch klpwatch
 complete -F _klppage klppage
 complete -F _klplint klplint
 complete -F _klpsee klpsee
+complete -F _klpko klpko

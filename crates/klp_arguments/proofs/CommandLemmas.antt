@@ -1,6 +1,6 @@
 -- The reader of words has definitions of what it finds for each program.
-use Rattle.std.proofs.Common.{◌≡◌, ◌≢◌, ℕ, Bool, Bor, length, map, option_map, true, refl, subst, arith, List, [], ◌∷◌, Option, Some, None}
-use Rattle.clap.specs.Words.{App, Kinds, Text, all_of, app_of, fault_of, is_simple, is_simple_and_free, rows_of}
+use Rattle.std.proofs.Common.{◌≡◌, ◌≢◌, ℕ, Bool, Bor, length, map, option_map, true, refl, sym, ap, ◌∙◌, subst, arith, List, [], ◌∷◌, Option, Some, None}
+use Rattle.clap.specs.Words.{App, Kinds, Row, Text, all_of, app_of, fault_of, is_simple, is_simple_and_free, matches_of, rows_of}
 use Rattle.clap.specs.Matches.{matched_of, raw_values}
 use Rattle.clap.specs.declared.parser.matches.Found.{Found}
 use Rattle.clap.proofs.WalkLemmas.{raw_values-rows}
@@ -9,7 +9,7 @@ use Rattle.clap.proofs.OnLiterals.{clap_on_literals}
 use Rattle.klp_arguments.specs.Asked.{is_given, linted_by, paged_by, seen_by, seen_if, go_together, unless, values_in, watched_by, Linted, Seen, Ends, EndsBy}
 use Rattle.klp_arguments.specs.declared.ending.Ending.{Ending}
 use Rattle.klp_arguments.specs.declared.ending.Ending.TheVariants.{Shown, Refused, NoMemory}
-use Rattle.klp_arguments.specs.Commands.{lint_app, page_app, see_app, watch_app}
+use Rattle.klp_arguments.specs.Commands.{lint_app, module_app, page_app, see_app, watch_app}
 
 pub watch_walked : is_simple watch_app ≡ true
 unfolding clap_on_literals
@@ -42,6 +42,14 @@ see_walked = refl
 pub see_judged : is_simple_and_free see_app ≡ true
 unfolding clap_on_literals
 see_judged = refl
+
+pub module_walked : is_simple module_app ≡ true
+unfolding clap_on_literals
+module_walked = refl
+
+pub module_judged : is_simple_and_free module_app ≡ true
+unfolding clap_on_literals
+module_judged = refl
 
 -- the files of klpwatch, by what is found for each of its arguments
 pub watched_by-found : (catalog trace : Text) (first second : Option Text) → Some catalog ≡ first → Some trace ≡ second
@@ -93,6 +101,14 @@ module _ {Z : Type 0} (app : App) (command : Command) (words : List Text) (is_ap
       by_kinds kinds asked (Shown error) by = by
       by_kinds kinds asked Refused by = (none_asked kinds asked by.0, by.1)
       by_kinds kinds asked NoMemory by = by
+
+  -- words that it takes ask for what is found
+  pub asks : (asked_in : List Row → Option Z) (rows : List Row) (asked : Z) → fault_of (app_of command) words ≡ []
+      → rows ≡ matches_of (app_of command) words → asked_in rows ≡ Some asked
+      → unless (fault_of app words) (asked_in (matches_of app words)) ≡ Some asked
+  asks asked_in rows asked faultless found is =
+      ap (λ kinds. unless kinds (asked_in (matches_of app words))) (ap (λ a. fault_of a words) (sym is_app) ∙ faultless)
+      ∙ (ap asked_in (ap (λ a. matches_of a words) (sym is_app) ∙ sym found) ∙ is)
 
   -- nor do words that it takes, but whose files don't go together
   pub refused : (asked : Option Z) → fault_of (app_of command) words ≡ [] → asked ≡ None

@@ -2,11 +2,14 @@
 use Rattle.std.specs.Prelude.{ℕ, ◌≡◌, ◌≢◌, ◌⊎◌, ⊤, Bool, true, false, List, [], ◌∷◌, codes, bytes_eq, Option, Some, None, option_map, ◌==◌, ◌&&◌, ◌||◌, not, nat_lt, is_some, length, map, if◌then◌else◌}
 use Rattle.clap.specs.Words.{App, Kinds, Row, Text, IsAmong, all_of, fault_of, first_of, matches_of}
 use Rattle.clap.specs.declared.error.kind.ErrorKind.TheVariants.{DisplayHelp, DisplayVersion}
-use Rattle.klp_arguments.specs.Commands.{lint_app, page_app, see_app, watch_app}
+use Rattle.klp_arguments.specs.Commands.{lint_app, module_app, page_app, see_app, watch_app}
 use Rattle.klp_arguments.specs.declared.asked.WatchWords.{WatchWords}
 use Rattle.klp_arguments.specs.declared.asked.PageWords.{PageWords}
 use Rattle.klp_arguments.specs.declared.asked.LintWords.{LintWords}
 use Rattle.klp_arguments.specs.declared.asked.SeeWords.{SeeWords}
+use Rattle.klp_arguments.specs.declared.asked.ModuleQuestion.{ModuleQuestion}
+use Rattle.klp_arguments.specs.declared.asked.ModuleQuestion.TheVariants.{Catalog, List as Listed, Matrix}
+use Rattle.klp_arguments.specs.declared.asked.ModuleWords.{ModuleWords}
 use Rattle.klp_arguments.specs.declared.ending.Ending.{Ending}
 use Rattle.klp_arguments.specs.declared.ending.Ending.TheVariants.{Shown, Refused, NoMemory}
 
@@ -31,6 +34,12 @@ pub record Seen : Type 0 where
   pub is_json : Bool
   pub follows : Bool
   pub is_metrics : Bool
+
+pub record Modules : Type 0 where
+  pub patches : List Text
+  pub question : ModuleQuestion
+  pub is_json : Bool
+  pub symbols : Option Text
 
 -- an option without a value is given
 abbrev pub is_given : Option Text → Bool
@@ -74,6 +83,18 @@ seen_by logs folder json follow metrics =
     let seen : Seen = record { logs = logs; folder = folder; is_json = is_given json; follows = is_given follow; is_metrics = is_given metrics } in
     seen_if (go_together (length logs) seen) seen
 
+-- One of --list and --matrix, or a catalog. An answer for programs is of the first two, and symbols are for a catalog
+abbrev pub question_of : Bool → Bool → Bool → Bool → Option ModuleQuestion
+question_of true false json false = Some Listed
+question_of false true json false = Some Matrix
+question_of false false false symbols = Some Catalog
+question_of list matrix json symbols = None
+
+abbrev pub modules_by : List Text → Option Text → Option Text → Option Text → Option Text → Option Modules
+modules_by patches list matrix json symbols =
+    option_map (λ question. record { patches = patches; question = question; is_json = is_given json; symbols = symbols })
+    (question_of (is_given list) (is_given matrix) (is_given json) (is_some symbols))
+
 -- what the values ask for, unless the words are at fault
 abbrev pub unless : {Z : Type 0} → Kinds → Option Z → Option Z
 unless [] asked = asked
@@ -93,6 +114,11 @@ seen_in rows =
     seen_by (values_in (all_of (codes "LOG") rows)) (first_of (codes "FOLDER") rows) (first_of (codes "JSON") rows)
     (first_of (codes "FOLLOW") rows) (first_of (codes "METRICS") rows)
 
+abbrev pub modules_in : List Row → Option Modules
+modules_in rows =
+    modules_by (values_in (all_of (codes "PATCH") rows)) (first_of (codes "LIST") rows) (first_of (codes "MATRIX") rows) (first_of (codes "JSON") rows)
+    (first_of (codes "SYMBOLS") rows)
+
 abbrev pub watch_asked : List Text → Option Watched
 watch_asked words = unless (fault_of watch_app words) (watched_in (matches_of watch_app words))
 
@@ -104,6 +130,9 @@ lint_asked words = unless (fault_of lint_app words) (linted_in (matches_of lint_
 
 abbrev pub see_asked : List Text → Option Seen
 see_asked words = unless (fault_of see_app words) (seen_in (matches_of see_app words))
+
+abbrev pub module_asked : List Text → Option Modules
+module_asked words = unless (fault_of module_app words) (modules_in (matches_of module_app words))
 
 abbrev pub watch_meaning : WatchWords → Watched
 watch_meaning words = record { catalog = words.catalog.now; trace = words.trace.now }
@@ -121,6 +150,14 @@ see_meaning words = record {
   is_json = words.is_json;
   follows = words.follows;
   is_metrics = words.is_metrics;
+}
+
+abbrev pub module_meaning : ModuleWords → Modules
+module_meaning words = record {
+  patches = map (λ patch. patch.now) words.modules.items;
+  question = words.question;
+  is_json = words.is_json;
+  symbols = option_map (λ symbols. symbols.now) words.symbols;
 }
 
 -- the words ask for help, or for the version

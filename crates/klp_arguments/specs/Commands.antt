@@ -5,13 +5,14 @@ use Rattle.clap.specs.declared.builder.action.ArgAction.TheVariants.{Append, Set
 use Rattle.clap.specs.declared.builder.arg.Arg.{Arg}
 use Rattle.clap.specs.declared.builder.command.Command.{Command}
 use Rattle.klp_arguments.specs.declared.program.Program.{Program}
-use Rattle.klp_arguments.specs.declared.program.Program.TheVariants.{Klpwatch, Klppage, Klplint, Klpsee}
+use Rattle.klp_arguments.specs.declared.program.Program.TheVariants.{Klpwatch, Klppage, Klplint, Klpsee, Klpko}
 
 abbrev pub name_of : Program → Text
 name_of Klpwatch = codes "klpwatch"
 name_of Klppage = codes "klppage"
 name_of Klplint = codes "klplint"
 name_of Klpsee = codes "klpsee"
+name_of Klpko = codes "klpko"
 
 -- a program without arguments, which has a version. The words are those behind its name
 abbrev pub bare : Text → App
@@ -28,18 +29,21 @@ abbrev pub folder : Rule
 folder = record (new_rule (codes "FOLDER")) { short = Some 111 }
 
 -- an option that is given or not
+abbrev pub flag : Text → Text → Rule
+flag id long = record (new_rule id) { long = Some long; action = Some SetTrue }
+
 abbrev pub json : Rule
-json = record (new_rule (codes "JSON")) { long = Some (codes "json"); action = Some SetTrue }
+json = flag (codes "JSON") (codes "json")
 
 -- one file or more
 abbrev pub logs : Rule
 logs = record (required (codes "LOG")) { action = Some Append }
 
 abbrev pub follow : Rule
-follow = record (new_rule (codes "FOLLOW")) { long = Some (codes "follow"); action = Some SetTrue }
+follow = flag (codes "FOLLOW") (codes "follow")
 
 abbrev pub metrics : Rule
-metrics = record (new_rule (codes "METRICS")) { long = Some (codes "metrics"); action = Some SetTrue }
+metrics = flag (codes "METRICS") (codes "metrics")
 
 abbrev pub watch_app : App
 watch_app = with_rule (with_rule (bare (codes "klpwatch")) (required (codes "CATALOG"))) (required (codes "TRACE"))
@@ -58,6 +62,22 @@ answer_app = with_rule (with_rule (with_rule (bare (codes "klpsee")) logs) folde
 
 abbrev pub see_app : App
 see_app = with_rule (with_rule answer_app follow) metrics
+
+-- one module or more
+abbrev pub patches : Rule
+patches = record (required (codes "PATCH")) { action = Some Append }
+
+abbrev pub symbols : Rule
+symbols = record (new_rule (codes "SYMBOLS")) { long = Some (codes "symbols") }
+
+-- for what the tables of modules say
+abbrev pub table_app : App
+table_app =
+    let listed = with_rule (with_rule (bare (codes "klpko")) patches) (flag (codes "LIST") (codes "list")) in
+    with_rule (with_rule listed (flag (codes "MATRIX") (codes "matrix"))) json
+
+abbrev pub module_app : App
+module_app = with_rule table_app symbols
 
 -- the command is this one
 abbrev pub IsCommand : Command → App → Type 0

@@ -42,3 +42,26 @@ pub struct SeeWords<'a> {
     /// Whether the answer is numbers for Prometheus.
     pub is_metrics: bool,
 }
+
+/// What `klpko` says of modules.
+#[derive(Clone, Copy)]
+pub enum ModuleQuestion {
+    /// A catalog that says what their tables say.
+    Catalog,
+    /// What the tables of each one say.
+    List,
+    /// What becomes of each one when another one is loaded over it.
+    Matrix,
+}
+
+/// Which modules `klpko` reads, what it says of them, and in which form.
+#[derive(Drop)]
+pub struct ModuleWords<'a> {
+    /// The paths of the modules. There is at least one.
+    pub modules: Vec<&'a str>,
+    pub question: ModuleQuestion,
+    /// Whether the answer is for programs.
+    pub is_json: bool,
+    /// The path of the kernel's symbols, if they are given.
+    pub symbols: Option<&'a str>,
+}

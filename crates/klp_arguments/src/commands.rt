@@ -1,8 +1,9 @@
 //! The command of each program, by which `clap` reads its arguments and writes its help.
 ghost use Rattle.std.specs.Prelude.{◌≡◌, IfOk};
 ghost use Rattle.clap.specs.Words.{app_of, new_rule};
-ghost use Rattle.klp_arguments.specs.Commands.{answer_app, bare, folder, follow, json, lint_app, logs, metrics, name_of, page_app, required, see_app};
-ghost use Rattle.klp_arguments.specs.Commands.{trace, watch_app, IsArg, IsCommand};
+ghost use Rattle.klp_arguments.specs.Commands.{answer_app, bare, flag, folder, follow, json, lint_app, logs, metrics, module_app};
+ghost use Rattle.klp_arguments.specs.Commands.{name_of, page_app, patches, required, see_app, symbols, table_app, trace, watch_app, IsArg};
+ghost use Rattle.klp_arguments.specs.Commands.{IsCommand};
 
 use crate::program::Program;
 use crate::version::version_text;
@@ -27,6 +28,14 @@ pub(crate) const JSON: &str = "JSON";
 pub(crate) const FOLLOW: &str = "FOLLOW";
 
 pub(crate) const METRICS: &str = "METRICS";
+
+pub(crate) const PATCH: &str = "PATCH";
+
+pub(crate) const LIST: &str = "LIST";
+
+pub(crate) const MATRIX: &str = "MATRIX";
+
+pub(crate) const SYMBOLS: &str = "SYMBOLS";
 
 /// Returns the command of a program with its version and the texts of its help, but without arguments. The words that it
 /// matches begin after the program's name.
@@ -83,14 +92,22 @@ fn folder<'a>(alloc: Global) -> Arg<'a>
     )
 }
 
-/// Returns the option `--json` of klplint and klpsee, which takes no value. It asks for an answer that programs read.
+/// Returns an option that takes no value. `id` is the argument's name, `long` the option's, and `help` says in the help
+/// what it asks for.
+fn flag<'a>(alloc: Global, id: &'a str, long: &'a str, help: &'a str) -> Arg<'a>
+    ensures { IsArg result (flag id.now long.now) }
+{
+    Arg::new(alloc, id)
+        .long(long)
+        .action(ArgAction::SetTrue)
+        .help(help)
+}
+
+/// Returns the option `--json` of klplint, klpsee and klpko. It asks for an answer that programs read.
 fn json<'a>(alloc: Global) -> Arg<'a>
     ensures { IsArg result json }
 {
-    Arg::new(alloc, JSON)
-        .long("json")
-        .action(ArgAction::SetTrue)
-        .help("Answer for programs")
+    flag(alloc, JSON, "json", "Answer for programs")
 }
 
 /// Returns the command of klpwatch: it takes a catalog and a trace.
@@ -138,24 +155,28 @@ fn logs<'a>(alloc: Global) -> Arg<'a>
     needed(alloc, LOG, "The files with the logs of klpcap").action(ArgAction::Append)
 }
 
-/// Returns klpsee's option `--follow`, which takes no value. It asks for each change of the answer while the log grows.
+/// Returns klpsee's option `--follow`. It asks for each change of the answer while the log grows.
 fn follow<'a>(alloc: Global) -> Arg<'a>
     ensures { IsArg result follow }
 {
-    Arg::new(alloc, FOLLOW)
-        .long("follow")
-        .action(ArgAction::SetTrue)
-        .help("Tell each change while the log grows")
+    flag(
+        alloc,
+        FOLLOW,
+        "follow",
+        "Tell each change while the log grows",
+    )
 }
 
-/// Returns klpsee's option `--metrics`, which takes no value. It asks for numbers for Prometheus.
+/// Returns klpsee's option `--metrics`. It asks for numbers for Prometheus.
 fn metrics<'a>(alloc: Global) -> Arg<'a>
     ensures { IsArg result metrics }
 {
-    Arg::new(alloc, METRICS)
-        .long("metrics")
-        .action(ArgAction::SetTrue)
-        .help("Answer in numbers for Prometheus")
+    flag(
+        alloc,
+        METRICS,
+        "metrics",
+        "Answer in numbers for Prometheus",
+    )
 }
 
 /// Returns the command of klpsee for the answer to logs: it takes these, and the options `-o` and `--json`.
@@ -175,4 +196,44 @@ pub(crate) fn see_command<'a>(alloc: Global) -> Result<Command<'a>, AllocError>
     answer_command(alloc)?
         .arg(follow(alloc))?
         .arg(metrics(alloc))
+}
+
+/// Returns klpko's argument for the files of modules, of which at least one is needed.
+fn patches<'a>(alloc: Global) -> Arg<'a>
+    ensures { IsArg result patches }
+{
+    needed(alloc, PATCH, "The files of the livepatches, .ko").action(ArgAction::Append)
+}
+
+/// Returns klpko's option `--symbols`. Its value is the file with the symbols of the kernel.
+fn symbols<'a>(alloc: Global) -> Arg<'a>
+    ensures { IsArg result symbols }
+{
+    Arg::new(alloc, SYMBOLS)
+        .long("symbols")
+        .help("The symbols of the kernel, /proc/kallsyms")
+}
+
+/// Returns the command of klpko for what it says of modules: it takes these, and the options `--list`, `--matrix` and
+/// `--json`.
+fn table_command<'a>(alloc: Global) -> Result<Command<'a>, AllocError>
+    ensures { IfOk result (λ command. IsCommand command table_app) }
+{
+    command_of(alloc, Program::Klpko)
+        .arg(patches(alloc))?
+        .arg(flag(alloc, LIST, "list", "Say what the tables of each one say"))?
+        .arg(flag(
+            alloc,
+            MATRIX,
+            "matrix",
+            "Say what becomes of each one under each other one",
+        ))?
+        .arg(json(alloc))
+}
+
+/// Returns the command of klpko: it takes modules, and the options `--list`, `--matrix`, `--json` and `--symbols`.
+pub(crate) fn module_command<'a>(alloc: Global) -> Result<Command<'a>, AllocError>
+    ensures { IfOk result (λ command. IsCommand command module_app) }
+{
+    table_command(alloc)?.arg(symbols(alloc))
 }

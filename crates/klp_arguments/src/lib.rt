@@ -1,4 +1,5 @@
-//! The arguments of `klpwatch`, `klppage`, `klplint` and `klpsee`, which `clap` reads: files and options, in any order.
+//! The arguments of `klpwatch`, `klppage`, `klplint`, `klpsee` and `klpko`, which `clap` reads: files and options, in any
+//! order.
 //!
 //! Each program has one command (`src/commands.rt`). The command says which arguments there are, so it also writes the
 //! help. A program that was asked for help or its version (`src/version.rt`) writes it to standard output, and ends with
@@ -16,7 +17,7 @@ mod program;
 mod reading;
 mod version;
 
-pub use asked::{LintWords, PageWords, SeeWords, WatchWords};
+pub use asked::{LintWords, ModuleQuestion, ModuleWords, PageWords, SeeWords, WatchWords};
 pub use program::Program;
-pub use reading::{given_words, lint_words, page_words, see_words, watch_words};
+pub use reading::{given_words, lint_words, module_words, page_words, see_words, watch_words};
 pub use version::version_text;

@@ -53,6 +53,19 @@ Example:
 
 More: man klpsee";
 
+const MODULES_MORE: &str = "\
+Exit status:
+  0  There is no finding, or the catalog has no marks
+  1  A file is faulty or can't be read, or memory ran out
+  2  The arguments are refused
+  3  There are findings, or the catalog has marks
+
+Examples:
+  klpko --matrix examples/modules/two_objects.ko examples/modules/cumulative.ko
+  klpko --symbols /proc/kallsyms fix.ko >fix.catalog
+
+More: man klpko";
+
 /// A program with files for arguments.
 #[derive(Clone, Copy)]
 pub enum Program {
@@ -60,6 +73,7 @@ pub enum Program {
     Klppage,
     Klplint,
     Klpsee,
+    Klpko,
 }
 
 impl Program {
@@ -72,6 +86,7 @@ impl Program {
             Program::Klppage => "klppage",
             Program::Klplint => "klplint",
             Program::Klpsee => "klpsee",
+            Program::Klpko => "klpko",
         }
     }
 
@@ -82,6 +97,7 @@ impl Program {
             Program::Klppage => "klppage CATALOG SCRIPT|--trace TRACE [NAMES]",
             Program::Klplint => "klplint [--json] CATALOG [SCRIPT]",
             Program::Klpsee => "klpsee [-o FOLDER] [--json|--follow] LOG|[--metrics] LOG..",
+            Program::Klpko => "klpko [--symbols FILE] PATCH..|--list|--matrix [--json] PATCH..",
         }
     }
 
@@ -92,6 +108,7 @@ impl Program {
             Program::Klppage => "Writes an HTML page of a script's run or of a kernel's trace",
             Program::Klplint => "Names patches of a catalog that may leave something behind",
             Program::Klpsee => "Says what a log of klpcap means, and whether the rules explain it",
+            Program::Klpko => "Says what livepatch modules change, and which loads over which",
         }
     }
 
@@ -102,6 +119,7 @@ impl Program {
             Program::Klppage => PAGE_MORE,
             Program::Klplint => LINT_MORE,
             Program::Klpsee => SEE_MORE,
+            Program::Klpko => MODULES_MORE,
         }
     }
 }

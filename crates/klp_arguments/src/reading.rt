@@ -1,15 +1,15 @@
 //! Reads the arguments of each program.
 ghost use Rattle.std.specs.Prelude.{◌≡◌, ◌⊎◌, [], true, length, map, option_map, string_bytes, Some, IfErr, IfOk, MatchResult};
 ghost use Rattle.clap.specs.Words.{all_of, app_of, fault_of, first_of, found_of, is_simple, is_simple_and_free, matches_of, rows_of};
-ghost use Rattle.klp_arguments.specs.Asked.{is_given, lint_asked, page_asked, see_asked, watch_asked, Ends, EndsBy, EndsWith};
-ghost use Rattle.klp_arguments.specs.Asked.{lint_meaning, page_meaning, see_meaning, watch_meaning};
-ghost use Rattle.klp_arguments.specs.Asked.{go_together, linted_in, paged_in, seen_in, values_in, watched_in};
-ghost use Rattle.klp_arguments.specs.Commands.{lint_app, page_app, see_app, watch_app};
+ghost use Rattle.klp_arguments.specs.Asked.{is_given, lint_asked, module_asked, page_asked, see_asked, watch_asked, Ends, EndsBy, EndsWith};
+ghost use Rattle.klp_arguments.specs.Asked.{lint_meaning, module_meaning, page_meaning, see_meaning, watch_meaning};
+ghost use Rattle.klp_arguments.specs.Asked.{go_together, linted_in, modules_in, paged_in, question_of, seen_in, values_in, watched_in};
+ghost use Rattle.klp_arguments.specs.Commands.{lint_app, module_app, page_app, see_app, watch_app};
 
-use crate::asked::{LintWords, PageWords, SeeWords, WatchWords};
+use crate::asked::{LintWords, ModuleQuestion, ModuleWords, PageWords, SeeWords, WatchWords};
 use crate::commands::{
-    CATALOG, FOLDER, FOLLOW, JSON, LOG, METRICS, NAMES, SCRIPT, TRACE, lint_command, page_command,
-    see_command, watch_command,
+    CATALOG, FOLDER, FOLLOW, JSON, LIST, LOG, MATRIX, METRICS, NAMES, PATCH, SCRIPT, SYMBOLS,
+    TRACE, lint_command, module_command, page_command, see_command, watch_command,
 };
 use crate::ending::Ending;
 use crate::program::Program;
@@ -255,6 +255,59 @@ fn see_asked<'a>(alloc: Global, given: &'a [String]) -> Result<SeeWords<'a>, End
     }
 }
 
+/// Returns what klpko is to say, by which of its options are given. Returns `None` if they don't go together.
+fn question_of(
+    lists: bool,
+    compares: bool,
+    is_json: bool,
+    has_symbols: bool,
+) -> Option<ModuleQuestion>
+    ensures { result ≡ question_of lists compares is_json has_symbols }
+{
+    match (lists, compares, is_json, has_symbols) {
+        (true, false, _, false) => Some(ModuleQuestion::List),
+        (false, true, _, false) => Some(ModuleQuestion::Matrix),
+        (false, false, false, _) => Some(ModuleQuestion::Catalog),
+        _ => None,
+    }
+}
+
+/// Returns from the matched arguments of klpko which modules it is to read, what it is to say of them, and the form of
+/// its answer. Returns `None` if what is asked doesn't go together.
+fn modules<'a>(
+    alloc: Global,
+    matches: &ArgMatches<'a>,
+) -> Result<Option<ModuleWords<'a>>, AllocError>
+    ensures { IfOk result (λ asked. option_map module_meaning asked ≡ modules_in (rows_of (found_of matches.now))) }
+{
+    let (is_json, symbols) = (is_given(matches, JSON), value_of(matches, SYMBOLS));
+    let (lists, compares) = (is_given(matches, LIST), is_given(matches, MATRIX));
+    let Some(question) = question_of(lists, compares, is_json, symbols.is_some()) else {
+        return Ok(None);
+    };
+    Ok(Some(ModuleWords {
+        modules: values_of(alloc, matches, PATCH)?,
+        question,
+        is_json,
+        symbols,
+    }))
+}
+
+/// Returns what the arguments of klpko ask for. If they ask for help or the version, if they are refused, or if
+/// memory runs out, returns as `Err` how the program ends.
+fn module_asked<'a>(alloc: Global, given: &'a [String]) -> Result<ModuleWords<'a>, Ending>
+    ensures { MatchResult result (λ asked. module_asked (map string_bytes given.now) ≡ Some (module_meaning asked))
+        (λ ending. Ends (fault_of module_app (map string_bytes given.now)) (module_asked (map string_bytes given.now)) ending) }
+{
+    match matches_in(module_command(alloc)?, given) {
+        Ok(matches) => match modules(alloc, &matches)? {
+            Some(asked) => Ok(asked),
+            None => Err(Ending::Refused),
+        },
+        Err(ending) => Err(ending),
+    }
+}
+
 /// Reads the arguments of klpwatch. If they ask for help or the version, writes it to `out`. If they are refused, or if
 /// memory runs out, writes a line to `err`. In these cases klpwatch doesn't run, and the exit status is returned as
 /// `Err`.
@@ -318,5 +371,21 @@ pub fn see_words<'a, W: Write, E: Write>(
     match see_asked(alloc, given) {
         Ok(asked) => Ok(asked),
         Err(ending) => Err(ending.report(Program::Klpsee, out, err)),
+    }
+}
+
+/// Reads the arguments of klpko, as [`watch_words`] does those of klpwatch.
+pub fn module_words<'a, W: Write, E: Write>(
+    alloc: Global,
+    given: &'a [String],
+    out: &mut W,
+    err: &mut E,
+) -> Result<ModuleWords<'a>, u8>
+    ensures { MatchResult result (λ asked. module_asked (map string_bytes given.now) ≡ Some (module_meaning asked))
+        (λ status. EndsWith (fault_of module_app (map string_bytes given.now)) (module_asked (map string_bytes given.now)) status) }
+{
+    match module_asked(alloc, given) {
+        Ok(asked) => Ok(asked),
+        Err(ending) => Err(ending.report(Program::Klpko, out, err)),
     }
 }

@@ -2,7 +2,7 @@
 use Rattle.std.specs.Prelude.{ℕ, Bool, true, nat_eq, ◌&&◌, ◌-◌, if◌then◌else◌, List, [], ◌∷◌, codes, length, take}
 use Rattle.std.specs.List.{ends_with}
 use Rattle.klpsim.specs.declared.called.CalledProgram.{CalledProgram}
-use Rattle.klpsim.specs.declared.called.CalledProgram.TheVariants.{Klpsim, Klpwatch, Klppage, Klplint, Klpsee}
+use Rattle.klpsim.specs.declared.called.CalledProgram.TheVariants.{Klpsim, Klpwatch, Klppage, Klplint, Klpsee, Klpko}
 
 -- nothing, or a path up to a slash
 abbrev is_folder : List ℕ → Bool
@@ -18,4 +18,5 @@ program_at path = if ends_in path (codes "klpwatch") then Klpwatch
     else if ends_in path (codes "klppage") then Klppage
     else if ends_in path (codes "klplint") then Klplint
     else if ends_in path (codes "klpsee") then Klpsee
+    else if ends_in path (codes "klpko") then Klpko
     else Klpsim

@@ -12,6 +12,7 @@ pub(crate) enum CalledProgram {
     Klppage,
     Klplint,
     Klpsee,
+    Klpko,
 }
 
 /// The greatest length of a path in bytes. A kernel refuses a longer one.
@@ -40,6 +41,8 @@ fn program_at(path: &[u8]) -> CalledProgram
         CalledProgram::Klplint
     } else if ends_in(path, b"klpsee".as_slice()) {
         CalledProgram::Klpsee
+    } else if ends_in(path, b"klpko".as_slice()) {
+        CalledProgram::Klpko
     } else {
         CalledProgram::Klpsim
     }

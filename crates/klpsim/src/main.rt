@@ -1,5 +1,5 @@
-//! The program. It is the one as which it is called: `klpwatch`, `klppage`, `klplint` or `klpsee`, or else `klpsim`.
-//! As `klpsim` it boots a manager over a catalog, and answers console lines from standard input on standard output. Or
+//! The program. It is the one as which it is called: `klpwatch`, `klppage`, `klplint`, `klpsee` or `klpko`, or else
+//! `klpsim`. As `klpsim` it boots a manager over a catalog, and answers console lines from standard input on standard output. Or
 //! it lets two task threads run the steps of a file.
 #![tactic(auto)]
 
@@ -103,6 +103,7 @@ fn main(rt: HostRuntime) -> ExitCode {
         CalledProgram::Klppage => klppage::run(&rt),
         CalledProgram::Klplint => klplint::run(&rt),
         CalledProgram::Klpsee => klpsee::run(&rt),
+        CalledProgram::Klpko => klpko::run(&rt),
     };
     ExitCode::from(status)
 }

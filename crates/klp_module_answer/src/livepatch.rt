@@ -1,0 +1,92 @@
+//! A livepatch with the module whose file it was read from.
+use crate::faults::{FileWords, ModuleFault, ModuleFaultWords};
+use crate::modinfo::info_of;
+use klp_elf::Elf;
+use klp_messages::Escaped;
+use klp_module_matrix::{Changed, Side, changed_by};
+use klp_tables::{MAX_FILE, Patch};
+use std::alloc::Global;
+use std::io::Write;
+
+/// A livepatch, and what its module says of itself.
+#[derive(Drop)]
+pub struct Livepatch<'a> {
+    /// The path of the file.
+    pub file: &'a str,
+    /// The name under which a kernel lists the patch.
+    pub name: &'a [u8],
+    /// The release of the kernel for which the module is built.
+    pub release: &'a [u8],
+    pub patch: Patch<'a>,
+    /// All functions that the patch changes.
+    pub changed: Vec<Changed<'a>>,
+}
+
+impl<'a> Livepatch<'a> {
+    /// Returns what is compared of the patch.
+    pub(crate) fn side<'p>(&'p self) -> Side<'p, 'a> {
+        Side {
+            states: &self.patch.states,
+            changed: &self.changed,
+        }
+    }
+}
+
+/// Returns what stands before the first space.
+fn first_word(text: &[u8]) -> &[u8] {
+    text.split(|b| *b == b' ').next().unwrap_or(&[])
+}
+
+fn livepatch_of<'a>(
+    alloc: Global,
+    file: &'a str,
+    elf: &Elf<'a>,
+) -> Result<Livepatch<'a>, ModuleFault> {
+    let info = info_of(elf);
+    if info.livepatch.is_none() {
+        return Err(ModuleFault::NoLivepatch);
+    }
+    let Some(name) = info.name else {
+        return Err(ModuleFault::NoName);
+    };
+    let patch = klp_tables::read(alloc, elf)?;
+    let changed = changed_by(alloc, &patch.objects)?;
+    Ok(Livepatch {
+        file,
+        name,
+        release: first_word(info.version_magic.unwrap_or(&[])),
+        patch,
+        changed,
+    })
+}
+
+/// Reads the livepatch of a module's file. If it can't be read, writes to `err` why, as a line of the program.
+pub fn read_livepatch<'a, E: Write>(
+    alloc: Global,
+    program: &str,
+    file: &'a str,
+    bytes: &'a [u8],
+    err: &mut E,
+) -> Option<Livepatch<'a>> {
+    let name = Escaped(file.as_bytes());
+    if MAX_FILE < bytes.len() {
+        let _ = writeln!(err, "{program}: {name}: it has over {MAX_FILE} bytes");
+        return None;
+    }
+    let elf = match Elf::read(alloc, bytes) {
+        Ok(elf) => elf,
+        Err(fault) => {
+            let words = FileWords { bytes, fault };
+            let _ = writeln!(err, "{program}: {name}: {words}");
+            return None;
+        }
+    };
+    match livepatch_of(alloc, file, &elf) {
+        Ok(livepatch) => Some(livepatch),
+        Err(fault) => {
+            let words = ModuleFaultWords { elf: &elf, fault };
+            let _ = writeln!(err, "{program}: {name}: {words}");
+            None
+        }
+    }
+}

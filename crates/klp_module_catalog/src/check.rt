@@ -1,0 +1,132 @@
+//! Whether a catalog says of patches what their tables say.
+ghost use Rattle.std.specs.Prelude.{◌≡◌, Some, map, option_map, slice_get, Decides};
+ghost use Rattle.klp_module_catalog.specs.Said.{has_kind, is_cumulative, row_function, row_patch, row_state, row_target};
+ghost use Rattle.klp_module_catalog.specs.Said.{said_function, said_patch, said_target};
+
+use crate::NamedPatch;
+use crate::names::{ObjectName, is_new_name};
+use klp_catalog_text::{PlanCallback, PlanFunction, PlanPatch, PlanTarget, SystemState};
+use klp_tables::{Function, Object, Replaces, State};
+use klp_types::{ObjId, ObjectText, Which};
+
+/// Whether a function of a catalog is that of a row.
+fn is_function(plan: &PlanFunction, function: &Function<'_>) -> bool
+    ensures { Decides result (said_function plan.now ≡ row_function function.now) }
+{
+    plan.symbol.as_bytes() == function.old_name
+        && u64::from(plan.sympos) == function.position
+        && is_new_name(plan.new_name.as_bytes(), function.new_name)
+}
+
+/// Whether the functions of a target are those of the rows, in order.
+fn are_functions(plan: &[PlanFunction], functions: &[Function<'_>]) -> bool
+    ensures { Decides result (map said_function plan.now ≡ map row_function functions.now) }
+{
+    plan.len() == functions.len()
+        && plan
+            .iter()
+            .zip(functions)
+            .all(|(one, function)| is_function(one, function))
+}
+
+/// Whether a target has a callback of this kind.
+fn has_callback(callbacks: &[PlanCallback], which: Which) -> bool
+    ensures { result ≡ has_kind which callbacks.now }
+{
+    callbacks.iter().any(|callback| callback.which == which)
+}
+
+/// Returns the name of an object.
+fn name_of(objects: &[ObjectText], object: ObjId) -> Option<&[u8]>
+    ensures { option_map (λ name. name.now) result ≡ option_map (λ o. o.name) (slice_get objects.now object) }
+{
+    let found = objects.get(usize::from(object.0))?;
+    Some(found.name.as_bytes())
+}
+
+/// Whether an object has this name.
+fn is_named(objects: &[ObjectText], object: ObjId, name: &[u8]) -> bool
+    ensures { Decides result (option_map (λ o. o.name) (slice_get objects.now object) ≡ Some name.now) }
+{
+    match name_of(objects, object) {
+        Some(found) => found == name,
+        None => false,
+    }
+}
+
+/// Whether a target is the object of a row: by its name, its functions, and which callbacks it has.
+fn is_target(objects: &[ObjectText], target: &PlanTarget, object: &Object<'_>) -> bool
+    ensures { Decides result (said_target objects.now target.now ≡ row_target object.now) }
+{
+    let callbacks = object.row.callbacks;
+    is_named(objects, target.object, ObjectName(object.row.name).bytes())
+        && has_callback(&target.callbacks, Which::Pre) == callbacks.pre_patch
+        && has_callback(&target.callbacks, Which::Post) == callbacks.post_patch
+        && has_callback(&target.callbacks, Which::PreUn) == callbacks.pre_unpatch
+        && has_callback(&target.callbacks, Which::PostUn) == callbacks.post_unpatch
+        && are_functions(&target.functions, &object.functions)
+}
+
+/// Whether the targets of a patch are the objects of its table, in order.
+fn are_targets(objects: &[ObjectText], targets: &[PlanTarget], rows: &[Object<'_>]) -> bool
+    ensures { Decides result (map (said_target objects.now) targets.now ≡ map row_target rows.now) }
+{
+    targets.len() == rows.len()
+        && targets
+            .iter()
+            .zip(rows)
+            .all(|(target, object)| is_target(objects, target, object))
+}
+
+/// Whether a system state of a catalog is that of a row.
+fn is_state(plan: &SystemState, state: &State) -> bool
+    ensures { Decides result (plan.now ≡ row_state state.now) }
+{
+    plan.id == state.id && plan.version == state.version
+}
+
+/// Whether the system states of a patch are those of its table, in order.
+fn are_states(plan: &[SystemState], states: &[State]) -> bool
+    ensures { Decides result (plan.now ≡ map row_state states.now) }
+{
+    plan.len() == states.len()
+        && plan
+            .iter()
+            .zip(states)
+            .all(|(one, state)| is_state(one, state))
+}
+
+/// Whether a patch replaces those before it as its table says. A catalog can't say that this isn't known.
+fn replaces_so(replace: bool, replaces: Replaces) -> bool
+    ensures { Decides result (replace ≡ is_cumulative replaces) }
+{
+    match replaces {
+        Replaces::Yes => replace,
+        Replaces::No | Replaces::Unknown => !replace,
+    }
+}
+
+/// Whether a patch of a catalog is the one of these tables.
+fn is_patch(objects: &[ObjectText], plan: &PlanPatch, named: &NamedPatch<'_, '_>) -> bool
+    ensures { Decides result (said_patch objects.now plan.now ≡ row_patch named.now) }
+{
+    plan.name.as_bytes() == named.name
+        && replaces_so(plan.replace, named.patch.replaces)
+        && are_states(&plan.states, &named.patch.states)
+        && are_targets(objects, &plan.targets, &named.patch.objects)
+}
+
+/// Whether the patches of a plan are exactly these. `objects` are those of the plan.
+pub(crate) fn are_patches(
+    objects: &[ObjectText],
+    plan: &[PlanPatch],
+    patches: &[NamedPatch<'_, '_>],
+) -> bool
+    ensures { Decides result (map (said_patch objects.now) plan.now ≡ map row_patch patches.now) }
+{
+    plan.len() == patches.len()
+        && plan
+            .iter()
+            .zip(patches)
+            .all(|(one, named)| is_patch(objects, one, named))
+}

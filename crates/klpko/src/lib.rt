@@ -1,0 +1,225 @@
+//! The program `klpko`. It reads livepatches from the files of their modules, before they are loaded. It says what the
+//! tables of each one say, or what becomes of each one when each other one is loaded over it: in words, or for programs.
+//! Or it writes a catalog that says what the tables say.
+#![tactic(auto)]
+
+use klp_arguments::{ModuleQuestion, ModuleWords, Program, given_words, module_words};
+use klp_diagnostics::{STANDARD_INPUT, file_in, only_one_input};
+use klp_messages::Escaped;
+use klp_module_answer::{Form, Livepatch, compare, list, read_livepatch};
+use klp_module_catalog::{CatalogFault, Marked, NamedPatch, catalog_of};
+use klp_tables::MAX_PATCHES;
+use std::alloc::{AllocError, Global};
+use std::io;
+use std::io::Write;
+
+const NAME: &str = "klpko";
+
+/// The exit status without findings, of a fault, and with findings.
+const CLEAN: u8 = 0;
+
+const FAULT: u8 = 1;
+
+const FINDINGS: u8 = 3;
+
+/// A file, with what it has.
+#[derive(Drop)]
+struct File<'w> {
+    path: &'w str,
+    bytes: Vec<u8>,
+}
+
+/// Reads all files. Returns the exit status as `Err` if one can't be read, or if there are too many.
+fn files_in<'w, E: Write>(
+    rt: &HostRuntime,
+    paths: &[&'w str],
+    err: &mut E,
+) -> Result<Vec<File<'w>>, u8> {
+    if MAX_PATCHES < paths.len() {
+        let count = paths.len();
+        let _ = writeln!(
+            err,
+            "{NAME}: {count} files are given, and {MAX_PATCHES} are the most"
+        );
+        return Err(FAULT);
+    }
+    if 1 < paths.iter().filter(|path| **path == STANDARD_INPUT).count() {
+        only_one_input(NAME, STANDARD_INPUT, STANDARD_INPUT, err)?;
+    }
+    let mut files = Vec::new(rt.alloc());
+    for path in paths {
+        let bytes = file_in(rt, NAME, path, err)?;
+        if files.push(File { path: *path, bytes }).is_err() {
+            return Err(out_of_memory(err));
+        }
+    }
+    Ok(files)
+}
+
+/// Reads the kernel's symbols, if they are given. Returns the exit status as `Err` if they can't be read.
+fn symbols_in<E: Write>(
+    rt: &HostRuntime,
+    words: &ModuleWords<'_>,
+    err: &mut E,
+) -> Result<Option<Vec<u8>>, u8> {
+    let Some(path) = words.symbols else {
+        return Ok(None);
+    };
+    if words.modules.contains(&STANDARD_INPUT) {
+        only_one_input(NAME, path, STANDARD_INPUT, err)?;
+    }
+    Ok(Some(file_in(rt, NAME, path, err)?))
+}
+
+/// Writes that memory ran out, and returns the exit status.
+fn out_of_memory<E: Write>(err: &mut E) -> u8 {
+    let _ = writeln!(err, "{NAME}: memory ran out");
+    FAULT
+}
+
+/// Returns the livepatch of the same name, if one was read before.
+fn same_named<'l, 'a>(livepatches: &'l [Livepatch<'a>], name: &[u8]) -> Option<&'l Livepatch<'a>> {
+    livepatches.iter().find(|livepatch| livepatch.name == name)
+}
+
+/// The livepatches that were read, and whether all files have one.
+#[derive(Drop)]
+struct Livepatches<'a> {
+    livepatches: Vec<Livepatch<'a>>,
+    are_all: bool,
+}
+
+/// Reads the livepatches of all files. Writes to `err` what is wrong with each other file.
+fn livepatches_in<'f, E: Write>(
+    alloc: Global,
+    files: &'f [File<'_>],
+    err: &mut E,
+) -> Result<Livepatches<'f>, AllocError> {
+    let mut read = Livepatches {
+        livepatches: Vec::new(alloc),
+        are_all: true,
+    };
+    for file in files {
+        let Some(livepatch) = read_livepatch(alloc, NAME, file.path, &file.bytes, err) else {
+            read.are_all = false;
+            continue;
+        };
+        if let Some(other) = same_named(&read.livepatches, livepatch.name) {
+            let (path, name) = (Escaped(file.path.as_bytes()), Escaped(livepatch.name));
+            let other = Escaped(other.file.as_bytes());
+            let _ = writeln!(err, "{NAME}: {path}: it is the patch {name}, as {other} is");
+            read.are_all = false;
+            continue;
+        }
+        read.livepatches.push(livepatch)?;
+    }
+    Ok(read)
+}
+
+/// Writes how much of a catalog isn't known, if anything isn't. Returns whether all is known.
+fn tell_marks<E: Write>(marked: Marked, err: &mut E) -> bool {
+    let counted = [
+        (marked.callbacks, "callbacks whose code isn't read"),
+        (marked.objects, "objects with made-up symbols"),
+        (
+            marked.replacing,
+            "patches whose code sets whether they replace others",
+        ),
+    ];
+    let mut is_all_known = true;
+    for (count, what) in counted {
+        if count > 0 {
+            is_all_known = false;
+            let _ = writeln!(err, "{NAME}: marked in the catalog: {what}: {count}");
+        }
+    }
+    is_all_known
+}
+
+/// Writes a catalog of the livepatches. Returns whether all of it is known, or the exit status as `Err`.
+fn write_catalog<W: Write, E: Write>(
+    alloc: Global,
+    livepatches: &[Livepatch<'_>],
+    symbols: Option<&[u8]>,
+    out: &mut W,
+    err: &mut E,
+) -> io::Result<Result<bool, u8>> {
+    let mut patches = Vec::new(alloc);
+    for livepatch in livepatches {
+        let named = NamedPatch {
+            name: livepatch.name,
+            patch: &livepatch.patch,
+        };
+        if patches.push(named).is_err() {
+            return Ok(Err(out_of_memory(err)));
+        }
+    }
+    match catalog_of(alloc, &patches, symbols) {
+        Ok(catalog) => {
+            out.write_all(catalog.text.as_bytes())?;
+            out.flush()?;
+            Ok(Ok(tell_marks(catalog.marked, err)))
+        }
+        Err(CatalogFault::NoMemory) => Ok(Err(out_of_memory(err))),
+        Err(fault) => {
+            let _ = writeln!(err, "{NAME}: {fault}");
+            Ok(Err(FAULT))
+        }
+    }
+}
+
+/// Answers, and returns the exit status. Patches are compared, and a catalog is made of them, only if all files have one.
+fn answer<W: Write, E: Write>(
+    alloc: Global,
+    words: &ModuleWords<'_>,
+    read: &Livepatches<'_>,
+    symbols: Option<&[u8]>,
+    out: &mut W,
+    err: &mut E,
+) -> u8 {
+    let form = if words.is_json {
+        Form::Json
+    } else {
+        Form::Words
+    };
+    let livepatches = &read.livepatches;
+    let written = match words.question {
+        ModuleQuestion::List => list(alloc, livepatches, form, out).map(Ok),
+        _ if !read.are_all => return FAULT,
+        ModuleQuestion::Matrix => compare(alloc, livepatches, form, out).map(Ok),
+        ModuleQuestion::Catalog => write_catalog(alloc, livepatches, symbols, out, err),
+    };
+    match written {
+        Ok(Err(status)) => status,
+        Ok(_) if !read.are_all => FAULT,
+        Ok(Ok(true)) => CLEAN,
+        Ok(Ok(false)) => FINDINGS,
+        Err(error) if error.kind() == io::ErrorKind::OutOfMemory => out_of_memory(err),
+        Err(error) => {
+            let _ = writeln!(err, "{NAME}: {error}");
+            FAULT
+        }
+    }
+}
+
+// Returns the program's exit status. Returns it as `Err` if the arguments are refused, or if a file can't be read.
+fn status_in(rt: &HostRuntime) -> Result<u8, u8> {
+    let (mut out, mut err) = (io::writer(rt), rt.stderr());
+    let given = given_words(rt, Program::Klpko, &mut out, &mut err)?;
+    let words = module_words(rt.alloc(), &given, &mut out, &mut err)?;
+    let files = files_in(rt, &words.modules, &mut err)?;
+    let symbols = symbols_in(rt, &words, &mut err)?;
+    match livepatches_in(rt.alloc(), &files, &mut err) {
+        Ok(read) => {
+            let symbols = symbols.as_deref();
+            Ok(answer(rt.alloc(), &words, &read, symbols, &mut out, &mut err))
+        }
+        Err(_) => Err(out_of_memory(&mut err)),
+    }
+}
+
+/// Runs the program, and returns the exit status.
+pub fn run(rt: &HostRuntime) -> u8 {
+    let (Ok(status) | Err(status)) = status_in(rt);
+    status
+}
