@@ -199,6 +199,17 @@ class Machine:
         """Starts klpcap over the machine."""
         return start([*shell, f"{TOP}/klpcap", "--root", self.root, *words], env={**os.environ, "TMPDIR": self.temporary}, **how)
 
+    @contextlib.contextmanager
+    def session(self, shell, *words, **how):
+        """The same in a process group of its own, all of which is ended at the end, if it is still there."""
+        process = self.begin(shell, *words, start_new_session=True, **how)
+        try:
+            yield process
+        finally:
+            if process.poll() is None:
+                os.killpg(process.pid, signal.SIGKILL)
+                process.communicate()
+
     def left_behind(self):
         """What klpcap left of its temporary files."""
         return [f"left {it}" for it in os.listdir(self.temporary)]
@@ -215,17 +226,30 @@ def machine():
 WAIT = "3600"
 
 
-def waits_in(process):
-    """The process by which klpcap waits for its next sample: a `sleep` of its own. It is there soon after a sample."""
-    end = time.monotonic() + SECONDS
-    while time.monotonic() < end:
-        for folder in glob.glob("/proc/[0-9]*"):
-            with contextlib.suppress(OSError), open(f"{folder}/stat", encoding="utf-8", errors="replace") as it:
-                name, _, rest = it.read().partition("(")[2].rpartition(")")
-                if name == "sleep" and int(rest.split(" ")[2]) == process.pid:
-                    return int(folder.rpartition("/")[2])
+def until(is_so, wrong):
+    """Waits until this is so, and returns what it is."""
+    end, found = time.monotonic() + SECONDS, is_so()
+    while not found:
+        if time.monotonic() > end:
+            raise TimeoutError(wrong)
         time.sleep(0.01)
-    raise TimeoutError("klpcap doesn't wait for its next sample")
+        found = is_so()
+    return found
+
+
+def sleep_of(process):
+    """The process by which klpcap waits for its next sample, if it does: a `sleep` of its own."""
+    for folder in glob.glob("/proc/[0-9]*"):
+        with contextlib.suppress(OSError), open(f"{folder}/stat", encoding="utf-8", errors="replace") as it:
+            name, _, rest = it.read().partition("(")[2].rpartition(")")
+            if name == "sleep" and int(rest.split(" ")[2]) == process.pid:
+                return int(folder.rpartition("/")[2])
+    return None
+
+
+def waits_in(process):
+    """The same, once it is there, which is soon after a sample."""
+    return until(lambda: sleep_of(process), "klpcap doesn't wait for its next sample")
 
 
 def samples(shell, it, changes, *words, **how):
@@ -402,6 +426,14 @@ def left(shell):
         )
 
 
+def kernels_log(shell):
+    """Of the kernel's log it has the lines on livepatching, also where a kernel names there who called. Without a time it has none."""
+    with machine() as it:
+        it.put("dmesg", "[    8.10][    T1] livepatch: one\n[    8.20] [   C11] livepatch: two\n[   10.30] livepatch: [ T1] three\n[10.4] other\nlivepatch: four\n")
+        lines = finish(it.begin(shell, "--once"))[1].decode().splitlines()
+        return differs((of(lines, "log"), ["log 8.10 livepatch: one", "log 8.20 livepatch: two", "log 10.30 livepatch: [ T1] three"]))
+
+
 def left_at_end(shell):
     """Where no transition is under way, nobody is followed any longer, be it inside; in the next one, all is told anew."""
     with machine() as it:
@@ -496,11 +528,21 @@ def unwritten(shell):
         return "; ".join([*wrong, *it.left_behind()]) or differs((heard[0], b"klpcap 2\n"))
 
 
+def sleepless(shell):
+    """It says so where this machine's sleep can't wait so long, and doesn't take samples without end."""
+    with machine() as it:
+        put(f"{it.root}/bin/sleep", "#!/bin/sh\necho sleep: no fractions >&2; exit 1\n")
+        os.chmod(f"{it.root}/bin/sleep", 0o755)
+        path = f"{it.root}/bin:{os.environ['PATH']}"
+        status, out, err = finish(it.begin(["env", f"PATH={path}", *shell], "-i", "0.5"))
+        return differs(((status, err, len(of(out.decode().splitlines(), "sample"))), (1, "klpcap: sleep can't wait 0.5 s: try -i 1\n", 1)))
+
+
 def stopped(shell):
     """HUP, INT and TERM end it with the lines of an end, and nothing is left behind."""
     with machine() as it:
         wrong = []
-        for number in (signal.SIGHUP, signal.SIGINT, signal.SIGTERM):
+        for number in ENDING:
             process = it.begin(shell, "-i", "0.1")
             while not process.stdout.readline().startswith(b"sample "):
                 pass
@@ -509,6 +551,106 @@ def stopped(shell):
             if (status, err) != (0, "") or not out.decode().endswith(f"{LOG}{SYMBOLS}module eventfd_fix\nend stopped\n"):
                 wrong.append(f"{number}: {status} {out[-200:]} {err}")
         return "; ".join([*wrong, *it.left_behind()]) or None
+
+
+class Held:
+    """A file of the machine at which its first reader is held up, until it is let go."""
+
+    def __init__(self, it, name):
+        self.path = os.path.realpath(f"{it.root}/{name}")
+        os.rename(self.path, f"{self.path}.kept")
+        os.mkfifo(self.path)
+        self.end = os.open(self.path, os.O_RDWR)  # a shell may give up opening what nobody writes, once a child of it has ended
+
+    def reached(self, process):
+        """Waits until the process, or one that it has started, reads. Whoever comes next reads the file as it was."""
+        until(lambda: any(self.path in opened for opened in files_of(process)), f"nobody reads {self.path}")
+        os.rename(f"{self.path}.kept", self.path)
+
+    def let_go(self, text=""):
+        """Lets the reader go, which has read this text, if it is still there."""
+        os.write(self.end, text.encode())
+        os.close(self.end)
+
+
+def files_of(leader):
+    """Of each process of this one's group the files that it has open."""
+    for folder in glob.glob("/proc/[0-9]*"):
+        with contextlib.suppress(OSError):
+            if os.getpgid(int(folder.rpartition("/")[2])) == leader.pid:
+                yield [os.readlink(it) for it in glob.glob(f"{folder}/fd/*")]
+
+
+# The signals that end a log.
+ENDING = (signal.SIGHUP, signal.SIGINT, signal.SIGTERM)
+
+
+def of_whom():
+    """Each of them, to klpcap alone and, as Ctrl-C at a terminal does, to all that it has started."""
+    return [(number, send) for number in ENDING for send in (os.kill, os.killpg)]
+
+
+def torn(shell):
+    """A sample is torn if a signal came while klpcap read a task for it, or while it asked who is inside for its words. Nothing is
+    said of such a sample, and the log ends with it."""
+    with machine() as it:
+        wrong = []
+        for number, send in of_whom():
+            for name, words in (("proc/91/task/91/stack", []), ("proc/91/stat", [f"klpcap: {STARTS}"])):
+                it.task(91)
+                held = Held(it, name)
+                with terminal() as (device, said), it.session(shell, "-i", WAIT, stderr=device) as process:
+                    held.reached(process)
+                    send(process.pid, number)
+                    held.let_go()
+                    lines = process.communicate(timeout=SECONDS)[0].decode().splitlines()
+                    found = [line.split(" ")[6] for line in of(lines, "sample")]
+                    came = (process.returncode, found, lines[-1:], said())
+                    wrong.append(differs(((number, send, name, came), (number, send, name, (0, ["1"], ["end stopped"], words)))))
+        return "; ".join([*filter(None, wrong), *it.left_behind()]) or None
+
+
+def torn_again(shell):
+    """Ctrl-C ends the wait for a sample. The one that is taken then is whole, unless there is one more signal."""
+    with machine() as it:
+        wrong = []
+        for number in ENDING:
+            for again in (False, True):
+                it.task(91)
+                with it.session(shell, "-i", WAIT) as process:
+                    waits_in(process)
+                    held = Held(it, "proc/91/task/91/patch_state")
+                    os.killpg(process.pid, number)
+                    held.reached(process)
+                    if again:
+                        os.killpg(process.pid, number)
+                    held.let_go("0\n")
+                    status, out, err = finish(process)
+                found = [line.split(" ")[6] for line in of(out.decode().splitlines(), "sample")]
+                came = (status, err, found, out.endswith(b"\nend stopped\n"))
+                wrong.append(differs(((number, again, came), (number, again, (0, "", ["0", str(int(again))], True)))))
+        return "; ".join([*filter(None, wrong), *it.left_behind()]) or None
+
+
+def ends_whole(shell):
+    """Signals at its end, to all that it has started, cut nothing off: neither the kernel's log nor the symbols of a patch."""
+    with machine() as it:
+        wrong = []
+        for number in ENDING:
+            for name, words, end in (("dmesg", ("--once",), "count"), ("proc/kallsyms", ("-i", WAIT), "stopped")):
+                it.task(91)
+                text, held = read_whole(f"{it.root}/{name}").decode(), Held(it, name)
+                with it.session(shell, *words) as process:
+                    held.reached(process)
+                    if end == "stopped":
+                        waits_in(process)
+                    os.killpg(process.pid, number)
+                    time.sleep(0.1)  # what the signal ends is gone then
+                    held.let_go(text)
+                    status, out, err = finish(process)
+                is_whole = out.decode().endswith(f"{LOG}{SYMBOLS}module eventfd_fix\nend {end}\n")
+                wrong.append(differs(((number, name, status, err, is_whole or out[-300:]), (number, name, 0, "", True))))
+        return "; ".join([*filter(None, wrong), *it.left_behind()]) or None
 
 
 def asked(shell):
@@ -528,6 +670,37 @@ def asked(shell):
         return "; ".join(filter(None, wrong)) or None
 
 
+def interrupted(shell):
+    """A write that the end of a child interrupts is begun again: here the first one of all, to a pipe that is full."""
+    with machine() as it:
+        whole = finish(it.begin(shell, "--once"))[1]
+        reading, writing = os.pipe()
+        os.set_blocking(writing, False)
+        full = 0
+        with contextlib.suppress(BlockingIOError):
+            while True:
+                full += os.write(writing, bytes(1))
+        os.set_blocking(writing, True)
+        process = it.begin(shell, "--once", stdout=writing)
+        os.close(writing)
+        until(lambda: "pipe_write" in read_whole(f"/proc/{process.pid}/wchan").decode(), "klpcap doesn't wait for the pipe")
+        process.send_signal(signal.SIGCHLD)
+        until(lambda: b"\nShdPnd:\t0000000000000000\n" in read_whole(f"/proc/{process.pid}/status"), "the signal isn't taken")
+        with open(reading, "rb") as log:
+            came = log.read()[full:]
+        return differs((process.wait(SECONDS), 0), (came, whole))
+
+
+def looked_up_again(shell):
+    """Where the look for a patch's symbols is ended by a signal, klpcap looks again."""
+    with machine() as it:
+        it.task(91)
+        whole = finish(it.begin(shell, "--once"))
+        it.put("bin/grep", f'#!/bin/sh\nmkdir {it.root}/tried 2>/dev/null && kill -9 $$\nexec {shutil.which("grep")} "$@"\n')
+        os.chmod(f"{it.root}/bin/grep", 0o755)
+        return differs((finish(it.begin(["env", f"PATH={it.root}/bin:{os.environ['PATH']}", *shell], "--once")), whole), (os.path.exists(f"{it.root}/tried"), True))
+
+
 def lacking(shell):
     """A name that the kernel lacks is told, with the first three that begin with it and a dot. Data isn't a function."""
     with machine() as it:
@@ -541,7 +714,8 @@ def lacking(shell):
 
 @contextlib.contextmanager
 def terminal():
-    """A terminal of 60 columns, and a call that returns what was said there, once nothing has it open any longer."""
+    """A terminal of 60 columns, and a call that returns what was said there, with TIME for each time of the day, once nothing has
+    it open any longer."""
     master, slave = pty.openpty()
     termios.tcsetwinsize(slave, (24, 60))
 
@@ -551,7 +725,7 @@ def terminal():
         with contextlib.suppress(OSError):  # all that was said is read
             while True:
                 text += os.read(master, 1000)
-        return text.decode().replace("\r\n", "\n").splitlines()
+        return re.sub(r"\b\d\d:\d\d:\d\d\b", "TIME", text.decode()).replace("\r\n", "\n").splitlines()
     try:
         yield slave, said
     finally:
@@ -580,7 +754,7 @@ def at_terminal(shell):
         place = f"klpcap: the log is in {log}; read it with: klpsee {log}"
         return differs(
             (process.returncode, 0), (unheard[0], (0, b"", "")), (unheard[1].endswith("end count\n"), True), (without, unheard),
-            (full, (1, b"", "")), (heard, ["klpcap: eventfd_fix is in transition: enabling", f"klpcap: eventfd_fix: enabling for 0 s or more; billing[91] {ASLEEP}", place]),
+            (full, (1, b"", "")), (heard, [f"klpcap: {STARTS}", f"klpcap: at TIME billing[91] {ASLEEP}", place]),
         )
 
 
@@ -598,6 +772,46 @@ def stopped_at_terminal(shell):
             (said(), ["klpcap: waits for a transition; Ctrl-C ends it", f"klpcap: the log is in {log}; read it with: klpsee {log}"]),
             (read_whole(log).endswith(b"\nend stopped\n"), True),
         )
+
+
+def unnamed(shell):
+    """Where standard output is a terminal, too, no log is written unless a file is named, which is said. Where it goes to a file,
+    that one is named, and where to a pipe, none."""
+    with machine() as it:
+        it.task(91)
+        log, spoken = f"{it.root}/log", [f"klpcap: {STARTS}", f"klpcap: at TIME billing[91] {ASLEEP}"]
+        place = f"klpcap: the log is in {log}; read it with: klpsee {log}"
+        none = "klpcap: no log is written to a terminal: name a file for it, or ask: klpcap --once | klpsee -"
+
+        def told(*words, **how):
+            with terminal() as (device, said):
+                streams = {name: device if to is None else to for name, to in how.items()}
+                status = it.begin(shell, "--once", *words, **streams).wait(SECONDS)
+                return status, said()
+        with open(log, "wb") as file:
+            redirected = told(stdout=file, stderr=None)
+        kept = read_whole(log)
+        return differs(
+            (told(stdout=None, stderr=None), (0, [none, *spoken])), (told(log, stdout=None, stderr=None), (0, [*spoken, place])),
+            (read_whole(log), kept), (redirected, (0, [*spoken, place])), (kept.endswith(b"\nend count\n"), True),
+            (told(stdout=subprocess.DEVNULL, stderr=None), (0, spoken)),
+            (told(stdout=None, stderr=subprocess.DEVNULL), (0, kept.decode().splitlines())),
+        )
+
+
+def timed(shell):
+    """The time of the day that it says is the one at which it looked, and what it saw first stays so."""
+    with machine() as it:
+        it.task(91)
+        master, slave = pty.openpty()
+        with open(master, "rb", buffering=0) as heard:
+            before = int(time.time())
+            status = it.begin(shell, "--once", stderr=slave).wait(SECONDS)
+            after = time.time()
+            times = re.findall(rb"\b\d\d:\d\d:\d\d\b", heard.read(1000))
+        os.close(slave)
+        possible = {time.strftime("%H:%M:%S", time.localtime(at)).encode() for at in range(before, int(after) + 1)}
+        return differs((status, 0), (len(times), 2), (set(times) <= possible, True))
 
 
 def read_whole(path):
@@ -654,60 +868,69 @@ def both(*acts):
 
 
 ASLEEP = "asleep (S) in eventfd_read"
-STARTS = "eventfd_fix is in transition: enabling"
-ENABLING = "eventfd_fix: enabling for"
-PLACE = "the log went to standard output; read it with: klpsee LOG"
+STARTS, STARTED = (f"eventfd_fix is in transition: enabling since TIME{it}" for it in (" or before", ""))
 HELD = f"nginx[500], 3 threads {ASLEEP}; indexer[91] asleep (D) in eventfd_read; 1 lag elsewhere"
 # What is said at a terminal: the name of the test, the options, what the machine is at first, the time of each further sample
 # and what has changed until then, and what is said of them all.
 SPOKEN = (
-    ("who is inside", (), two_processes, ((13.05, fewer),), (STARTS, f"{ENABLING} 0 s or more; {HELD}", f"{ENABLING} 3 s or more; nginx[500], thread 502 {ASLEEP}")),
+    ("who is inside", (), two_processes, ((13.05, fewer),), (STARTS, f"at TIME {HELD}", f"at TIME nginx[500], thread 502 {ASLEEP}")),
     (
         "a line a second", (), lambda it: it.task(91), ((10.95, lambda it: it.task(92)), (11.00, lambda it: it.task(94))),
-        (STARTS, f"{ENABLING} 0 s or more; billing[91] {ASLEEP}", f"{ENABLING} 1 s or more; billing[91] {ASLEEP}; billing[92] {ASLEEP}; billing[94] {ASLEEP}"),
+        (STARTS, f"at TIME billing[91] {ASLEEP}", f"at TIME billing[91] {ASLEEP}; billing[92] {ASLEEP}; billing[94] {ASLEEP}"),
     ),
-    ("nothing new", (), lambda it: it.task(91), ((12.0, lambda it: it.task(93, state=1)), (14.0, lambda it: None)), (STARTS, f"{ENABLING} 0 s or more; billing[91] {ASLEEP}")),
+    ("nothing new", (), lambda it: it.task(91), ((12.0, lambda it: it.task(93, state=1)), (14.0, lambda it: None)), (STARTS, f"at TIME billing[91] {ASLEEP}")),
     (
         "a start", (), both(lambda it: it.turn(0), lambda it: it.task(91)), ((20.0, lambda it: it.turn(1)), (25.0, lambda it: it.task(91, letter="D")), (26.0, lambda it: it.turn(0))),
-        (STARTS, f"{ENABLING} 0 s; billing[91] {ASLEEP}", f"{ENABLING} 5 s; billing[91] asleep (D) in eventfd_read"),
+        (STARTED, f"at TIME billing[91] {ASLEEP}", "at TIME billing[91] asleep (D) in eventfd_read", "at TIME eventfd_fix is no longer in transition"),
     ),
     (
         "a reversal", (), lambda it: it.task(91), ((22.0, both(lambda it: it.turn(1, 0), lambda it: it.task(91, state=1))), (24.0, lambda it: it.task(92, state=1))),
         (
-            STARTS, f"{ENABLING} 0 s or more; billing[91] {ASLEEP}", "eventfd_fix is in transition: disabling", f"eventfd_fix: disabling for 0 s; billing[91] {ASLEEP}; 1 lag elsewhere",
-            f"eventfd_fix: disabling for 2 s; billing[91] {ASLEEP}; billing[92] {ASLEEP}; 1 lag elsewhere",
+            STARTS, f"at TIME billing[91] {ASLEEP}", "eventfd_fix is in transition: disabling since TIME", f"at TIME billing[91] {ASLEEP}; 1 lag elsewhere",
+            f"at TIME billing[91] {ASLEEP}; billing[92] {ASLEEP}; 1 lag elsewhere",
         ),
     ),
     (
         "another patch", (), lambda it: it.task(91), ((22.0, next_patch),),
-        (STARTS, f"{ENABLING} 0 s or more; billing[91] {ASLEEP}", "other is in transition: enabling", f"other: enabling for 0 s; billing[91] {ASLEEP}"),
+        (STARTS, f"at TIME billing[91] {ASLEEP}", "other is in transition: enabling since TIME", f"at TIME billing[91] {ASLEEP}"),
     ),
-    ("nobody", (), lambda it: it.task(91, state=1), (), (STARTS, f"{ENABLING} 0 s or more; no task that it can see lags")),
-    ("one that runs", (), lambda it: it.task(91, letter="R"), (), (STARTS, f"{ENABLING} 0 s or more; billing[91] runs in eventfd_read")),
+    ("nobody", (), lambda it: it.task(91, state=1), (), (STARTS, "at TIME no task that it can see lags")),
+    ("one that runs", (), lambda it: it.task(91, letter="R"), (), (STARTS, "at TIME billing[91] runs in eventfd_read")),
     (
         "one that may have run", (), both(lambda it: it.task(91), lambda it: os.remove(f"{it.root}/proc/91/task/91/schedstat")), (),
-        (STARTS, f"{ENABLING} 0 s or more; billing[91] seen in eventfd_read"),
+        (STARTS, "at TIME billing[91] seen in eventfd_read"),
     ),
     (
         "more groups than it names", (), named_groups, (),
-        (STARTS, f"{ENABLING} 0 s or more; {'; '.join(f'p{many}[{100 * many}], {many} threads {ASLEEP}' for many in range(10, 2, -1))}; 3 more inside of patched functions"),
+        (STARTS, f"at TIME {'; '.join(f'p{many}[{100 * many}], {many} threads {ASLEEP}' for many in range(10, 2, -1))}; 3 more inside of patched functions"),
     ),
     (
         "more tasks than slots", (), both(lambda it: crowd(it, 100, 70), lambda it: crowd(it, 900, 2, frames=ELSEWHERE)), (),
-        (STARTS, f"{ENABLING} 0 s or more; nginx[100], 64 threads {ASLEEP}; 6 more inside of patched functions; 2 lag elsewhere"),
+        (STARTS, f"at TIME nginx[100], 64 threads {ASLEEP}; 6 more inside of patched functions; 2 lag elsewhere"),
     ),
     (
         "behind -f", ("-f", "eventfd_read"), both(lambda it: crowd(it, 100, 70), lambda it: crowd(it, 100, 3, state=1)), (),
-        (STARTS, f"{ENABLING} 0 s or more; nginx[100], 61 threads {ASLEEP}; 6 more inside of patched functions or those asked for"),
+        (STARTS, f"at TIME nginx[100], 61 threads {ASLEEP}; 6 more inside of patched functions or those asked for"),
     ),
-    ("a name", (), lambda it: it.task(91, name="\x9b2J\x1b[2J\u202e"), (), (STARTS, f"{ENABLING} 0 s or more; ??2J?[2J???[91] {ASLEEP}")),
+    (
+        "behind -f, before a patch", ("-f", "eventfd_read"), both(lambda it: it.turn(0), lambda it: it.task(91, state=-1), lambda it: it.task(92, state=-1, frames=ELSEWHERE)),
+        ((12.0, lambda it: it.end(91)),), (f"at TIME billing[91] {ASLEEP}", "at TIME no task that it can see is inside"),
+    ),
+    ("a name", (), lambda it: it.task(91, name="\x9b2J\x1b[2J\u202e"), (), (STARTS, f"at TIME ??2J?[2J???[91] {ASLEEP}")),
     (
         "nothing readable", (), both(lambda it: it.task(91), unlink("stack")), (),
-        ("ROOT/proc/self/stack isn't there: the kernel needs CONFIG_STACKTRACE", STARTS, f"{ENABLING} 0 s or more; who holds it up could not be read"),
+        ("ROOT/proc/self/stack isn't there: the kernel needs CONFIG_STACKTRACE", STARTS, "at TIME who is inside could not be read"),
+    ),
+    (
+        "a kernel without livepatch, behind -f", ("-f", "eventfd_read"),
+        both(lambda it: it.task(91, state=-1), unlink("patch_state"), lambda it: shutil.rmtree(f"{it.root}/sys/kernel/livepatch")), (), (
+            "ROOT/sys/kernel/livepatch isn't there: the kernel needs CONFIG_LIVEPATCH",
+            "ROOT/proc/self/patch_state isn't there: the kernel needs CONFIG_LIVEPATCH", f"at TIME billing[91] {ASLEEP}",
+        ),
     ),
     (
         "a command for a time", (), both(lambda it: it.task(91), lambda it: it.put("proc/uptime", "a[$(touch${IFS}made)] 1\n")), (),
-        (STARTS, f"{ENABLING} 0 s or more; billing[91] {ASLEEP}"),
+        (STARTS, f"at TIME billing[91] {ASLEEP}"),
     ),
 )
 
@@ -721,12 +944,12 @@ def spoken(options, first, changes, lines, shell):
         change(10.10, first)
         samples(shell, it, [functools.partial(change, *step) for step in changes], *options, stderr=device)
         made = [path for path, _, names in os.walk(it.root) for name in names if name == "made"]
-        wanted = [f"klpcap: {line.replace('ROOT', it.root)}" for line in (*lines, PLACE)]
+        wanted = [f"klpcap: {line.replace('ROOT', it.root)}" for line in lines]
         return differs((said(), wanted), (made + [name for name in os.listdir(EXAMPLES) if name == "made"], []))
 
 
 def waiting(shell):
-    """At a terminal it says that it waits, once, and then that a transition starts, and ends with it."""
+    """At a terminal it says that it waits, once, then that a transition starts, and that it is over, and ends with it."""
     with machine() as it, terminal() as (device, said):
         it.turn(0)
         process = it.begin(shell, "-i", WAIT, stderr=device)
@@ -739,7 +962,7 @@ def waiting(shell):
                 it.turn(turn)
             os.kill(sleeper, signal.SIGPIPE)
         out = process.communicate(timeout=SECONDS)[0]
-        wanted = ("waits for a transition; Ctrl-C ends it", STARTS, f"{ENABLING} 0 s; no task that it can see lags", PLACE)
+        wanted = ("waits for a transition; Ctrl-C ends it", STARTED, "at TIME no task that it can see lags", "at TIME eventfd_fix is no longer in transition")
         return differs((said(), [f"klpcap: {line}" for line in wanted]), (out.endswith(b"\nend over\n"), True))
 
 
@@ -785,8 +1008,8 @@ RUN = (
     (", to the end", ended), (", its head", headed), (", names of processes", processes), (", a process's number again", processes_again),
     (", more tasks than slots", chosen), (", those that merely lag", preferred), (", slots given up", left), (", no transition any more", left_at_end),
     (", slots behind -f", left_asked), (", no livepatch", without_livepatch), (", one patch behind another", kept_through_patches), (", what can't be written", unwritten),
-    (", signals", stopped), (", names behind -f", asked), (", names that the kernel lacks", lacking), (", at a terminal", at_terminal), (", waits at a terminal", waiting),
-    (", Ctrl-C at a terminal", stopped_at_terminal), *((f", at a terminal: {name}", functools.partial(spoken, *scene)) for name, *scene in SPOKEN),
+    (", the kernel's log", kernels_log), (", a sleep that takes no fractions", sleepless), (", signals", stopped), (", signals in a sample", torn), (", signals between samples", torn_again), (", signals at the end", ends_whole), (", names behind -f", asked), (", names that the kernel lacks", lacking), (", a write that a signal interrupts", interrupted), (", a look for symbols that a signal ends", looked_up_again), (", at a terminal", at_terminal), (", waits at a terminal", waiting),
+    (", Ctrl-C at a terminal", stopped_at_terminal), (", no file named at a terminal", unnamed), (", the time of the day", timed), *((f", at a terminal: {name}", functools.partial(spoken, *scene)) for name, *scene in SPOKEN),
     (", what can't be read", unreadable), (", help and version", helped),
 )
 

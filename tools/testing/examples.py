@@ -177,19 +177,80 @@ def unsaid(told):
     return [it for it in about if it not in told["sentence"]]
 
 
+# What stands before the other patches in the sentences of these kinds.
+BEFORE_OTHERS = {
+    "alike": "is just like ", "not-over": "can't be loaded over ", "same-function": ", as ", "takes-out": "takes out ",
+    "takes-over": " of ", "forgets-state": " of ", "loses-functions": "takes out ", "leaves-variable": "takes out ",
+    "loses-variable": "takes out ", "not-again": "takes out ",
+}
+# How a sentence says in which world it holds.
+WORLDS = {
+    "without-modules": re.compile(r"^without modules: |, while .* (?:isn't|aren't) loaded$"),
+    "with-modules": re.compile(r"^with [^:]*: \d|, while .* (?:is|are) loaded$"),
+}
+
+
+def untold(told):
+    """What a sentence says of other patches and of the world, and its object doesn't have."""
+    sentence, others = told["sentence"], told.get("others", ())
+    listed = " and ".join(filter(None, (", ".join(others[:-1]), *others[-1:])))
+    before = BEFORE_OTHERS.get(told["kind"])
+    world = next((it for it, form in WORLDS.items() if form.search(sentence)), None)
+    return [it for it, is_told in ((f"others {others}", before is None or (others and f"{before}{listed}" in sentence)),
+                                   (f"world {told.get('world')}", world == told.get("world"))) if not is_told]
+
+
+def lint_table():
+    """For each catalog of examples/lint the status, and the kinds of its findings."""
+    rows = [it.split() for it in read("lint/index").decode().splitlines() if not it.startswith("#")]
+    return {name: (int(status), kinds) for name, status, *kinds in rows}
+
+
 def lint(name):
-    """What klplint finds in a catalog, in words and for programs."""
+    """What klplint finds in a catalog, in words and for programs. What counts as a finding is written in a table."""
     words, stored = lint_words(name), read(f"lint/{name}.output")
+    wanted, kinds = lint_table()[name]
     status, out, err = run(["klplint", "--json", *words])
     told = lint_objects(out)
-    wanted = FINDINGS if any(it["finding"] for it in told) else 0
     spelled = "".join(map(in_words, told)).encode()
-    alike = fault((status, spelled, err), (wanted, stored, "")) or "; ".join(f"{it} unsaid" for own in told for it in unsaid(own))
+    found = list(dict.fromkeys(it["kind"] for it in told if it["finding"]))
+    wrong = [f"{it} unsaid" for own in told for it in unsaid(own)]
+    wrong += [f"{own}: {it} differ" for own in told for it in untold(own)]
+    alike = fault((status, spelled, err), (wanted, stored, "")) or "; ".join(wrong)
+    if not alike and found != kinds:
+        alike = f"findings of the kinds {found}, where {kinds} are wanted"
     return fault(run(["klplint", *words]), (wanted, stored, "")) or alike or None
 
 
 def lint_names():
     return sorted(it for it, ending in map(os.path.splitext, os.listdir(f"{EXAMPLES}/lint")) if ending == ".catalog")
+
+
+def lint_listed():
+    """The table has each catalog, and no other."""
+    return None if sorted(lint_table()) == lint_names() else f"{set(lint_table()) ^ set(lint_names())}"
+
+
+def lint_full_journal():
+    """Behind a script that has filled the journal, which has 4,096 events, klplint tries what it tries without one."""
+    with tempfile.NamedTemporaryFile("w", suffix=".script") as it:
+        it.write("task new 1\ntask end 1\n" * 2048)
+        it.flush()
+        wanted = read("lint/left.output").replace(b"with vmlinux alone", b"which the script left")
+        return fault(run(["klplint", "lint/left.catalog", it.name]), (0, wanted, ""))
+
+
+def lint_no_room():
+    """Behind a script that has added the 512 variables that there may be, a patch that adds one can't be loaded."""
+    said = (b"remark: lint/left.catalog: line 5: one: leaves no trace, in any world without its variables\n"
+            b"remark: lint/left.catalog: line 10: two: leaves no trace, in any world without its variables\n"
+            b"finding: lint/left.catalog: line 5: one: can't be loaded: there is no room for the variables of its callbacks\n"
+            b"remark: lint/left.catalog: 1 of 2 patches are loaded alone, 0 of 1 over another one\n"
+            b"remark: lint/left.catalog: judged: 2 patches in one world, which the script left\n")
+    with tempfile.NamedTemporaryFile("w", suffix=".script") as it:
+        it.write("".join(f"shadow alloc {number} 8 1\n" for number in range(512)))
+        it.flush()
+        return fault(run(["klplint", "lint/left.catalog", it.name]), (FINDINGS, said, ""))
 
 
 def lint_kinds():
@@ -244,7 +305,10 @@ def lint_pages():
 
 def lints():
     cases = [(f"lint/{name}.catalog", functools.partial(lint, name)) for name in lint_names()]
-    return [*cases, *lint_pages(), ("lint, each kind", lint_kinds), ("lint, a name that is escaped", lint_escapes)]
+    made = [("lint/left.catalog, behind a full journal", lint_full_journal), ("lint/left.catalog, without room", lint_no_room)]
+    made += [("lint, the table", lint_listed)]
+    made += [("lint, each kind", lint_kinds), ("lint, a name that is escaped", lint_escapes)]
+    return [*cases, *lint_pages(), *made]
 
 
 def refused(catalog, said, run=run):

@@ -419,6 +419,7 @@ def cases():
     missing = [
         ("klpwatch", ("k.catalog", "missing"), "missing", "No such file or directory (os error 2)"), ("klppage", (".", "k.script"), ".", "Is a directory (os error 21)"),
         ("klplint", ("k.catalog", "missing"), "missing", "No such file or directory (os error 2)"), ("klpsee", ("missing",), "missing", "No such file or directory (os error 2)"),
+        ("klpko", ("--list", "missing"), "missing", "No such file or directory (os error 2)"),
     ]
     for program, words, name, reason in missing:
         said = f"{program}: {name}: CannotRead: {reason}\n"

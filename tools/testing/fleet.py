@@ -7,13 +7,14 @@ import functools
 import json
 import os
 import re
+import shutil
 import subprocess
 import tempfile
 import threading
 import time
 
 from testing.logs import FRAME, HEAD, SYMBOLS
-from testing.run import EXAMPLES, built_program, finish, read, run_itself, start
+from testing.run import EXAMPLES, TOP, built_program, finish, read, run_itself, start
 
 EXPLAINED, FAULTY, USAGE, BROKEN = 0, 1, 2, 3
 # A line of a follower: when, and what.
@@ -190,12 +191,30 @@ def refused(words):
 
 def alarms():
     """The alarms are those that the rules' own test wants, where promtool is there."""
-    folder = f"{EXAMPLES}/../tools/fleet"
-    try:
-        done = subprocess.run(["promtool", "test", "rules", "alerts_test.yml"], cwd=folder, capture_output=True)
-    except FileNotFoundError:
+    if not shutil.which("promtool"):
         return None
+    done = subprocess.run(["promtool", "test", "rules", "alerts_test.yml"], cwd=f"{TOP}/tools/fleet", capture_output=True)
     return None if done.returncode == 0 else fault("promtool", done.stdout + done.stderr, "SUCCESS")
+
+
+def queries_in(part):
+    """The queries of a dashboard."""
+    if isinstance(part, dict):
+        own = [part["expr"]] if "expr" in part else []
+        return own + [it for value in part.values() for it in queries_in(value)]
+    return [it for value in part for it in queries_in(value)] if isinstance(part, list) else []
+
+
+def dashboard():
+    """Each number that the dashboard asks for is one that klpsee prints, with the labels that the query names."""
+    labels = {}
+    for name, pairs in numbers_of("crowd")[1]:
+        labels.setdefault(name, set()).update(key for key, _ in pairs)
+    with open(f"{TOP}/tools/fleet/dashboard.json", encoding="utf-8") as file:
+        queries = queries_in(json.load(file))
+    asked = [(name, set(re.findall(r'(\w+)=~?"', query))) for query in queries for name in re.findall(r"\bklp_\w+", query)]
+    unknown = [it for it in asked if it[0] not in labels or not it[1] <= labels[it[0]]]
+    return fault("the queries", unknown or queries, "numbers of klpsee") if unknown or not asked else None
 
 
 def thousand():
@@ -209,7 +228,8 @@ def cases():
     made = [("--follow, a stalled log", stalled), ("--follow, a log that grows", grows), ("--follow, a faulty line", faulty_line)]
     made += [("--follow, cut anywhere", functools.partial(cut_anywhere, 997))]
     made += [(f"--follow, captures/{it}.log", functools.partial(as_the_whole, it)) for it in ("enable", "disable", "reverse", "crowd", "replace_reversed")]
-    made += [("--metrics", metrics), ("--metrics, names that break the format", hostile_names), ("alarms", alarms)]
+    made += [("--metrics", metrics), ("--metrics, names that break the format", hostile_names), ("alarms", alarms),
+             ("the dashboard", dashboard)]
     made += [("many logs, worst first", worst_first), ("many logs, one is missing", one_is_missing), ("1,000 logs", thousand)]
     made += [(f"klpsee {' '.join(it)}", functools.partial(refused, [*it, log])) for it in (["--follow", log], ["--follow", "--json"], ["--follow", "--metrics"],
                                                                                        ["--json", log], ["--metrics", "-o", "x"])]

@@ -17,7 +17,7 @@ RECORDER = {
     "usr/bin/klpcap", "usr/share/man/man1/klpcap.1.gz", "usr/share/bash-completion/completions/klpcap", "usr/lib/systemd/system/klpcap.service",
     "usr/share/doc/klpcap/changelog.gz",
 }
-NAMES = ("klpsim", "klpwatch", "klppage", "klplint", "klpsee")
+NAMES = ("klpsim", "klpwatch", "klppage", "klplint", "klpsee", "klpko")
 OWN = {f"{folder}/{name}{ending}" for name in NAMES for folder, ending in
        (("usr/bin", ""), ("usr/share/man/man1", ".1.gz"), ("usr/share/bash-completion/completions", ""))}
 DOCUMENTS = "usr/share/doc/cihapuro/"

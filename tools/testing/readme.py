@@ -1,5 +1,5 @@
-"""Commands and links of documents. Each block of `sh` in README.md and docs/ADMIN.md is run as it stands there, one after another in one folder.
-What it answers has to be the block of `text` right behind it, or nothing where there is none. Each link of each document leads
+"""Commands and links of documents. Each block of `sh` in README.md, docs/ADMIN.md and docs/MODULES.md is run as it stands there, one after
+another in one folder. What it answers has to be the block of `text` right behind it, or nothing where there is none. Each link of each document leads
 somewhere, and each tool that one calls is there."""
 import functools
 import os
@@ -115,7 +115,7 @@ def lost_places():
 
 
 def cases():
-    runs = [(f"{it}, {len(blocks(it))} blocks", functools.partial(run_all, it)) for it in ("README.md", "docs/ADMIN.md")]
+    runs = [(f"{it}, {len(blocks(it))} blocks", functools.partial(run_all, it)) for it in ("README.md", "docs/ADMIN.md", "docs/MODULES.md")]
     return [*runs, ("documents, links", lost_links), ("documents, places", lost_places), ("documents, commands", lost_commands),
             ("documents, headings that code cites", lost_citations), ("REVIEW.md, numbers of lines", counted_lines),
             ("documents, code", lost_code)]

@@ -4,7 +4,7 @@ import subprocess
 
 TOP = os.path.dirname(os.path.dirname(os.path.dirname(os.path.abspath(__file__))))
 EXAMPLES = f"{TOP}/examples"
-PROGRAMS = ("klpsim", "klpwatch", "klppage", "klplint", "klpsee")
+PROGRAMS = ("klpsim", "klpwatch", "klppage", "klplint", "klpsee", "klpko")
 # What ./klpsim says on standard error of a program that isn't proved, beside what the program says itself.
 DOOR = (": what follows isn't proved;", ": it is compiled first,", ": it is still being compiled,")
 # Whether the program is the one that the gate has built.
@@ -43,7 +43,7 @@ def run(words, given=b"", seconds=SECONDS):
 
 
 def built_program():
-    """The one program that all five are, each where it is called so."""
+    """The one program that all six are, each where it is called so."""
     return f"{TOP}/crates/klpsim/out/klpsim" if IS_BUILT else f"{TOP}/out/unproved/klpsim"
 
 

@@ -12,6 +12,7 @@ USAGE = {
     "klppage": "klppage CATALOG SCRIPT|--trace TRACE [NAMES]",
     "klplint": "klplint [--json] CATALOG [SCRIPT]",
     "klpsee": "klpsee [-o FOLDER] [--json|--follow] LOG|[--metrics] LOG..",
+    "klpko": "klpko [--symbols FILE] PATCH..|--list|--matrix [--json] PATCH..",
 }
 REFUSED = {
     "klpsim": [
@@ -29,6 +30,11 @@ REFUSED = {
         (), ("x", "-o"), ("x", "-o", "-y"), ("x", "-y"), ("-o", "y"), ("x", "-o", "y", "-o", "z"), ("x", "--json", "--json"),
         ("x", "-o", "y", "z"), ("x", "y", "--json"), ("x", "y", "--follow"), ("x", "--follow", "--json"), ("x", "--follow", "-o", "y"),
         ("x", "--follow", "--metrics"), ("x", "--metrics", "--json"), ("x", "--metrics", "-o", "y"), ("--metrics",), (b"\xff",),
+    ],
+    "klpko": [
+        (), ("--list",), ("--matrix", "--json"), ("x", "--json"), ("--list", "--matrix", "x"), ("--list", "--list", "x"), ("--list=x", "x"),
+        ("--list", "x", "-o", "y"), ("--list", b"\xff"), ("--symbols", "x"), ("x", "--symbols"), ("--symbols", "y", "--list", "x"),
+        ("--matrix", "x", "--symbols", "y"), ("--symbols", "y", "--json", "x"), ("--symbols", "y", "--symbols", "y", "x"),
     ],
 }
 # Words that mean the same, in each line those in front.
@@ -48,6 +54,10 @@ ALIKE = {
         (("--json", "lint/trace.catalog", "lint/trace.script"), ("lint/trace.catalog", "--json", "lint/trace.script")),
     ],
     "klpsee": [(("captures/enable.log", "--json"), ("--json", "captures/enable.log"))],
+    "klpko": [(
+        ("--matrix", "--json", "modules/two_objects.ko", "modules/cumulative.ko"), ("modules/two_objects.ko", "--json", "modules/cumulative.ko", "--matrix"),
+        ("--json", "--matrix", "--", "modules/two_objects.ko", "modules/cumulative.ko"),
+    )],
 }
 # By which path one program is which.
 CALLED = {
@@ -56,6 +66,7 @@ CALLED = {
     "klppage": ("klppage", "/klppage"),
     "klplint": ("klplint", "klpsee/klplint"),
     "klpsee": ("klpsee", "../klpsee"),
+    "klpko": ("klpko", "a.ko/klpko"),
 }
 
 
@@ -101,7 +112,7 @@ def statuses_of(name):
 
 def example(name):
     """The example of a program's help answers, where the repository is."""
-    command = re.search(r"\nExample:\n  (.*)\n", run([name, "--help"])[1].decode())[1]
+    command = re.search(r"\nExamples?:\n  (.*)\n", run([name, "--help"])[1].decode())[1]
     if name == "klpsee":
         return None if command == "klpcap --once | klpsee -" else command
     status, out, err = finish(start(["bash", "-c", command.replace(name, f"./{name}").replace(">page.html", "")], TOP))
@@ -190,12 +201,13 @@ def cases():
         ("klpwatch", ("k.catalog", "watched.trace"), (0, 1)), ("klppage", ("pages/sleeper.catalog", "pages/sleeper.script"), (0, 1)),
         ("klppage", ("pages/kernel.catalog", "--trace", "pages/kernel.trace", "pages/kernel.names"), (0, 2, 3)),
         ("klplint", ("lint/trace.catalog", "lint/trace.script"), (0, 1)), ("klpsee", ("captures/enable.log",), (0,)),
+        ("klpko", ("modules/two_objects.ko", "--list"), (0,)), ("klpko", ("modules/two_objects.ko", "--matrix", "modules/cumulative.ko"), (0, 2)),
     ]
     made.update({f"{name}, {words[at]} from standard input": (from_input, name, words, at) for name, words, places in inputs for at in places})
     made.update({f"{words[0]}, twice standard input, {words[1:]}": (twice, *words) for words in (
-        ("klpwatch", "-", "-"), ("klplint", "-", "-"), ("klppage", "-", "-"), ("klppage", "-", "x", "-"), ("klppage", "x", "-", "-"), ("klppage", "-", "--trace", "-"),
+        ("klpwatch", "-", "-"), ("klplint", "-", "-"), ("klppage", "-", "-"), ("klppage", "-", "x", "-"), ("klppage", "x", "-", "-"), ("klppage", "-", "--trace", "-"), ("klpko", "--list", "-", "x", "-"),
     )})
     odd = "\x1b[2J"
-    paths = (("klpwatch", odd, "x"), ("klpwatch", "k.catalog", odd), ("klppage", odd, "x"), ("klplint", odd), ("klplint", "k.catalog", odd), ("klpsee", odd))
+    paths = (("klpwatch", odd, "x"), ("klpwatch", "k.catalog", odd), ("klppage", odd, "x"), ("klplint", odd), ("klplint", "k.catalog", odd), ("klpsee", odd), ("klpko", "--list", odd))
     made.update({f"{words[0]}, a path that would control a terminal, {words[1:]!r}": (escaped, *words) for words in paths})
     return [(name, functools.partial(*call)) for name, call in made.items()]

@@ -1,0 +1,252 @@
+"""klpko's catalogs of livepatch modules. They are read here by a reader of catalogs of its own, and held against what the sources
+of the examples, or the livepatches that testing/elf.py writes, say. testing/modules.py calls this.
+"""
+import dataclasses
+import functools
+import re
+import tempfile
+
+from testing.elf import CALLBACKS, Function, Livepatch, Object
+from testing.run import fault, read, run
+
+FOLDER = "modules"
+CLEAN, FAULTY, FINDINGS = 0, 1, 3
+NOP = "0f1f440000"
+WORDS = dict(zip(("pre", "post", "preun", "postun"), CALLBACKS))
+# The handler where no kernel is known, and where made-up symbols and new functions are.
+HANDLER = 0xFFFFFFFF81000000
+UNKNOWN_CODE = "unknown its code isn't read"
+UNKNOWN_REPLACE = "unknown its code sets whether it replaces others"
+NO_KERNEL, NOT_LOADED = "no symbols of a kernel were given", "the kernel has no symbols of it: it isn't loaded"
+
+
+@dataclasses.dataclass
+class Read:
+    """A catalog, as its lines say it: each line that isn't a mark, with the marks right behind it."""
+
+    handler: int = 0
+    objects: list = dataclasses.field(default_factory=list)
+    patches: list = dataclasses.field(default_factory=list)
+
+
+def marked_lines(text):
+    """The lines of a catalog, each as its words and its marks."""
+    found = []
+    for line in text.splitlines():
+        if line.startswith("#? "):
+            found[-1][1].append(line[3:])
+        else:
+            found.append((line.split(), []))
+    return found
+
+
+def read_catalog(text):
+    """Reads a catalog by the forms of its lines."""
+    came = Read()
+    for words, marks in marked_lines(text):
+        match words:
+            case ["handler", address]:
+                came.handler = int(address, 16)
+            case ["object", name]:
+                came.objects.append({"name": name, "marks": marks, "symbols": []})
+            case ["symbol", name, address, body]:
+                came.objects[-1]["symbols"].append((name, int(address, 16), body, marks))
+            case ["patch", name, *replace]:
+                came.patches.append({"patch": name, "replaces": replace == ["replace"], "marks": marks, "states": [], "objects": []})
+            case ["state", number, version]:
+                came.patches[-1]["states"].append({"id": int(number), "version": int(version)})
+            case ["target", name]:
+                came.patches[-1]["objects"].append({"name": name, "callbacks": [], "functions": []})
+            case ["func", symbol, new_name, address]:
+                target = came.patches[-1]["objects"][-1]
+                name, position = re.fullmatch(rf"\.klp\.sym\.{target['name']}\.(.*),(\d+)", symbol).groups()
+                target["functions"].append({"name": name, "position": int(position), "new_name": new_name})
+                int(address, 16)
+            case [word, "0"] if word in WORDS:
+                came.patches[-1]["objects"][-1]["callbacks"].append((WORDS[word], marks))
+            case _:
+                raise ValueError(f"no line of a catalog: {words}")
+    return came
+
+
+def spelled(name):
+    """The name of a new function, as a catalog can have it."""
+    return re.sub(r"[^A-Za-z0-9_-]", "-", name)[:55] or "-"
+
+
+def wanted_patch(patch):
+    """What a catalog has to say of a patch, by what its source says."""
+    is_unknown = patch["replaces"] == "unknown"
+    return {
+        "patch": patch["patch"], "replaces": patch["replaces"] == "yes", "marks": [UNKNOWN_REPLACE] if is_unknown else [], "states": patch["states"],
+        "objects": [{
+            "name": it["name"], "callbacks": [(name, [UNKNOWN_CODE]) for name in it["callbacks"]],
+            "functions": [{**row, "new_name": spelled(row["new_name"])} for row in it["functions"]],
+        } for it in patch["objects"]],
+    }
+
+
+def wanted_names(patches):
+    """The objects that patches change, the kernel's image first, each with the names there and the highest position of each."""
+    names = {"vmlinux": {}}
+    for patch in patches:
+        for it in patch["objects"]:
+            for row in it["functions"]:
+                of = names.setdefault(it["name"], {})
+                of[row["name"]] = max(of.get(row["name"], 1), row["position"])
+            names.setdefault(it["name"], {})
+    return names
+
+
+def wanted_symbols(name, names, kernel):
+    """The symbols of an object, without their addresses where these are made up, and the marks of the object."""
+    own = [row for row in kernel or () if row[3] == name]
+    if own:
+        return [(it, row[0], NOP, [] if row[1] in "tTwW" else ["data"]) for it in names for row in own if row[2] == it], []
+    marks = [f"assumed {NOT_LOADED if kernel else NO_KERNEL}"] if names else []
+    return [(it, None, NOP, []) for it, count in names.items() for _ in range(count)], marks
+
+
+def wrong_addresses(came):
+    """What is wrong with made-up addresses: a call has to reach the handler from each, and no two entry sites may overlap."""
+    symbols = sorted(it[1] for of in came.objects for it in of["symbols"])
+    if any(abs(it + 5 - came.handler) >= 1 << 31 for it in symbols):
+        return "a symbol is out of the handler's reach"
+    return "two symbols overlap" if any(two - one < 9 for one, two in zip(symbols, symbols[1:])) else None
+
+
+def wrong_catalog(text, patches, kernel):
+    """What is wrong with a catalog of these patches over the rows of a kernel's symbols, or None."""
+    came = read_catalog(text)
+    handlers = [row[0] for row in kernel or () if row[2] == "ftrace_caller"]
+    if came.handler != (handlers or [HANDLER])[0]:
+        return f"the handler is {came.handler:x}"
+    names = wanted_names(patches)
+    if [it["name"] for it in came.objects] != list(names):
+        return f"the objects are {[it['name'] for it in came.objects]}"
+    for it in came.objects:
+        symbols, marks = wanted_symbols(it["name"], names[it["name"]], kernel)
+        is_made_up = not any(row[3] == it["name"] for row in kernel or ())
+        own = [(row[0], None, *row[2:]) for row in it["symbols"]] if is_made_up else it["symbols"]
+        if (own, it["marks"]) != (symbols, marks):
+            return f"{it['name']}: {own}, {it['marks']}, where {symbols}, {marks} are wanted"
+    wanted = [wanted_patch(it) for it in patches]
+    if came.patches != wanted:
+        return f"{came.patches}, where {wanted} is wanted"
+    return wrong_addresses(came)
+
+
+def told_marks(patches, kernel):
+    """What standard error says of what is marked, and the status."""
+    callbacks = sum(len(it["callbacks"]) for patch in patches for it in patch["objects"])
+    replacing = sum(it["replaces"] == "unknown" for it in patches)
+    known = {row[3] for row in kernel or ()}
+    objects = sum(bool(names) and name not in known for name, names in wanted_names(patches).items())
+    told = {
+        "callbacks whose code isn't read": callbacks, "objects with made-up symbols": objects,
+        "patches whose code sets whether they replace others": replacing,
+    }
+    told = "".join(f"klpko: marked in the catalog: {what}: {count}\n" for what, count in told.items() if count)
+    return (FINDINGS if told else CLEAN), told
+
+
+def rows_text(kernel):
+    """A kernel's symbols, as /proc/kallsyms lists them."""
+    return "".join(f"{address:016x} {letter} {name}" + ("\n" if object == "vmlinux" else f"\t[{object}]\n") for address, letter, name, object in kernel)
+
+
+def catalog(kernel, *patches):
+    """A catalog of these patches says what their sources say, and each program takes it."""
+    with tempfile.TemporaryDirectory(prefix="catalogs-") as room:
+        words = []
+        if kernel:
+            words = ["--symbols", f"{room}/symbols"]
+            with open(words[1], "w") as it:
+                it.write(rows_text(kernel))
+        status, out, err = run(["klpko", *words, *(it["file"] for it in patches)])
+        wrong = fault((status, err), told_marks(patches, kernel)) or wrong_catalog(out.decode(), patches, kernel)
+        if wrong:
+            return wrong
+        with open(f"{room}/a.catalog", "wb") as it:
+            it.write(out)
+        # a judge that finds the catalog faulty has the status 1
+        status, _, err = run(["klplint", f"{room}/a.catalog"])
+        return None if status in (CLEAN, FINDINGS) and not err else f"klplint: status {status}, {err}"
+
+
+def refused_catalog(wanted, symbols, *patches):
+    """No catalog is made, for this reason."""
+    with tempfile.TemporaryDirectory(prefix="catalogs-") as room:
+        with open(f"{room}/symbols", "w") as it:
+            it.write(symbols)
+        came = run(["klpko", "--symbols", f"{room}/symbols", *(it["file"] for it in patches)])
+        return fault(came, (FAULTY, b"", f"klpko: {wanted}\n"))
+
+
+def of_example():
+    """The catalog of docs/MODULES.md over a kernel's symbols, and klplint's answer to it."""
+    words = ["--symbols", f"{FOLDER}/two_objects.symbols", f"{FOLDER}/two_objects.ko", f"{FOLDER}/cumulative.ko"]
+    status, out, _ = run(["klpko", *words])
+    wrong = fault((status, out), (FINDINGS, read(f"{FOLDER}/two_objects.catalog")))
+    return wrong or fault(run(["klplint", f"{FOLDER}/two_objects.catalog"]), (FINDINGS, read(f"{FOLDER}/two_objects.lint"), ""))
+
+
+# The kernel of the tests: positions that count data, a module that is loaded, and one that isn't.
+KERNEL = [
+    (0xFFFFFFFF81000100, "T", "ftrace_caller", "vmlinux"), (0xFFFFFFFF81002000, "t", "f", "vmlinux"), (0xFFFFFFFF81003000, "d", "f", "vmlinux"),
+    (0xFFFFFFFF81004000, "W", "f", "vmlinux"), (0xFFFFFFFF81005000, "t", "g", "vmlinux"), (0xFFFFFFFFC0001000, "t", "f", "m"),
+    (0xFFFFFFFFC0000800, "t", "f", "m"), (0xFFFFFFFFC0002000, "t", "other", "m"),
+]
+# Livepatches that no example has.
+MADE = {
+    "positions": [Livepatch(b"a", [Object(b"m", [Function(b"f", b"f_one", 1), Function(b"f", b"f_two", 2)]), Object(None, [Function(b"f", b"f_three", 3)])])],
+    "an object without symbols": [Livepatch(b"a", [Object(b"n", [Function(b"f", b"new_f", 2)]), Object(None, [Function(b"g", b"new_g")])], replaces=True)],
+    "callbacks alone": [Livepatch(b"a", [Object(b"m", None, CALLBACKS), Object(None, [], CALLBACKS[1:3])], states=[(1, 2), (2**64 - 1, 2**32 - 1)])],
+    "two patches": [Livepatch(b"a", [Object(None, [Function(b"g", b"g_a")])]), Livepatch(b"b", [Object(None, [Function(b"g", b"g_b")])], replaces=True)],
+    "replace set by code": [Livepatch(b"a", [Object(None, [Function(b"g", b"g_a")])], sets_replace=True)],
+    "a new function with a point, and one of 70 bytes": [Livepatch(b"a", [Object(None, [Function(b"f", b"f.isra.0", 1), Function(b"g", b"g" * 70)])])],
+    "no object": [Livepatch(b"a", [])],
+    "16 patches of 16 functions": [Livepatch(b"p%d" % it, [Object(None, [Function(b"f%d" % at, b"new") for at in range(16)])]) for it in range(16)],
+}
+FUNCTIONS = [Function(b"f%d" % it, b"new") for it in range(300)]
+# Livepatches of which no catalog is made, each with the reason.
+TOO_MANY = {
+    "17 patches": ("17 patches are given, and a catalog has room for 16", [Livepatch(b"p%d" % it, []) for it in range(17)]),
+    "65 functions": ("65 functions of a patch are given, and a catalog has room for 64", [Livepatch(b"a", [Object(None, FUNCTIONS[:65])])]),
+    "9 objects": ("9 objects of a patch are given, and a catalog has room for 8", [Livepatch(b"a", [Object(b"m%d" % it, []) for it in range(9)])]),
+    "17 states": ("17 system states of a patch are given, and a catalog has room for 16", [Livepatch(b"a", [], states=[(it, 1) for it in range(1, 18)])]),
+    "18 objects in all": ("18 objects are given, and a catalog has room for 17", [
+        Livepatch(b"p%d" % it, [Object(b"m%d_%d" % (it, at), []) for at in range(count)]) for it, count in enumerate((6, 6, 5))]),
+    "257 symbols": ("257 symbols are given, and a catalog has room for 256", [
+        Livepatch(b"p%d" % it, [Object(b"n", FUNCTIONS[64 * it : min(64 * it + 64, 257)])]) for it in range(5)]),
+    "a position without end": (f"{2**32 - 1} symbols are given, and a catalog has room for 256", [Livepatch(b"a", [Object(b"n", [Function(b"f", b"g", 2**32 - 1)])])]),
+}
+# Names that no catalog can have, and symbols that aren't a kernel's, each with the reason.
+ODD = {
+    "a name with a point": ("a catalog can't spell it: its line 5 would be faulty, BadName", "", [Livepatch(b"a.b", [Object(None, [Function(b"g", b"g")])])]),
+    "two tables for an object": ("a catalog can't spell it: its line 8 would be faulty, Twice", "", [
+        Livepatch(b"a", [Object(None, [Function(b"g", b"g")]), Object(None, [])])]),
+    "a line of symbols without a name": ("line 2 of the symbols isn't one of /proc/kallsyms: wanted is ADDRESS LETTER NAME [MODULE]",
+                                         "ffffffff81000100 T ftrace_caller\nffffffff81000200 t\n", [Livepatch(b"a", [])]),
+    "a module without brackets": ("line 1 of the symbols isn't one of /proc/kallsyms: wanted is ADDRESS LETTER NAME [MODULE]",
+                                  "ffffffff81000100 T f m\n", [Livepatch(b"a", [])]),
+    "addresses of 0": ("all addresses of the symbols are 0: only root reads them in /proc/kallsyms",
+                       "0000000000000000 T f\n0000000000000000 t g\n", [Livepatch(b"a", [Object(None, [Function(b"g", b"g")])])]),
+}
+
+
+def cases(source_of, names, written):
+    """The tests, for testing/modules.py: by name, what to call with what. `written` calls with livepatches in files."""
+    examples = [source_of(it) for it in names]
+    made = {f"the catalog of {it['patch']}": (catalog, None, it) for it in examples}
+    made["the catalog of all examples"] = (catalog, None, *examples)
+    made["the catalog of all examples over a kernel"] = (catalog, KERNEL, *examples)
+    made["the catalog of the document"] = (of_example,)
+    for name, patches in MADE.items():
+        made[f"the catalog of {name}"] = (written, functools.partial(catalog, None), *patches)
+        made[f"the catalog of {name}, over a kernel"] = (written, functools.partial(catalog, KERNEL), *patches)
+    for name, (reason, patches) in TOO_MANY.items():
+        made[f"no catalog of {name}"] = (written, functools.partial(refused_catalog, reason, ""), *patches)
+    for name, (reason, symbols, patches) in ODD.items():
+        made[f"no catalog of {name}"] = (written, functools.partial(refused_catalog, reason, symbols), *patches)
+    return made
