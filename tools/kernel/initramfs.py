@@ -38,6 +38,12 @@ class Archive:
             if word.startswith("/"):
                 self.file(word.lstrip("/"), os.path.realpath(word))
 
+    def write(self, out):
+        """Writes the archive, packed."""
+        self.add("TRAILER!!!", 0)
+        with gzip.open(out, "wb", 1) as it:
+            it.write(b"".join(self.rows))
+
 
 def main(out, *files):
     archive = Archive()
@@ -52,9 +58,7 @@ def main(out, *files):
     for file in files:
         name, path = file.split("=", 1)
         archive.program(name, path)
-    archive.add("TRAILER!!!", 0)
-    with gzip.open(out, "wb", 1) as it:
-        it.write(b"".join(archive.rows))
+    archive.write(out)
 
 
 if __name__ == "__main__":

@@ -10,6 +10,7 @@ static struct task_struct *thread;
 static DECLARE_WAIT_QUEUE_HEAD(bed);
 static bool is_woken, ends;
 
+void nap_until_woken(void);
 /* A livepatch of nap() sleeps here, too. */
 void nap_until_woken(void)
 {
