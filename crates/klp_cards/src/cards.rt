@@ -77,7 +77,7 @@ fn switching(mode: Mode, count: usize) -> &'static str {
 
 /// Adds a list item with the tasks in this mode that lag without holding the transition up. Adds nothing if there is no
 /// such task.
-fn add_waiting(sheet: &mut Sheet, names: &Names, view: &View, mode: Mode) {
+fn add_mode_item(sheet: &mut Sheet, names: &Names, view: &View, mode: Mode) {
     let laggards = lagging(mode, &view.waits);
     let tasks = laggards.as_slice();
     if !tasks.is_empty() {
@@ -88,14 +88,14 @@ fn add_waiting(sheet: &mut Sheet, names: &Names, view: &View, mode: Mode) {
 }
 
 /// Adds a card of the tasks that lag without holding the transition up. Adds nothing if there is no such task.
-fn add_lagging(sheet: &mut Sheet, names: &Names, view: &View) {
+fn add_behind_card(sheet: &mut Sheet, names: &Names, view: &View) {
     if view.waits.iter().all(|waits| waits.is_none()) {
         return;
     }
     sheet.markup("<div class=card><b>behind</b><ul>");
-    add_waiting(sheet, names, view, Mode::User);
-    add_waiting(sheet, names, view, Mode::Kernel);
-    add_waiting(sheet, names, view, Mode::Asleep);
+    add_mode_item(sheet, names, view, Mode::User);
+    add_mode_item(sheet, names, view, Mode::Kernel);
+    add_mode_item(sheet, names, view, Mode::Asleep);
     sheet.markup("</ul></div>");
 }
 
@@ -118,5 +118,5 @@ pub(crate) fn add_patches(
             add_card(sheet, "card", patch_name(catalog, *patch), "is gone");
         }
     }
-    add_lagging(sheet, names, after);
+    add_behind_card(sheet, names, after);
 }

@@ -11,7 +11,8 @@
 //! numbers of tasks (`differing.rt`, `rules.rt`, `named.rt`). A program writes them as sentences (`sentences.rt`), in
 //! which tasks have the program's own names ([`TaskNames`]).
 //!
-//! [`file_in`] reads a file or standard input (`reading.rt`), and [`hint_typed`] helps at a terminal (`typed.rt`).
+//! [`file_in`] reads a file or standard input (`reading.rt`). [`hint_typed`] and [`hint_file`] help at a terminal
+//! (`typed.rt`, `unread.rt`).
 //!
 //! The messages are for people, and have no contract. No bytes of a file can control a terminal through a message. Each
 //! call works with any files.
@@ -29,6 +30,7 @@ mod rules;
 mod sentences;
 mod tasks;
 mod typed;
+mod unread;
 
 pub use differing::Sides;
 pub use inputs::{FileText, Inputs};
@@ -43,3 +45,4 @@ pub use rules::{
 pub use sentences::InWords;
 pub use tasks::{TaskNames, TaskNumbers};
 pub use typed::hint_typed;
+pub use unread::hint_file;

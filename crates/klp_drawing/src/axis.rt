@@ -50,7 +50,7 @@ impl<'a> Axis<'a> {
     /// Puts a line on the axis, unless another number is in the way or there is no room up to the right end. `Err` if
     /// memory runs out.
     fn offer(&mut self, scale: &Scale, line: u64) -> Result<(), AllocError> {
-        let from = scale.x(line) as usize;
+        let from = scale.left_of(line) as usize;
         let width = self.width_at(scale, line).saturating_add(LETTER);
         let to = from.saturating_add(width as usize);
         if to > self.taken.len() || self.taken[from..to].contains(&true) {
@@ -87,7 +87,7 @@ impl<'a> Axis<'a> {
     /// Adds all numbers of the axis. `y` is the lower end of their digits, in points.
     pub(crate) fn add_numbers(&self, sheet: &mut Sheet, scale: &Scale, y: u64) {
         for line in &self.lines {
-            add_text_start(sheet, "soft", scale.x(*line), y);
+            add_text_start(sheet, "soft", scale.left_of(*line), y);
             self.add_number(sheet, scale, *line);
             sheet.markup("</text>");
         }

@@ -43,7 +43,7 @@ fn places_of_marks(alloc: Global, bars: &Bars) -> Result<Vec<u64>, AllocError> {
     let mut places = Vec::new(alloc);
     let mut free = 0;
     for mark in &bars.marks {
-        let x = bars.scale.x(mark.line);
+        let x = bars.scale.left_of(mark.line);
         if x >= free {
             places.push(x)?;
             free = x.saturating_add(SIGN);
@@ -57,7 +57,7 @@ fn places_of_marks(alloc: Global, bars: &Bars) -> Result<Vec<u64>, AllocError> {
 fn add_signs(sheet: &mut Sheet, bars: &Bars) {
     let mut free = 0;
     for (number, mark) in bars.marks.iter().enumerate() {
-        let x = bars.scale.x(mark.line);
+        let x = bars.scale.left_of(mark.line);
         if x < free {
             continue;
         }
@@ -66,7 +66,7 @@ fn add_signs(sheet: &mut Sheet, bars: &Bars) {
         add_text_start(sheet, "sign", x.saturating_sub(4), 13);
         sheet.markup(sign_text(mark.sign));
         let next = match bars.marks.get(number.saturating_add(1)) {
-            Some(next) => bars.scale.x(next.line),
+            Some(next) => bars.scale.left_of(next.line),
             None => u64::MAX,
         };
         let room = number_width(mark.line).saturating_add(SIGN);
@@ -104,7 +104,7 @@ fn add_cuts(sheet: &mut Sheet, bars: &Bars) {
 fn places_of_differences(alloc: Global, bars: &Bars) -> Result<Vec<u64>, AllocError> {
     let mut places: Vec<u64> = Vec::new(alloc);
     for line in &bars.differing {
-        let x = bars.scale.x(*line);
+        let x = bars.scale.left_of(*line);
         if places.last() != Some(&x) {
             places.push(x)?;
         }

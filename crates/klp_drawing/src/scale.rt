@@ -220,7 +220,7 @@ impl Scale {
     }
 
     /// Returns the left end of a line. Returns the right end of the run if the run has fewer lines.
-    pub(crate) fn x(&self, line: u64) -> u64 {
+    pub(crate) fn left_of(&self, line: u64) -> u64 {
         match self.places.get(line as usize) {
             Some(place) => *place,
             None => self.end,

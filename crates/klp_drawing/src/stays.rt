@@ -12,7 +12,10 @@ use klp_types::{MAX_TASKS, TaskId, Version};
 use std::alloc::{AllocError, Global};
 
 /// The smallest width of a stay in the drawing, in points, so that readers don't overlook it.
-const FEWEST: u64 = 4;
+const NARROWEST: u64 = 4;
+
+/// How many points stay free between the label of a lasting stay and the right end of the margin.
+const GAP: u64 = 4;
 
 /// A stay that is narrower than this many points has no outline of two colours, since hardly any pattern would be left
 /// inside.
@@ -73,7 +76,7 @@ impl Gathered {
     }
 
     /// Adds the stay of each task of a sentence. `sentence` is the index of this sentence among all sentences of the
-    /// run. The stays lie between the places `from` and `to`, but are at least [`FEWEST`] points wide. `Err` if memory
+    /// run. The stays lie between the places `from` and `to`, but are at least [`NARROWEST`] points wide. `Err` if memory
     /// runs out.
     fn add_sleepers(
         &mut self,
@@ -91,7 +94,7 @@ impl Gathered {
                 is_holding: matches!(sleepers.stay, Stay::Holds(_, _)),
                 is_lasting: sleepers.to.is_none(),
                 from,
-                to: to.max(from.saturating_add(FEWEST)),
+                to: to.max(from.saturating_add(NARROWEST)),
             })?;
         }
         Ok(())
@@ -102,7 +105,7 @@ impl Gathered {
 /// the stays last until the end of the run, it is the right end of the run.
 fn right_end_of(scale: &Scale, sleepers: &Sleepers) -> u64 {
     match sleepers.to {
-        Some(last) => scale.x(last.saturating_add(1)),
+        Some(last) => scale.left_of(last.saturating_add(1)),
         None => scale.end(),
     }
 }
@@ -125,7 +128,7 @@ pub(crate) fn all_held(
             excess = excess.saturating_sub(1);
         }
         if let Said::Slept(sleepers) = &sentence.said {
-            let (from, to) = (scale.x(sentence.line), right_end_of(scale, sleepers));
+            let (from, to) = (scale.left_of(sentence.line), right_end_of(scale, sleepers));
             gathered.add_sleepers(number, sleepers, !is_left_out, from, to)?;
         }
     }
@@ -256,23 +259,22 @@ fn label_width(letters: usize) -> u64 {
     quarters.saturating_add(BORDER_QUARTERS) / 4
 }
 
-/// Returns the left end of a stay's label, which is `width` points wide. Returns `None` if there is no room for it
-/// between the stops. [`SHOWN`] points of the stay are left free: right of the label if the stay has ended, left of it
-/// if the stay lasts until the end of the run.
+/// Returns the left end of a stay's label, which is `width` points wide, or `None` if there is no room for it between
+/// the stops.
 ///
-/// If the stay has ended, the label is as far left in the stay as possible. If the stay lasts until the end of the run,
-/// the label is as far right in the stay as possible, and if there is no room, it may extend into the margin. The right
-/// end matters more: if the drawing is wider than the screen, a reader sees it first.
+/// If the stay has ended, the label is as far left in it as possible, and [`SHOWN`] points right of the label show the
+/// stay's pattern. If the stay lasts until the end of the run, the label is as far right in it as possible, since a
+/// reader of a drawing that is wider than the screen sees the right end first; the [`SHOWN`] points are left of it. Such
+/// a label extends into the margin if the stay has no room for it.
 fn place_of_label(stops: &[Stop], held: &Held, width: u64) -> Option<u64> {
     let room = width.saturating_add(SHOWN);
     if !held.is_lasting {
         return first_place(stops, held.from, held.to, room);
     }
-    // The right end of the margin, less a gap of 4 points.
-    let behind = held.to.saturating_add(MARGIN).saturating_sub(FEWEST);
+    let margin_end = held.to.saturating_add(MARGIN).saturating_sub(GAP);
     let place = match last_place(stops, held.from, held.to, room) {
         Some(place) => place,
-        None => last_place(stops, held.from, behind, room)?,
+        None => last_place(stops, held.from, margin_end, room)?,
     };
     Some(place.saturating_add(SHOWN))
 }

@@ -71,10 +71,10 @@ pub(crate) fn strips_of(
         last: None,
     };
     for bar in bars {
-        let from = scale.x(bar.from);
+        let from = scale.left_of(bar.from);
         builder.add(Strip {
             from,
-            to: scale.x(bar.to).max(from.saturating_add(1)),
+            to: scale.left_of(bar.to).max(from.saturating_add(1)),
             look: bar.look,
         })?;
     }

@@ -80,6 +80,7 @@ fn run_word<R: Runtime>(rt: &R, alloc: Global, word: &str) -> Result<(), Fault> 
 /// Runs all tests.
 fn run_all<R: Runtime>(rt: &R, alloc: Global) -> Result<(), Fault> {
     run_book(rt, alloc)?;
+    managed(rt, alloc, CATALOG, Work::Passes(2, Story::Long))?;
     show_turns(rt)?;
     managed(rt, alloc, SMALL, Work::Bodies)?;
     managed(rt, alloc, SMALL, Work::Entries)

@@ -5,7 +5,7 @@ ghost use Rattle.klp_types.specs.declared.limits.TheConstants.{MAX_TASKS};
 use crossbeam_utils::rule::Protocol;
 use klp_core::Machine;
 use klp_live::{Live, Published, Seat, Start, TaskPass, View};
-use klp_types::TaskId;
+use klp_types::{MAX_TASKS, TaskId};
 use std::alloc::Global;
 use std::sync::Wait;
 
@@ -31,11 +31,15 @@ where
     M: Machine + Drop,
     R: Wait,
 {
-    /// Gives a task this seat, and returns the task's pass.
+    /// Gives a task this seat, and returns the task's pass. Before this, a number that no task can have is refused.
     pub(crate) fn attached(&self, seat: Seat<S>, task: TaskId) -> TaskPass<S>
         requires { task < MAX_TASKS }
     {
         let live = self.live;
+        let seat = match live.attach(seat, TaskId(MAX_TASKS as u8)) {
+            Ok(_) => unreachable!(),
+            Err((seat, _)) => seat,
+        };
         match live.attach(seat, task) {
             Ok(pass) => pass,
             Err(_) => unreachable!(),

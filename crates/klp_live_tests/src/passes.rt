@@ -22,6 +22,8 @@ pub(crate) enum Story {
     Unheard,
     /// A task takes a seat before it exists.
     Absent,
+    /// The first task leaves the kernel so often that the history gets long. Then both tasks enter a function.
+    Long,
     /// All seats are returned at once, without being used.
     Idle,
 }
@@ -35,7 +37,12 @@ enum Act {
     Submit(Event),
     /// Submits an event, and tells the other pass of the event.
     SubmitHeard(Event),
+    /// Submits [`CYCLES`] times that the first task enters the kernel and leaves it.
+    Cycle,
 }
+
+/// How often the first task leaves the kernel, to make a long history. All events fit into the journal.
+const CYCLES: u64 = 1_500;
 
 /// The pass that acts, and its act. The pass is the first or the second.
 #[derive(Clone, Copy)]
@@ -87,6 +94,17 @@ fn absent() -> [Turn; 6] {
     ALL
 }
 
+/// Entries find the newest table, however many events the history has.
+fn long() -> [Turn; 4] {
+    const ALL: [Turn; 4] = [
+        Turn::First(Act::SubmitHeard(Event::Enable(PATCH))),
+        Turn::First(Act::Cycle),
+        Turn::First(Act::Enter(PATCHED)),
+        Turn::Second(Act::Enter(PATCHED)),
+    ];
+    ALL
+}
+
 /// Returns the task that gets the first seat.
 fn first_of(story: Story) -> TaskId
     ensures { result < MAX_TASKS }
@@ -119,6 +137,20 @@ where
         answer_of(came)
     }
 
+    /// Submits that the first task enters the kernel and leaves it. Returns the answer to the latter.
+    fn cycled(&self, pass: &mut TaskPass<S>, other: &mut TaskPass<S>) -> Answered {
+        let _ = self.submitted(pass, other, Event::EnterKernel(FIRST), false);
+        self.submitted(pass, other, Event::ExitToUser(FIRST), false)
+    }
+
+    /// Submits all cycles, and prints the last answer.
+    fn show_cycles(&self, pass: &mut TaskPass<S>, other: &mut TaskPass<S>) -> io::Result<()> {
+        for _cycle in 1..CYCLES {
+            let _ = self.cycled(pass, other);
+        }
+        show_answer(self.rt, &self.cycled(pass, other))
+    }
+
     /// Lets `pass` do this act, and prints the result.
     fn show_act(
         &self,
@@ -131,6 +163,7 @@ where
             Act::Enter(site) => show_found(rt, &pass.enter(site)),
             Act::Submit(event) => show_answer(rt, &self.submitted(pass, other, event, false)),
             Act::SubmitHeard(event) => show_answer(rt, &self.submitted(pass, other, event, true)),
+            Act::Cycle => self.show_cycles(pass, other),
         }
     }
 
@@ -161,6 +194,7 @@ where
             Story::Heard => self.show_turns(first, second, &heard()),
             Story::Unheard => self.show_turns(first, second, &unheard()),
             Story::Absent => self.show_turns(first, second, &absent()),
+            Story::Long => self.show_turns(first, second, &long()),
             Story::Idle => Ok(()),
         }
     }

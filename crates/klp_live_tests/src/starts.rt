@@ -11,7 +11,7 @@ use crate::rates::Best;
 use crate::shows::{Shown, Shows, prepare};
 use crossbeam_utils::rule::Protocol;
 use klp_core::Machine;
-use klp_live::{Live, Opened, Published, Seat, Start, StartCause, View};
+use klp_live::{CloseFault, Live, Opened, Published, Seat, Start, StartCause, View};
 use std::alloc::Global;
 use std::io;
 use std::marker::Brand;
@@ -89,6 +89,27 @@ fn why_no_start(cause: StartCause) -> &'static str {
     }
 }
 
+/// Ends a start with all of its seats, after it was refused to end it with one of them missing. If it doesn't end so,
+/// the machine is lost, and the result is the text that is printed about the loss.
+fn ended<S: Start + Protocol<Published, View>, M: Machine + Drop, R: Runtime>(
+    rt: &R,
+    live: Live<S, M, &R>,
+    seats: Vec<Seat<S>>,
+) -> Result<M, &'static str> {
+    let mut seats = seats;
+    let Some(last) = seats.pop() else {
+        return Err("no seat");
+    };
+    let Err(CloseFault { live, seats }) = live.close(rt, seats) else {
+        return Err("an end without a seat");
+    };
+    let mut seats = seats;
+    if seats.push(last).is_err() {
+        return Err("no room for a seat");
+    }
+    live.close(rt, seats).ok().ok_or("no end")
+}
+
 /// Begins a start, does the run, and ends the start. If there is no memory for a start, or if a seat is missing at the
 /// end, the machine is lost. The result is then the text that is printed about the loss.
 fn opened<S: Start + Protocol<Published, View> + Send + Sync, M: Machine + Drop + Send, R: Runtime>(
@@ -116,7 +137,7 @@ fn opened<S: Start + Protocol<Published, View> + Send + Sync, M: Machine + Drop 
                 live: &live,
             };
             let came = open.all_run(&mut seats, run);
-            (live.close(rt, seats).ok().ok_or("no end"), came)
+            (ended(rt, live, seats), came)
         }
         Err(fault) => (Err(why_no_start(fault.cause)), Ok(())),
     }

@@ -142,7 +142,7 @@ fn add_enabled(sheet: &mut Sheet, catalog: &Catalog, patches: &[PatchId])
 
 /// Adds what the heading says if no patch is in transition: a sentence for just that, and a sentence that lists the
 /// enabled patches, `patches`.
-fn add_rest(sheet: &mut Sheet, catalog: &Catalog, patches: &[PatchId])
+fn add_no_transition(sheet: &mut Sheet, catalog: &Catalog, patches: &[PatchId])
     ensures { Adds sheet.old sheet.new (rest_text catalog.now patches.now) }
 {
     // For the proof only: texts that are added one after the other add up.
@@ -167,7 +167,7 @@ pub(crate) fn add_state(
     klp_markup::laws::what_is_added_adds_up();
     match &view.moving {
         // Without a transition, the installed patches are the enabled ones.
-        None => add_rest(sheet, catalog, view.installed.as_slice()),
+        None => add_no_transition(sheet, catalog, view.installed.as_slice()),
         Some(moving) => {
             add_moving(sheet, names, catalog, moving, course, holding(&view.stays));
         }

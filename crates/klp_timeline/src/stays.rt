@@ -39,9 +39,9 @@ pub(crate) fn is_seen(stay: &Stay, other: &Option<Stay>) -> bool
     }
 }
 
-/// Returns the last line after which a task is still in `stay`, in which it is after `line`: `line` itself if the next
-/// line ends the stay. `rest` has the run's lines from the next line on. Returns `None` if no line of `rest` ends the
-/// stay. [`is_seen`] decides whether a stay is the same. The cost grows with the length of the stay.
+/// Returns the last line of a stay, which is the last one after which the task is still in it, or `None` if the stay
+/// lasts until the end of the run. The task is in `stay` after `line`, and `rest` has the run's lines behind that one:
+/// if the first of them ends the stay, its last line is `line`. The cost grows with the length of the stay.
 fn until(task: usize, stay: &Stay, line: u64, rest: &[Moment]) -> Option<u64>
     requires task { task < MAX_TASKS }
     requires lines { line + length rest.now < 2 ^ 64 }

@@ -30,8 +30,9 @@ fn first(rows: &[Row]) -> u64
     0
 }
 
-/// Returns at how many rows the kernel differs from the rules, and the number of the first of them, or 0 if there is
-/// none. The first `set_up` lines were made up.
+/// Returns what the head of a trace's page tells: at how many rows the kernel differs from the rules, and the number of
+/// the first of them, or 0 if there is none. `set_up` is passed on: it says how many lines at the trace's beginning were
+/// made up.
 pub(crate) fn differing_in(set_up: u64, rows: &[Row]) -> Differing
     ensures { result ≡ differing_in set_up rows.now }
 {

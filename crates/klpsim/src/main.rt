@@ -14,10 +14,12 @@ ghost use Rattle.klp_live_run.specs.Living.{Exits};
 
 use crate::called::{CalledProgram, program_called};
 use crate::synopsis::write_synopsis;
-use crate::typed::TypedLines;
+use crate::typed::{NAME, TypedLines};
+use klp_diagnostics::hint_file;
 use klp_live_run::live;
 use klp_program::{
-    Wanted, bytes_in_both, catalog_in, console, parse_arguments, program_arguments, report_fault,
+    Wanted, bytes_in, bytes_in_both, catalog_in, console, parse_arguments, program_arguments,
+    report_fault,
 };
 use std::io;
 use std::io::{Input, IsTerminal, Write};
@@ -25,6 +27,9 @@ use std::process::ExitCode;
 use std::rt::Files;
 use std::sync::Wait;
 use std::thread::Threads;
+
+/// The exit status if a file is faulty or can't be read, a line is too long, or memory ran out.
+const FAULT: u8 = 1;
 
 /// The exit status if the arguments are refused.
 const USAGE: u8 = 2;
@@ -34,20 +39,45 @@ fn is_typed(rt: &HostRuntime) -> bool {
     rt.stdin().is_terminal() && rt.stderr().is_terminal()
 }
 
-// Serves standard input over a catalog, or over the built-in one if no file is named. Returns the exit status. It is 1
-// also if the catalog can't be read.
-fn serve(rt: &HostRuntime, path: Option<String>) -> u8
-    ensures { (result ≡ 1) ⊎ ((text : List ℕ) × (path ≡ None → text ≡ CATALOG.now) × IsServed text result) }
+// At a terminal, hints at files without which the program ended with this status: its fault names none. Returns the status.
+fn with_hints(rt: &HostRuntime, status: u8, files: &[&str]) -> u8
+    ensures { result ≡ status }
 {
-    let mut err = rt.stderr();
-    match catalog_in(rt, path) {
-        Ok(catalog) => {
-            let (is_typed, out) = (is_typed(rt), io::writer(rt));
-            let hints = is_typed.then_some(rt.stderr());
-            let input = TypedLines::new(rt.alloc(), rt.reader(), hints, &catalog);
-            console(rt.alloc(), &catalog, input, out, &mut err).0
+    if status == FAULT && rt.stderr().is_terminal() {
+        for file in files {
+            hint_file(rt, NAME, file, &mut rt.stderr());
         }
-        Err(fault) => report_fault(fault, &mut err),
+    }
+    status
+}
+
+// Serves standard input over a catalog's text. Returns the exit status.
+fn serve_text(rt: &HostRuntime, catalog: &Vec<u8>) -> u8
+    ensures { IsServed catalog.now.items result }
+{
+    let (is_typed, out) = (is_typed(rt), io::writer(rt));
+    let hints = is_typed.then_some(rt.stderr());
+    let input = TypedLines::new(rt.alloc(), rt.reader(), hints, catalog);
+    console(rt.alloc(), catalog, input, out, &mut rt.stderr()).0
+}
+
+// Serves standard input over the built-in catalog. Returns the exit status. It is 1 also if memory runs out.
+fn serve_built_in(rt: &HostRuntime) -> u8
+    ensures { (result ≡ 1) ⊎ IsServed CATALOG.now result }
+{
+    match catalog_in(rt, None) {
+        Ok(catalog) => serve_text(rt, &catalog),
+        Err(fault) => report_fault(fault, &mut rt.stderr()),
+    }
+}
+
+// Serves standard input over the catalog in this file. Returns the exit status. It is 1 also if the catalog can't be read.
+fn serve_file(rt: &HostRuntime, path: &str) -> u8
+    ensures { (result ≡ 1) ⊎ ((text : List ℕ) × IsServed text result) }
+{
+    match bytes_in(rt, path) {
+        Ok(catalog) => serve_text(rt, &catalog),
+        Err(fault) => report_fault(fault, &mut rt.stderr()),
     }
 }
 
@@ -93,9 +123,14 @@ fn refused(rt: &HostRuntime, status: u8) -> u8
 fn main(rt: HostRuntime) -> ExitCode {
     let status = match program_called(&rt) {
         CalledProgram::Klpsim => match wanted(&rt) {
-            Ok(Wanted::Console(path)) => serve(&rt, path),
+            Ok(Wanted::Console(None)) => serve_built_in(&rt),
+            Ok(Wanted::Console(Some(path))) => {
+                let status = serve_file(&rt, path.as_str());
+                with_hints(&rt, status, &[path.as_str()])
+            }
             Ok(Wanted::Live(catalog, steps)) => {
-                race(&rt, catalog.as_str(), steps.as_str(), &mut rt.stderr())
+                let status = race(&rt, catalog.as_str(), steps.as_str(), &mut rt.stderr());
+                with_hints(&rt, status, &[catalog.as_str(), steps.as_str()])
             }
             Err(status) => refused(&rt, status),
         },

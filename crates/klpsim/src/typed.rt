@@ -6,7 +6,7 @@ use std::io;
 use std::io::{Read, Write};
 
 /// The name of the program in its hints.
-const NAME: &str = "klpsim";
+pub(crate) const NAME: &str = "klpsim";
 
 /// Lines that are typed for the console over a catalog. Each is passed on as it is. If `err` is there, hints at a line that
 /// may be misspelled go there, before the console answers the line.

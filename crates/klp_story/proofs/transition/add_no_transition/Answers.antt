@@ -1,4 +1,4 @@
-use Rattle.klp_story.proofs.transition.add_rest.Goals as goal
+use Rattle.klp_story.proofs.transition.add_no_transition.Goals as goal
 
 pub returns : goal.returns
 returns g c =
