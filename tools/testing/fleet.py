@@ -18,7 +18,7 @@ from testing.run import EXAMPLES, TOP, built_program, finish, read, run_itself, 
 
 EXPLAINED, FAULTY, USAGE, BROKEN = 0, 1, 2, 3
 # A line of a follower: when, and what.
-TOLD = re.compile(r"^([\d.]+) s: (.*)$")
+TOLD = re.compile(r"^(?:\S+ GMT \()?([\d.]+) s\)?: (.*)$")
 # What the text format takes as a sample: a name, labels with escaped values, a number.
 NUMBER = re.compile(r'^(klp_[a-z_]+)(?:\{((?:[a-z_]+="(?:[^"\\\n]|\\["\\n])*",?)*)\})? (-?\d+)$')
 LABEL = re.compile(r'([a-z_]+)="((?:[^"\\\n]|\\["\\n])*)"')

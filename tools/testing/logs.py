@@ -26,18 +26,21 @@ VERDICTS = {EXPLAINED: "explained", BROKEN: "broken", NOT_EXPLAINED: "not_explai
 # The kernel names a task that it couldn't switch, with the old name of the function.
 SLEEPS = re.compile(r"^log ([\d.]+) livepatch: klp_try_switch_task: .*:(\d+) is sleeping on function (\S+)$", re.M)
 SAMPLE = re.compile(r"^sample ([\d.]+) ([\d.]+) ", re.M)
-HELD = re.compile(r"^  .*\[(\d+)\].* held it up, asleep in (\S+), from ([\d.]+) s to ([\d.]+) s$", re.M)
+# A time, with the time of day if the log has that.
+TIME = r"(?:\S+ GMT \()?([\d.]+) s\)?"
+HELD = re.compile(rf"^  .*\[(\d+)\].* held it up, asleep in (\S+), from {TIME} to {TIME}$", re.M)
 # How the answers end that have nothing to refuse: by status.
 WHOLE = {
     EXPLAINED: re.compile(rb"^(?:a run of the rules shows each of \d+ samples(?:; .*)?|as far as was seen, the premises of the "
-                          rb"consistency model hold|so far the premises of the consistency model hold; a force would break "
-                          rb"one|.* would hold it up)\n\Z", re.M),
+                          rb"consistency model hold: no task ran code that was gone|so far the premises of the consistency model "
+                          rb"hold: no task runs code that is gone. A force would break one|.* would hold it up(?:, and \d+ more may)?"
+                          rb"\nthe log was cut off: what is told is as of its last whole sample)\n\Z", re.M),
     NOT_SEEN: re.compile(rb"^so it isn't known who holds a transition up, or would: record again\n\Z", re.M),
     NOT_EXPLAINED: re.compile(rb"^  the log may lack the kernel's line of a force, which would explain it\nthis accuses nobody:", re.M),
 }
 # Threads of one process that sleep in one function share a line.
 GROUP = re.compile(r"^  .*\[(\d+)\]: (\d+) threads h(?:old|eld) it up", re.M)
-HOLDS = re.compile(r"^  .*\[(\d+)\].* holds it up: asleep \([^)]*\) in (\S+) since ([\d.]+) s or before, for ([\d.]+) s(?:; .*)?$", re.M)
+HOLDS = re.compile(rf"^  .*\[(\d+)\].* holds it up: asleep \([^)]*\) in (\S+) since {TIME} or before, for ([\d.]+) s(?:; .*)?$", re.M)
 
 
 def holders(said):
@@ -483,6 +486,25 @@ def idle():
     return None if (status, err) == (0, "") and words in out else f"{status}, {out} and {err}"
 
 
+CALM = b"no task that the log names or counts lags"
+
+
+def not_calm(end):
+    """In the last sample a task is read before the kernel's try switches it, and another one behind that. The log ends with that
+    sample, whole or cut off. Nobody is told to be calm: not in words, not for programs, not for many machines."""
+    text = read("logs/tried_meanwhile.log").decode()
+    text = text[: text.index("\n", text.index("sample 3.00 ")) + 1] + end
+    with tempfile.TemporaryDirectory(prefix="log-") as room:
+        with open(f"{room}/a.log", "w", encoding="utf-8") as it:
+            it.write(text)
+        words, report, metrics = (finish(start(["klpsee", *option, "a.log"], room, executable=built_program()))
+                                  for option in ([], ["--json"], ["--metrics"]))
+    lagging = [it["task"]["thread"] for it in json.loads(report[1])["transitions"][-1]["lagging"]]
+    is_well = [it[0] for it in (words, report, metrics)] == [0, 0, 0] and CALM not in words[1] and b"\n  w8[8] lags, asleep in " in words[1]
+    is_well = is_well and lagging == [8] and not json.loads(report[1])["nobody_lags"] and b'klp_lagging{host="a.log"} 1\n' in metrics[1]
+    return None if is_well else f"{words}, {lagging}, {metrics}"
+
+
 def cases():
     logs = sorted(it for it in os.listdir(f"{EXAMPLES}/captures") if it.endswith(".log"))
     names = [it.removesuffix(".log") for it in logs]
@@ -505,6 +527,7 @@ def cases():
     made += [("a log that begins with a reversed cumulative patch", begun_reversed)]
     made += [("the kernel's log against the samples", kernel_says_otherwise), ("a function that can't be placed", unplaced)]
     made += [(f"a task that is named, and {word} with {runs} runs", functools.partial(named_and, word, runs)) for word in ("left", "gone") for runs in (1, 2)]
+    made += [(f"a log that ends with {it!r} before a try", functools.partial(not_calm, it)) for it in ("", "end stopped\n")]
     made += [("an idle task", idle), ("a log with an older force", forced_before), ("a page's head", headed), ("the page of a pre-flight", preflight_page)]
     made += [("nothing in transition", functools.partial(stopped, "enable", "8.05", "no patch was in transition\n"))]
     switched = "  billing[90] held it up, asleep in livepatch_eventfd_read, from 56.44 s to 59.20 s\n"

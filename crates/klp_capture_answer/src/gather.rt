@@ -1,6 +1,7 @@
 //! Gathers a report from a log and the run that shows it.
 use crate::groups::{groups_of, process_name};
 use crate::inside::inside_of;
+use crate::lagging::{is_calm, lagging_of};
 use crate::not_explained::not_explained_of;
 use crate::not_seen::not_seen_of;
 use klp_capture::{BootTime, Capture, Sample, Text};
@@ -10,14 +11,13 @@ use klp_capture_catalog::{
 };
 use klp_capture_report::{
     Becomes, BrokenReport, EndReport, HolderReport, HowEnded, KernelHolderReport, KernelLogReport,
-    LaggingReport, LeftReport, Report, SCHEMA, SampleCounts, TaskCounts, TaskReport,
-    TransitionReport, UnplacedReport, VerdictReport, WhyLags,
+    LeftReport, Report, SCHEMA, SampleCounts, TaskCounts, TaskReport, TransitionReport,
+    UnplacedReport, VerdictReport,
 };
 use klp_capture_run::{Explained, Holder, HoldingSleep};
 use klp_capture_search::{Followed, Run};
 use klp_contradictions::{LogVerdict, contradiction_in, verdict_of};
-use klp_core::Lag;
-use klp_types::{Mode, Version};
+use klp_types::Version;
 use std::alloc::{AllocError, Global};
 
 /// The microseconds in a second.
@@ -29,7 +29,7 @@ pub(crate) fn text_of(alloc: Global, bytes: &[u8]) -> Result<String, AllocError>
 }
 
 /// Returns the report's entry of a task of the run.
-fn task_of(alloc: Global, task: &Followed<'_>) -> Result<TaskReport, AllocError> {
+pub(crate) fn task_of(alloc: Global, task: &Followed<'_>) -> Result<TaskReport, AllocError> {
     Ok(TaskReport {
         name: text_of(alloc, task.name)?,
         thread: task.thread,
@@ -191,21 +191,6 @@ fn kernel_log_of(
     }))
 }
 
-/// Returns the tasks that lag in the last sample without holding the transition up.
-fn lagging_of(alloc: Global, run: &Run<'_>) -> Result<Vec<LaggingReport>, AllocError> {
-    let mut lagging = Vec::new(alloc);
-    for task in &run.tasks {
-        let why = match task.lag {
-            Some(Lag::Waits(Mode::Asleep)) => WhyLags::AsleepElsewhere,
-            Some(Lag::Waits(_)) => WhyLags::Runs,
-            _ => continue,
-        };
-        let task = task_of(alloc, task)?;
-        lagging.push(LaggingReport { task, why })?;
-    }
-    Ok(lagging)
-}
-
 /// Returns the tasks that a force left asleep in a function that is no longer called. If nothing was forced, returns
 /// the tasks that a force would leave asleep in such a function.
 fn left_of(
@@ -286,7 +271,7 @@ fn transition_of(
     let goes_on = is_last && end.is_none();
     let holding = if goes_on { holding } else { &[] };
     let lagging = if goes_on {
-        lagging_of(alloc, run)?
+        lagging_of(alloc, capture, run)?
     } else {
         Vec::new(alloc)
     };
@@ -339,6 +324,18 @@ fn others_of(capture: &Capture<'_>, run: &Run<'_>) -> TaskCounts {
     }
 }
 
+/// Whether a transition goes on, and some task lags by the run that was found, or isn't judged.
+fn are_in_run(transitions: &[TransitionReport], run: &Run<'_>) -> bool {
+    match transitions.last() {
+        Some(last) => {
+            run.left_out > 0
+                || !last.lagging.is_empty()
+                || last.holders.iter().any(|holder| holder.holds_still)
+        }
+        None => false,
+    }
+}
+
 /// Returns the first sample that contradicts the rules. Nothing is judged that the kernel forced.
 fn broken_of(
     alloc: Global,
@@ -385,6 +382,12 @@ pub fn report_of(
         LogVerdict::NotSeen => VerdictReport::NotSeen,
     };
     let transitions = transitions_of(alloc, capture, found, &holding)?;
+    let are_in_run = are_in_run(&transitions, run);
+    let nobody_lags = if verdict == VerdictReport::Explained && found.forced.is_none() {
+        is_calm(alloc, capture, run, are_in_run)?
+    } else {
+        false
+    };
     Ok(Report {
         schema: SCHEMA,
         kernel: text_of(alloc, capture.kernel)?,
@@ -399,6 +402,7 @@ pub fn report_of(
         inside: inside_of(alloc, capture)?,
         kernel_holders: kernel_holders_of(alloc, capture, &transitions)?,
         transitions,
+        nobody_lags,
         left_by_force: left_of(alloc, capture, run, &holding)?,
         forced_at_us: match found.forced {
             Some(at) => Some(at.0),

@@ -6,6 +6,7 @@
 mod gather;
 mod groups;
 mod inside;
+mod lagging;
 mod not_explained;
 mod not_seen;
 

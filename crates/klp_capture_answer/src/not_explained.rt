@@ -4,7 +4,6 @@ use klp_capture_report::NotExplainedReport;
 use klp_capture_run::Explained;
 use klp_capture_search::Followed;
 use klp_diagnostics::{NamedSight, Sides, TaskNames, TaskNumbers, sides_in};
-use klp_messages::line_at;
 use klp_program::Verdict;
 use klp_types::TaskId;
 use std::alloc::{AllocError, Global};
@@ -71,26 +70,21 @@ fn sight_words(
     })
 }
 
-/// Returns in words the state in the log. If nothing was seen at the line of the trace, returns the line.
+/// Returns in words the state in the log. Returns `None` if nothing was seen at the line of the trace where the run ends: then
+/// this line is an event that was tried, which no log has.
 fn log_side(
     alloc: Global,
     names: ThreadNames<'_, '_>,
     sides: &Option<Sides>,
-    line: &[u8],
 ) -> Result<Option<String>, AllocError> {
-    if let Some(
-        Sides {
-            kernel: Some(sight),
-            ..
-        },
-    ) = sides
-        && let Some(words) = sight_words(alloc, names, sight)?
-    {
-        return Ok(Some(words));
-    }
-    match str::from_utf8(line) {
-        Ok(text) => Ok(Some(String::from_str(alloc, text)?)),
-        Err(_) => Ok(None),
+    match sides {
+        Some(
+            Sides {
+                kernel: Some(sight),
+                ..
+            },
+        ) => sight_words(alloc, names, sight),
+        _ => Ok(None),
     }
 }
 
@@ -108,7 +102,7 @@ fn both_sides(
         Verdict::Honest(_) => return Ok((None, None)),
     };
     let sides = sides_in(alloc, found.catalog.as_bytes(), trace, line);
-    let log = log_side(alloc, names, &sides, line_at(trace, line))?;
+    let log = log_side(alloc, names, &sides)?;
     let rules = match &sides {
         Some(sides) => Some(format!(in alloc; "{}", sides.rules.in_words(&names))?),
         None => None,

@@ -23,8 +23,7 @@ impl Machine {
 
     /// Returns the transition that is under way in the last sample.
     pub(crate) fn under_way(&self) -> Option<&TransitionReport> {
-        let last = self.report.transitions.last()?;
-        if last.end.is_none() { Some(last) } else { None }
+        self.report.under_way()
     }
 
     /// Whether a transition was forced, by the kernel's own log.
@@ -52,17 +51,7 @@ impl Machine {
         if self.report.verdict != VerdictReport::Explained {
             return None;
         }
-        let Some(under_way) = self.under_way() else {
-            return Some(0);
-        };
-        let others = self.report.others;
-        Some(
-            (under_way.lagging.len() as u64)
-                .saturating_add(others.running)
-                .saturating_add(others.sleeping)
-                .saturating_add(others.inside.unwrap_or(0))
-                .saturating_add(others.left_out),
-        )
+        Some(self.report.lagging())
     }
 
     /// Returns how long the transition has been under way, in microseconds. Returns 0 without one.

@@ -5,6 +5,7 @@ use crate::window::{Taken, Window};
 use klp_boot::Fault;
 use klp_capture::{BootTime, Capture, CaptureFault};
 use klp_capture_answer::report_of;
+use klp_capture_report::Times;
 use klp_capture_run::explain;
 use std::alloc::{AllocError, AllocFailed, Global};
 use std::io;
@@ -62,6 +63,8 @@ pub struct Feed {
     line: Vec<u8>,
     /// When the latest sample was begun. `None` before the first sample.
     at: Option<BootTime>,
+    /// Which times of day the times of the latest sample are.
+    times: Times,
     /// Whether the answers go to a terminal, whose last line is the state after the latest sample.
     is_terminal: bool,
     /// Whether the terminal's last line has a status.
@@ -80,6 +83,7 @@ impl Feed {
             follower: Follower::new(alloc),
             line: Vec::new(alloc),
             at: None,
+            times: Times::new(None, 0),
             is_terminal,
             has_status: false,
             has_ended: false,
@@ -150,10 +154,12 @@ impl Feed {
         let found = explain(self.alloc, &capture)?;
         let report = report_of(self.alloc, &capture, &found)?;
         self.status = report.status();
+        self.times = report.times();
+        let time = self.times.at(at.0);
         let changes = self.follower.see(self.alloc, &report, at)?;
         for change in &changes {
             self.clear_status(out)?;
-            writeln!(out, "{at} s: {change}")?;
+            writeln!(out, "{time}: {change}")?;
         }
         self.at = Some(at);
         self.window.step()?;
@@ -176,6 +182,7 @@ impl Feed {
         }
         let status = Status {
             follower: &self.follower,
+            times: self.times,
             at,
         };
         let words = format!(in self.alloc; "{status}")?;
@@ -198,7 +205,10 @@ impl Feed {
             "the log was cut off: it has no last line"
         };
         match self.at {
-            Some(at) => writeln!(out, "{at} s: {ending}")?,
+            Some(at) => {
+                let time = self.times.at(at.0);
+                writeln!(out, "{time}: {ending}")?;
+            }
             None => writeln!(out, "{ending}, and it has no sample")?,
         }
         Ok(())

@@ -60,12 +60,6 @@ pub struct Follower {
     verdict: VerdictReport,
 }
 
-/// Returns the transition that is under way in the last sample of an answer.
-fn last_under_way(report: &Report) -> Option<&TransitionReport> {
-    let last = report.transitions.last()?;
-    if last.end.is_none() { Some(last) } else { None }
-}
-
 /// Returns how a transition of this patch ended. Returns `None` if the answer doesn't have its end.
 fn end_of(report: &Report, patch: &str) -> Option<HowEnded> {
     let ended = report.transitions.iter().find(|transition| transition.patch.as_str() == patch
@@ -134,7 +128,7 @@ impl Follower {
     ) -> Result<Vec<Change>, AllocError> {
         let mut changes = Vec::new(alloc);
         self.see_transition(alloc, report, at, &mut changes)?;
-        let holding = match last_under_way(report) {
+        let holding = match report.under_way() {
             Some(transition) if report.verdict == VerdictReport::Explained => {
                 holding_in(alloc, transition, at)?
             }
@@ -143,16 +137,7 @@ impl Follower {
             None => Vec::new(alloc),
         };
         self.see_holding(alloc, holding, &mut changes)?;
-        self.lagging = match last_under_way(report) {
-            Some(transition) => {
-                let others = report.others;
-                (transition.lagging.len() as u64)
-                    .saturating_add(others.running)
-                    .saturating_add(others.sleeping)
-                    .saturating_add(others.inside.unwrap_or(0))
-            }
-            None => 0,
-        };
+        self.lagging = report.lagging();
         self.see_verdict(alloc, report, changes)
     }
 
@@ -164,7 +149,7 @@ impl Follower {
         at: BootTime,
         changes: &mut Vec<Change>,
     ) -> Result<(), AllocError> {
-        let now = last_under_way(report);
+        let now = report.under_way();
         if let Some(before) = &self.under_way {
             let is_same = now.is_some_and(|now| now.patch.as_str() == before.patch.as_str());
             if is_same && now.is_some_and(|now| now.becomes == before.becomes) {

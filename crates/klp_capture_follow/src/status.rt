@@ -2,12 +2,14 @@
 use crate::change::{shown, word_of};
 use crate::follower::{Follower, UnderWay};
 use klp_capture::{BootTime, Elapsed};
+use klp_capture_report::Times;
 use std::fmt;
 
 /// The state after the latest sample, which was begun at this time. Printed as one line without its end.
 #[derive(Clone, Copy)]
 pub struct Status<'a> {
     pub follower: &'a Follower,
+    pub times: Times,
     pub at: BootTime,
 }
 
@@ -37,8 +39,8 @@ impl fmt::Display for Status<'_> {
         match &self.follower.under_way {
             Some(under_way) => self.write_under_way(under_way, f),
             None => {
-                let at = self.at;
-                write!(f, "{at} s: no patch is in transition")
+                let time = self.times.at(self.at.0);
+                write!(f, "{time}: no patch is in transition")
             }
         }
     }

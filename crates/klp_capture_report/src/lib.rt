@@ -6,10 +6,12 @@
 #![tactic(auto)]
 
 mod lists;
+mod moment;
 mod report;
 mod transition_words;
 mod words;
 
+pub use moment::{Moment, Times};
 pub use report::{
     Becomes, BrokenReport, EndReport, GroupReport, HolderReport, HowEnded, InsideReport,
     KernelHolderReport, KernelLogReport, LaggingReport, LeftReport, NotExplainedReport, NotSeen,

@@ -1,5 +1,6 @@
 //! Lists of tasks in words. Tasks that belong together share a line, and a list has at most `SHOWN` lines.
-use crate::report::{KernelHolderReport, LeftReport, seconds};
+use crate::moment::Times;
+use crate::report::{KernelHolderReport, LeftReport};
 use crate::words::shown;
 use std::io;
 use std::io::Write;
@@ -81,6 +82,7 @@ fn count_together(holders: &[KernelHolderReport], one: &KernelHolderReport) -> (
 /// processes, so all that sleep in one function share a line.
 pub(crate) fn print_kernel_holders<W: Write>(
     holders: &[KernelHolderReport],
+    times: Times,
     out: &mut W,
 ) -> io::Result<()> {
     for (place, one) in holders.iter().enumerate() {
@@ -93,17 +95,17 @@ pub(crate) fn print_kernel_holders<W: Write>(
         }
         let (tasks, to_us) = count_together(holders, one);
         let (name, thread, function) = (shown(&one.name), one.thread, shown(&one.function));
-        let (from, to) = (seconds(one.from_us), seconds(to_us));
+        let (from, to) = (times.at(one.from_us), times.at(to_us));
         if tasks > 1 {
             writeln!(
                 out,
-                "  the kernel's log names {tasks} more as holders, asleep in {function}, from {from} s to {to} s: \
+                "  the kernel's log names {tasks} more as holders, asleep in {function}, from {from} to {to}: \
                 {name}[{thread}] is the first (--json names them)"
             )?;
         } else {
             writeln!(
                 out,
-                "  the kernel's log names {name}[{thread}] as a holder, asleep in {function}, from {from} s to {to} s"
+                "  the kernel's log names {name}[{thread}] as a holder, asleep in {function}, from {from} to {to}"
             )?;
         }
     }

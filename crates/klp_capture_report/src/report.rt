@@ -1,5 +1,5 @@
 //! The findings about a log, as data. Times are microseconds since the machine booted.
-use klp_capture::BootTime;
+use crate::moment::Times;
 use serde::Serialize;
 use std::alloc::Global;
 use std::io;
@@ -76,6 +76,12 @@ pub enum WhyLags {
     Runs,
     /// The task sleeps, but in none of those functions of the patch that the log names.
     AsleepElsewhere,
+    /// The task sleeps in a function of a patch's module, and the log doesn't show which of the patch's functions it is.
+    AsleepUnplaced,
+    /// The task ran while it was read, so it isn't known what it is inside of.
+    RanMeanwhile,
+    /// The task has ended. It is inside of no function.
+    Ended,
 }
 
 /// A task that lags without holding the transition up.
@@ -126,7 +132,8 @@ pub struct TransitionReport {
     pub groups: Vec<GroupReport>,
     /// The sleeps in functions that the log can't place.
     pub unplaced: Vec<UnplacedReport>,
-    /// The tasks that lag in the last sample without holding the transition up.
+    /// The tasks that lag in the last sample without holding the transition up: by the run of the rules, or by what the log
+    /// says of them last.
     pub lagging: Vec<LaggingReport>,
     /// The most tasks that a sample of the transition counts inside of patched functions, unswitched and without lines of
     /// their own.
@@ -259,6 +266,9 @@ pub struct Report {
     pub is_preflight: bool,
     pub inside: Vec<InsideReport>,
     pub transitions: Vec<TransitionReport>,
+    /// Whether a transition goes on, and no task is known to lag: neither one of the run of the rules, nor one by what the
+    /// log says of it last, nor one that the log only counts.
+    pub nobody_lags: bool,
     /// The tasks that the kernel named as holders and no sample shows as such.
     pub kernel_holders: Vec<KernelHolderReport>,
     /// The tasks that a force left, or would leave, asleep in a function that is no longer called.
@@ -275,7 +285,7 @@ pub struct Report {
 }
 
 /// The version of the fields of [`Report`].
-pub const SCHEMA: u32 = 2;
+pub const SCHEMA: u32 = 3;
 
 impl Report {
     /// Returns the exit status of `klpsee`: 0 if the log is explained, 3 if a sample contradicts the rules, 4 if no run
@@ -288,11 +298,31 @@ impl Report {
             VerdictReport::NotSeen => 5,
         }
     }
-}
 
-/// Returns a time of a report.
-pub fn seconds(microseconds: u64) -> BootTime {
-    BootTime(microseconds)
+    /// Returns the transition that is under way in the last sample.
+    pub fn under_way(&self) -> Option<&TransitionReport> {
+        let last = self.transitions.last()?;
+        if last.end.is_none() { Some(last) } else { None }
+    }
+
+    /// Returns how many tasks lag in the last sample that aren't known to hold the transition up: those that are named, those
+    /// that the log only counts, and those that it names and that aren't judged.
+    pub fn lagging(&self) -> u64 {
+        let Some(under_way) = self.under_way() else {
+            return 0;
+        };
+        let others = self.others;
+        (under_way.lagging.len() as u64)
+            .saturating_add(others.running)
+            .saturating_add(others.sleeping)
+            .saturating_add(others.inside.unwrap_or(0))
+            .saturating_add(others.left_out)
+    }
+
+    /// Returns which times of day the report's times are.
+    pub fn times(&self) -> Times {
+        Times::new(self.booted, self.last_sample_us.unwrap_or(0))
+    }
 }
 
 /// Writes a report as JSON: one object, whose fields are those of [`Report`].

@@ -1,30 +1,52 @@
 //! A transition in words: since when, how it ended, and who holds it up.
 use crate::lists::{SHOWN, print_more};
+use crate::moment::{SECOND, Times};
 use crate::report::{
     Becomes, EndReport, GroupReport, HolderReport, HowEnded, LaggingReport, TaskReport,
-    TransitionReport, UnplacedReport, WhyLags, seconds,
+    TransitionReport, UnplacedReport, WhyLags,
 };
 use crate::words::shown;
-use klp_capture::Elapsed;
+use klp_capture::{BootTime, Elapsed};
 use std::io::Write;
 use std::{fmt, io};
 
-/// The microseconds in a second.
-const SECOND: u64 = 1_000_000;
-
 /// Returns the time between two times, the earlier one first.
 fn elapsed(from_us: u64, to_us: u64) -> Elapsed {
-    Elapsed(seconds(from_us), seconds(to_us))
+    Elapsed(BootTime(from_us), BootTime(to_us))
 }
 
-/// Returns what can free a sleeper: a signal wakes one in state S, and no signal one in state D or a kernel thread.
+/// Returns what can free a sleeper: a signal wakes one in state S, and none a kernel thread. A killable sleep is shown as
+/// state D, too, and `SIGKILL` ends it.
 fn way_out(task: &TaskReport) -> &'static str {
     if task.is_kernel_thread {
-        "kill does nothing to it"
-    } else if task.state.as_str() == "S" {
-        "a signal may free it"
-    } else {
-        "no signal frees it"
+        return "kill does nothing to it";
+    }
+    match task.state.as_str() {
+        "S" => "a signal may free it",
+        "T" => "it was stopped: SIGCONT lets it run",
+        "t" => "a debugger has stopped it",
+        _ => "at most kill -9 frees it, and not always",
+    }
+}
+
+/// How a sleeper holds a transition up: asleep, with what can free it. A task that has ended neither sleeps nor holds
+/// anything up, whatever the run says of it that was found.
+#[derive(Clone, Copy)]
+struct Hold<'t> {
+    task: &'t TaskReport,
+    threads: u64,
+}
+
+impl fmt::Display for Hold<'_> {
+    fn fmt<W: fmt::Write>(&self, f: &mut fmt::Formatter<W>) -> fmt::Result {
+        let (state, way_out) = (shown(&self.task.state), way_out(self.task));
+        let is_ended = matches!(self.task.state.as_str(), "Z" | "X");
+        match (is_ended, self.threads) {
+            (true, 1) => write!(f, "has ended ({state}), and was asleep"),
+            (true, _) => write!(f, "have ended ({state}), and were asleep"),
+            (false, 1) => write!(f, "holds it up: asleep ({state}: {way_out})"),
+            (false, _) => write!(f, "hold it up: asleep ({state}: {way_out})"),
+        }
     }
 }
 
@@ -37,6 +59,7 @@ fn named_earlier(named_us: Option<u64>, from_us: u64) -> Option<u64> {
 /// Since when a task holds a transition up: by the kernel's own log if that named it earlier, and by the samples.
 #[derive(Clone, Copy)]
 struct Since {
+    times: Times,
     named_us: Option<u64>,
     from_us: u64,
     last_us: u64,
@@ -44,18 +67,26 @@ struct Since {
 
 impl fmt::Display for Since {
     fn fmt<W: fmt::Write>(&self, f: &mut fmt::Formatter<W>) -> fmt::Result {
-        let from = seconds(self.from_us);
+        let from = self.times.at(self.from_us);
         match named_earlier(self.named_us, self.from_us) {
             Some(named_us) => {
-                let (named, time) = (seconds(named_us), elapsed(named_us, self.last_us));
+                let (named, time) = (
+                    self.times.at(named_us),
+                    elapsed(named_us, self.last_us),
+                );
+                let samples = if self.from_us == self.last_us {
+                    "in the sample at"
+                } else {
+                    "in each sample since"
+                };
                 write!(
                     f,
-                    ": named by the kernel's log since {named} s, for {time} s, and asleep in each sample since {from} s"
+                    ": named by the kernel's log since {named}, for {time} s, and asleep {samples} {from}"
                 )
             }
             None => {
                 let time = elapsed(self.from_us, self.last_us);
-                write!(f, " since {from} s or before, for {time} s")
+                write!(f, " since {from} or before, for {time} s")
             }
         }
     }
@@ -63,16 +94,16 @@ impl fmt::Display for Since {
 
 /// That the kernel's own log named a task earlier than the samples whose times follow. Printed as nothing if it didn't.
 #[derive(Clone, Copy)]
-struct NamedFrom(Option<u64>);
+struct NamedFrom(Times, Option<u64>);
 
 impl fmt::Display for NamedFrom {
     fn fmt<W: fmt::Write>(&self, f: &mut fmt::Formatter<W>) -> fmt::Result {
-        match self.0 {
+        match self.1 {
             Some(named_us) => {
-                let named = seconds(named_us);
+                let named = self.0.at(named_us);
                 write!(
                     f,
-                    "named by the kernel's log from {named} s on, and in samples "
+                    "named by the kernel's log from {named} on, and in samples "
                 )
             }
             None => Ok(()),
@@ -81,7 +112,12 @@ impl fmt::Display for NamedFrom {
 }
 
 /// Writes which task holds the transition up, or held it up, and for how long.
-fn print_holder<W: Write>(holder: &HolderReport, last_us: u64, out: &mut W) -> io::Result<()> {
+fn print_holder<W: Write>(
+    holder: &HolderReport,
+    times: Times,
+    last_us: u64,
+    out: &mut W,
+) -> io::Result<()> {
     let (task, function) = (&holder.task, shown(&holder.function));
     let kind = if task.is_kernel_thread {
         ", a kernel thread,"
@@ -90,22 +126,20 @@ fn print_holder<W: Write>(holder: &HolderReport, last_us: u64, out: &mut W) -> i
     };
     let (named_us, from_us) = (holder.named_us, holder.from_us);
     if holder.holds_still {
-        let (state, way_out) = (&task.state, way_out(task));
+        let hold = Hold { task, threads: 1 };
         let since = Since {
+            times,
             named_us,
             from_us,
             last_us,
         };
-        writeln!(
-            out,
-            "  {task}{kind} holds it up: asleep ({state}: {way_out}) in {function}{since}"
-        )
+        writeln!(out, "  {task}{kind} {hold} in {function}{since}")
     } else {
-        let (from, to) = (seconds(from_us), seconds(holder.to_us));
-        let named = NamedFrom(named_earlier(named_us, from_us));
+        let (from, to) = (times.at(from_us), times.at(holder.to_us));
+        let named = NamedFrom(times, named_earlier(named_us, from_us));
         writeln!(
             out,
-            "  {task}{kind} held it up, asleep in {function}, {named}from {from} s to {to} s"
+            "  {task}{kind} held it up, asleep in {function}, {named}from {from} to {to}"
         )
     }
 }
@@ -114,6 +148,7 @@ fn print_holder<W: Write>(holder: &HolderReport, last_us: u64, out: &mut W) -> i
 fn print_group<W: Write>(
     group: &GroupReport,
     holder: &HolderReport,
+    times: Times,
     last_us: u64,
     out: &mut W,
 ) -> io::Result<()> {
@@ -121,23 +156,26 @@ fn print_group<W: Write>(
     let function = shown(&holder.function);
     let (named_us, from_us) = (group.named_us, group.from_us);
     if holder.holds_still {
-        let (state, way_out) = (&holder.task.state, way_out(&holder.task));
+        let hold = Hold {
+            task: &holder.task,
+            threads,
+        };
         let since = Since {
+            times,
             named_us,
             from_us,
             last_us,
         };
         writeln!(
             out,
-            "  {name}[{process}]: {threads} threads hold it up: asleep ({state}: {way_out}) in {function}, \
-            the first{since}"
+            "  {name}[{process}]: {threads} threads {hold} in {function}, the first{since}"
         )
     } else {
-        let (from, to) = (seconds(from_us), seconds(group.to_us));
-        let named = NamedFrom(named_earlier(named_us, from_us));
+        let (from, to) = (times.at(from_us), times.at(group.to_us));
+        let named = NamedFrom(times, named_earlier(named_us, from_us));
         writeln!(
             out,
-            "  {name}[{process}]: {threads} threads held it up, asleep in {function}, {named}between {from} s and {to} s"
+            "  {name}[{process}]: {threads} threads held it up, asleep in {function}, {named}between {from} and {to}"
         )
     }
 }
@@ -146,6 +184,7 @@ fn print_group<W: Write>(
 fn print_holders<W: Write>(
     transition: &TransitionReport,
     hold_still: bool,
+    times: Times,
     out: &mut W,
 ) -> io::Result<()> {
     let (mut lines, mut more): (usize, u64) = (0, 0);
@@ -159,9 +198,9 @@ fn print_holders<W: Write>(
         if lines >= SHOWN {
             more = more.saturating_add(group.threads);
         } else if group.threads > 1 {
-            print_group(group, holder, transition.last_sample_us, out)?;
+            print_group(group, holder, times, transition.last_sample_us, out)?;
         } else {
-            print_sleeps(transition, group, holder, out)?;
+            print_sleeps(transition, group, holder, times, out)?;
         }
         lines = lines.saturating_add(1);
     }
@@ -181,6 +220,7 @@ fn print_sleeps<W: Write>(
     transition: &TransitionReport,
     group: &GroupReport,
     first: &HolderReport,
+    times: Times,
     out: &mut W,
 ) -> io::Result<()> {
     for holder in transition.holders.iter().skip(group.first_holder) {
@@ -188,19 +228,23 @@ fn print_sleeps<W: Write>(
             && holder.function == first.function
             && holder.holds_still == first.holds_still
         {
-            print_holder(holder, transition.last_sample_us, out)?;
+            print_holder(holder, times, transition.last_sample_us, out)?;
         }
     }
     Ok(())
 }
 
 /// Writes which task slept in a function that the log can't place.
-fn print_unplaced<W: Write>(unplaced: &UnplacedReport, out: &mut W) -> io::Result<()> {
+fn print_unplaced<W: Write>(
+    unplaced: &UnplacedReport,
+    times: Times,
+    out: &mut W,
+) -> io::Result<()> {
     let (task, function) = (&unplaced.task, shown(&unplaced.function));
-    let (from, to) = (seconds(unplaced.from_us), seconds(unplaced.to_us));
+    let (from, to) = (times.at(unplaced.from_us), times.at(unplaced.to_us));
     writeln!(
         out,
-        "  {task} may have held it up: asleep from {from} s to {to} s in {function} of a patch's module, \
+        "  {task} may have held it up: asleep from {from} to {to} in {function} of a patch's module, \
         which the log can't place"
     )
 }
@@ -221,6 +265,19 @@ fn print_lagging<W: Write>(lagging: &LaggingReport, out: &mut W) -> io::Result<(
         WhyLags::Runs => writeln!(
             out,
             "  {task} lags, and runs: it is switched when it next leaves the kernel"
+        ),
+        WhyLags::AsleepUnplaced => writeln!(
+            out,
+            "  {task} lags, asleep in a function of a patch's module that the log can't place: it may hold it up"
+        ),
+        WhyLags::RanMeanwhile => writeln!(
+            out,
+            "  {task} lags, and ran while it was read: it isn't known what it is inside of"
+        ),
+        WhyLags::Ended => writeln!(
+            out,
+            "  {task} lags, and has ended ({}): it is inside of no function",
+            shown(&task.state)
         ),
     }
 }
@@ -251,10 +308,11 @@ fn print_counted<W: Write>(transition: &TransitionReport, out: &mut W) -> io::Re
 /// Writes since when a transition goes on, or from when to when it went on, and who holds or held it up.
 pub(crate) fn print_transition<W: Write>(
     transition: &TransitionReport,
+    times: Times,
     out: &mut W,
 ) -> io::Result<()> {
     let (name, way) = (shown(&transition.patch), transition.becomes);
-    let since = seconds(transition.since_us);
+    let since = times.at(transition.since_us);
     let or_before = if transition.is_start_known {
         ""
     } else {
@@ -268,22 +326,22 @@ pub(crate) fn print_transition<W: Write>(
             );
             writeln!(
                 out,
-                "{name} was being {way} from {since} s{or_before}, for {time} s, {ending}"
+                "{name} was being {way} from {since}{or_before}, for {time} s, {ending}"
             )?;
         }
         None => {
             let time = elapsed(transition.since_us, transition.last_sample_us);
             writeln!(
                 out,
-                "{name} is being {way} since {since} s{or_before}, for {time} s so far"
+                "{name} is being {way} since {since}{or_before}, for {time} s so far"
             )?;
         }
     }
-    print_holders(transition, false, out)?;
-    print_holders(transition, true, out)?;
+    print_holders(transition, false, times, out)?;
+    print_holders(transition, true, times, out)?;
     print_counted(transition, out)?;
     for unplaced in transition.unplaced.iter().take(SHOWN) {
-        print_unplaced(unplaced, out)?;
+        print_unplaced(unplaced, times, out)?;
     }
     print_more(transition.unplaced.len(), "may hold it up", out)?;
     for lagging in transition.lagging.iter().take(SHOWN) {

@@ -1,8 +1,9 @@
 //! A report in words.
 use crate::lists::{SHOWN, print_kernel_holders, print_left, print_more};
+use crate::moment::Times;
 use crate::report::{
     Becomes, BrokenReport, EndReport, HowEnded, InsideReport, KernelLogReport, NotExplainedReport,
-    NotSeen, Report, TaskReport, VerdictReport, seconds,
+    NotSeen, Report, TaskReport, VerdictReport,
 };
 use crate::transition_words::print_transition;
 use httpdate::HttpDate;
@@ -33,27 +34,6 @@ impl fmt::Display for Becomes {
 }
 
 impl Report {
-    /// Whether the last transition is still under way in the last sample.
-    fn goes_on(&self) -> bool {
-        match self.transitions.last() {
-            Some(last) => last.end.is_none(),
-            None => false,
-        }
-    }
-
-    /// Whether the last transition is held up, and by no task that the log names or counts.
-    fn no_task_lags(&self) -> bool {
-        match self.transitions.last() {
-            Some(last) if self.verdict == VerdictReport::Explained => {
-                !last.holders.iter().any(|holder| holder.holds_still)
-                    && last.lagging.is_empty()
-                    && last.unplaced.is_empty()
-                    && self.others.left_out == 0
-            }
-            _ => false,
-        }
-    }
-
     /// Writes how many tasks lag without being followed.
     fn print_others<W: Write>(&self, out: &mut W) -> io::Result<()> {
         let others = self.others;
@@ -75,7 +55,7 @@ impl Report {
                 out,
                 "  of {tasks} tasks {running} more lag and run, and {sleeping} more lag asleep{place}"
             )?;
-        } else if inside == 0 && self.no_task_lags() {
+        } else if inside == 0 && self.nobody_lags {
             writeln!(
                 out,
                 "  no task that the log names or counts lags: an idle task may hold it up, which /proc doesn't show"
@@ -116,9 +96,9 @@ impl Report {
 
     fn print_transitions<W: Write>(&self, out: &mut W) -> io::Result<()> {
         for transition in &self.transitions {
-            print_transition(transition, out)?;
+            print_transition(transition, self.times(), out)?;
         }
-        print_kernel_holders(&self.kernel_holders, out)?;
+        print_kernel_holders(&self.kernel_holders, self.times(), out)?;
         match self.transitions.last() {
             None if self.samples.left_out > 0 || self.samples.later > 0 => writeln!(
                 out,
@@ -164,38 +144,56 @@ impl Report {
             print_inside(inside, out)?;
         }
         print_more(self.inside.len(), "are inside of them", out)?;
-        let holders = self.inside.iter().filter(|inside| inside.is_asleep).count();
-        let tasks = if holders == 1 { "task" } else { "tasks" };
-        writeln!(
-            out,
-            "if these functions were patched now, {holders} {tasks} would hold it up"
-        )
-    }
-
-    fn print_verdict<W: Write>(&self, out: &mut W) -> io::Result<()> {
-        self.print_limits(out)?;
-        if let Some(at) = self.forced_at_us {
-            let at = seconds(at);
+        let counted = self.others.inside.unwrap_or(0);
+        if counted > 0 {
             writeln!(
                 out,
-                "the transition was forced at {at} s, which breaks a premise of the consistency model: \
-                what came then isn't judged"
+                "{counted} more are inside of them: the log counts them without a line of their own"
             )?;
         }
+        let holders = self.inside.iter().filter(|inside| inside.is_asleep).count();
+        let others = self.inside.len().saturating_sub(holders) as u64;
+        let tasks = if holders == 1 { "task" } else { "tasks" };
+        write!(
+            out,
+            "if these functions were patched now, {holders} {tasks} would hold it up"
+        )?;
+        match others.saturating_add(counted) {
+            0 => writeln!(out),
+            others => writeln!(out, ", and {others} more may"),
+        }
+    }
+
+    /// Writes that the log lacks its last lines, if it does.
+    fn print_cut_off<W: Write>(&self, out: &mut W) -> io::Result<()> {
         if self.is_cut_off {
             writeln!(
                 out,
                 "the log was cut off: what is told is as of its last whole sample"
             )?;
         }
+        Ok(())
+    }
+
+    fn print_verdict<W: Write>(&self, out: &mut W) -> io::Result<()> {
+        self.print_limits(out)?;
+        if let Some(at) = self.forced_at_us {
+            let at = self.times().at(at);
+            writeln!(
+                out,
+                "the transition was forced at {at}, which breaks a premise of the consistency model: \
+                what came then isn't judged"
+            )?;
+        }
+        self.print_cut_off(out)?;
         if let Some(broken) = &self.broken {
-            return print_broken(broken, out);
+            return print_broken(broken, self.times(), out);
         }
         if self.verdict == VerdictReport::Explained {
             return self.print_explained(out);
         }
         if let Some(differs) = &self.kernel_log_differs {
-            print_kernel_log(differs, out)?;
+            print_kernel_log(differs, self.times(), out)?;
         }
         match &self.not_explained {
             Some(lacking) => self.print_not_explained(lacking, out),
@@ -216,13 +214,13 @@ impl Report {
         }
         match self.forced_at_us {
             Some(_) => Ok(()),
-            None if self.goes_on() => writeln!(
+            None if self.under_way().is_some() => writeln!(
                 out,
-                "so far the premises of the consistency model hold; a force would break one"
+                "so far the premises of the consistency model hold: no task runs code that is gone. A force would break one"
             ),
             None => writeln!(
                 out,
-                "as far as was seen, the premises of the consistency model hold"
+                "as far as was seen, the premises of the consistency model hold: no task ran code that was gone"
             ),
         }
     }
@@ -233,10 +231,11 @@ impl Report {
         lacking: &NotExplainedReport,
         out: &mut W,
     ) -> io::Result<()> {
-        let (from, to) = (seconds(lacking.from_us), seconds(lacking.to_us));
+        let times = self.times();
+        let (from, to) = (times.at(lacking.from_us), times.at(lacking.to_us));
         writeln!(
             out,
-            "not explained: no run was found that shows the sample from {from} s to {to} s"
+            "not explained: no run was found that shows the sample from {from} to {to}"
         )?;
         if let Some(log) = &lacking.log {
             writeln!(out, "  the log has {}", shown(log))?;
@@ -245,10 +244,10 @@ impl Report {
             writeln!(out, "  in the run that was tried first, {}", shown(rules))?;
         }
         if let Some(at) = self.first_forced_us {
-            let at = seconds(at);
+            let at = times.at(at);
             writeln!(
                 out,
-                "  a transition was forced at {at} s, which would explain it"
+                "  a transition was forced at {at}, which would explain it"
             )?;
         }
         if self.is_cut_off {
@@ -303,11 +302,15 @@ impl Report {
 }
 
 /// Writes the line of the kernel's own log that a later sample contradicts.
-fn print_kernel_log<W: Write>(differs: &KernelLogReport, out: &mut W) -> io::Result<()> {
+fn print_kernel_log<W: Write>(
+    differs: &KernelLogReport,
+    times: Times,
+    out: &mut W,
+) -> io::Result<()> {
     let (patch, at, sample) = (
         shown(&differs.patch),
-        seconds(differs.at_us),
-        seconds(differs.sample_us),
+        times.at(differs.at_us),
+        times.at(differs.sample_us),
     );
     let (said, shows) = if differs.says_complete {
         ("was complete", "is under way")
@@ -316,16 +319,16 @@ fn print_kernel_log<W: Write>(differs: &KernelLogReport, out: &mut W) -> io::Res
     };
     writeln!(
         out,
-        "not explained: by the kernel's log the transition of {patch} {said} at {at} s, and in the sample at \
-        {sample} s it {shows}"
+        "not explained: by the kernel's log the transition of {patch} {said} at {at}, and in the sample at \
+        {sample} it {shows}"
     )
 }
 
 /// Writes a sample that contradicts the rules.
-fn print_broken<W: Write>(broken: &BrokenReport, out: &mut W) -> io::Result<()> {
+fn print_broken<W: Write>(broken: &BrokenReport, times: Times, out: &mut W) -> io::Result<()> {
     let (from, to, why) = (
-        seconds(broken.from_us),
-        seconds(broken.to_us),
+        times.at(broken.from_us),
+        times.at(broken.to_us),
         shown(&broken.why),
     );
     let unless = if broken.unless_forced {
@@ -335,7 +338,7 @@ fn print_broken<W: Write>(broken: &BrokenReport, out: &mut W) -> io::Result<()> 
     };
     writeln!(
         out,
-        "broken: no run of the rules shows the sample from {from} s to {to} s, {unless}"
+        "broken: no run of the rules shows the sample from {from} to {to}, {unless}"
     )?;
     writeln!(out, "  {why}")?;
     let or_forced = if broken.unless_forced {
@@ -354,10 +357,15 @@ fn print_inside<W: Write>(inside: &InsideReport, out: &mut W) -> io::Result<()> 
     let (task, function) = (&inside.task, shown(&inside.function));
     if inside.is_asleep {
         write!(out, "{task} would hold it up: it is asleep in {function}")?;
-    } else {
+    } else if task.state.as_str() == "R" {
         write!(
             out,
             "{task} runs, and was seen in {function}: it may hold it up"
+        )?;
+    } else {
+        write!(
+            out,
+            "{task} was seen in {function}, and ran while it was read: it may hold it up"
         )?;
     }
     match inside.samples {
@@ -375,7 +383,7 @@ pub fn print_report<W: Write>(report: &Report, out: &mut W) -> io::Result<()> {
     if report.is_preflight {
         report.print_inside(out)?;
         if report.transitions.is_empty() && report.verdict == VerdictReport::Explained {
-            return Ok(());
+            return report.print_cut_off(out);
         }
     }
     report.print_transitions(out)?;
