@@ -1,7 +1,7 @@
 //! Who lags in the last sample: by the run that was found, and by what the log says of each task last.
 use crate::gather::task_of;
 use klp_capture::{Activity, Capture, Sample, SeenTask};
-use klp_capture_lagging::{LogLags, log_lags};
+use klp_capture_lagging::{lagging_in, nobody_lags};
 use klp_capture_report::{LaggingReport, WhyLags};
 use klp_capture_search::{Followed, Run};
 use klp_core::Lag;
@@ -10,7 +10,11 @@ use std::alloc::{AllocError, Global};
 /// Returns the target of the transition that goes on in the last sample that the run reached. Returns `None` without one.
 fn target_of(run: &Run<'_>) -> Option<bool> {
     let last = run.transitions.last()?;
-    if last.end.is_none() { Some(last.target) } else { None }
+    if last.end.is_none() {
+        Some(last.target)
+    } else {
+        None
+    }
 }
 
 /// Returns the samples from the last one that the run reached. Those behind it are torn, if the run shows the log.
@@ -19,20 +23,20 @@ fn last_samples<'c>(capture: &'c Capture<'_>, run: &Run<'_>) -> &'c [Sample] {
     capture.samples.get(last..).unwrap_or(&[])
 }
 
-/// Returns which tasks lag by what the log says of them last, up to the last sample that the run reached. Returns `None` if
-/// no transition goes on there.
+/// Returns which tasks lag by what the log says of them last, up to the last sample that the run reached. Returns none if no
+/// transition goes on there.
 fn lags_of<'a>(
     alloc: Global,
     capture: &Capture<'a>,
     run: &Run<'_>,
-) -> Result<Option<LogLags<'a>>, AllocError> {
+) -> Result<Vec<SeenTask<'a>>, AllocError> {
     let Some(target) = target_of(run) else {
-        return Ok(None);
+        return Ok(Vec::new(alloc));
     };
     let behind = last_samples(capture, run).len().saturating_sub(1);
     let reached = capture.samples.len().saturating_sub(behind);
     let samples = capture.samples.get(..reached).unwrap_or(&[]);
-    Ok(Some(log_lags(alloc, capture, samples, &[], target)?))
+    lagging_in(alloc, capture, samples, target)
 }
 
 /// Whether no task is known to lag, though a transition goes on: neither one of the run, nor one by what the whole log says
@@ -46,9 +50,13 @@ pub(crate) fn is_calm(
     let Some(target) = target_of(run) else {
         return Ok(false);
     };
-    let last = last_samples(capture, run);
-    let lags = log_lags(alloc, capture, &capture.samples, last, target)?;
-    Ok(lags.is_nobody(are_in_run))
+    nobody_lags(
+        alloc,
+        capture,
+        last_samples(capture, run),
+        target,
+        are_in_run,
+    )
 }
 
 /// Returns why a task lags that was last read so.
@@ -77,13 +85,13 @@ fn why_by_letter(task: &Followed<'_>) -> WhyLags {
 fn why_lags(
     capture: &Capture<'_>,
     run: &Run<'_>,
-    lags: &LogLags<'_>,
+    lags: &[SeenTask<'_>],
     task: &Followed<'_>,
 ) -> Option<WhyLags> {
     if let Some(Lag::Holds(_)) = task.lag {
         return None;
     }
-    let read = lags.named.iter().find(|seen| seen.task.thread == task.thread
+    let read = lags.iter().find(|seen| seen.task.thread == task.thread
         && seen.task.start == task.start);
     match (read, task.lag) {
         (Some(seen), _) => Some(why_of(capture, run, seen)),
@@ -99,9 +107,7 @@ pub(crate) fn lagging_of(
     run: &Run<'_>,
 ) -> Result<Vec<LaggingReport>, AllocError> {
     let mut lagging = Vec::new(alloc);
-    let Some(lags) = lags_of(alloc, capture, run)? else {
-        return Ok(lagging);
-    };
+    let lags = lags_of(alloc, capture, run)?;
     for task in &run.tasks {
         if let Some(why) = why_lags(capture, run, &lags, task) {
             let task = task_of(alloc, task)?;

@@ -7,26 +7,6 @@ ghost use Rattle.klp_capture_lagging.specs.Lagging.{is_off, is_of, is_same, lets
 use klp_capture::{Capture, PatchedState, Sample, SeenTask};
 use std::alloc::{AllocError, Global};
 
-/// What a log says of the tasks that aren't at the target of a transition.
-#[derive(Drop)]
-pub struct LogLags<'a> {
-    /// The tasks that weren't at the target when the log last said something of them, each as it was read then.
-    pub named: Vec<SeenTask<'a>>,
-    /// Whether one of the last samples counts tasks that lag, without naming them.
-    pub are_counted: bool,
-}
-
-impl LogLags<'_> {
-    /// Whether no task is known to lag: neither one that the log names, nor one that it only counts, nor one of the run.
-    /// `are_in_run` says whether a task lags at the end of the run that shows the log.
-    pub fn is_nobody(&self, are_in_run: bool) -> bool
-        ensures { (result ≡ true) ↔
-            ((are_in_run ≡ false) × (self.now.named.items ≡ []) × (self.now.are_counted ≡ false)) }
-    {
-        !are_in_run && self.named.is_empty() && !self.are_counted
-    }
-}
-
 /// Whether this isn't the state of the tasks at the target. A task without a state doesn't lag.
 fn is_off(target: bool, state: PatchedState) -> bool
     ensures { result ≡ is_off target state }
@@ -131,13 +111,23 @@ fn add_lagging_of<'a>(
     let readings = sample.tasks.of(&capture.seen);
     for number in 0..readings.len() {
         let rest = &readings[number + 1..];
-        add_lagging(capture, target, sample, later, &readings[number], rest, list)?;
+        add_lagging(
+            capture,
+            target,
+            sample,
+            later,
+            &readings[number],
+            rest,
+            list,
+        )?;
     }
     Ok(())
 }
 
-/// Returns the tasks that lag by what these samples say of them last.
-fn lagging_in<'a>(
+/// Returns the tasks that lag in a transition to this target by what these samples of a log say of them last, each as it was
+/// read then. Returns `Err` if memory runs out. The time is that of a look at all samples from each reading of a task that
+/// isn't at the target to the next one.
+pub fn lagging_in<'a>(
     alloc: Global,
     capture: &Capture<'a>,
     samples: &[Sample],
@@ -172,21 +162,20 @@ fn any_counts_some(samples: &[Sample]) -> bool
     false
 }
 
-/// Returns what these samples of a log say last of tasks that aren't at the target of a transition. `last` are the latest
-/// of these samples, of which the counts are wanted. The time is that of a look at each pair of a reading and the next one
-/// of its task.
-pub fn log_lags<'a>(
+/// Whether no task is known to lag in a transition to this target: neither one of the run, nor one by what the log says of it
+/// last, nor one that these samples, the latest ones, only count. `are_in_run` says whether a task lags at the end of the run
+/// that shows the log. Returns `Err` if memory runs out. The time is that of [`lagging_in`].
+pub fn nobody_lags(
     alloc: Global,
-    capture: &Capture<'a>,
-    samples: &[Sample],
-    last: &[Sample],
+    capture: &Capture<'_>,
+    latest: &[Sample],
     target: bool,
-) -> Result<LogLags<'a>, AllocError>
-    ensures named { IfOk result (λ lags. lags.named.items ≡ lagging_in capture.now target samples.now) }
-    ensures counted { IfOk result (λ lags. lags.are_counted ≡ list_any counts_some last.now) }
+    are_in_run: bool,
+) -> Result<bool, AllocError>
+    ensures { IfOk result (λ nobody. (nobody ≡ true) ↔
+        ((are_in_run ≡ false) × (lagging_in capture.now target capture.now.samples.items ≡ [])
+        × (list_any counts_some latest.now ≡ false))) }
 {
-    Ok(LogLags {
-        named: lagging_in(alloc, capture, samples, target)?,
-        are_counted: any_counts_some(last),
-    })
+    let named = lagging_in(alloc, capture, &capture.samples, target)?;
+    Ok(!are_in_run && named.is_empty() && !any_counts_some(latest))
 }

@@ -48,10 +48,7 @@ impl fmt::Display for Moment {
         let epoch = booted.saturating_add(self.at_us / SECOND);
         if epoch / DAY == self.times.today {
             let (hours, minutes, seconds) = (epoch / 3600 % 24, epoch / 60 % 60, epoch % 60);
-            return write!(
-                f,
-                "{hours:02}:{minutes:02}:{seconds:02} GMT ({at} s)"
-            );
+            return write!(f, "{hours:02}:{minutes:02}:{seconds:02} GMT ({at} s)");
         }
         match HttpDate::from_unix_secs(epoch) {
             Ok(date) => write!(f, "{date} ({at} s)"),

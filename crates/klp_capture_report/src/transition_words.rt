@@ -70,10 +70,7 @@ impl fmt::Display for Since {
         let from = self.times.at(self.from_us);
         match named_earlier(self.named_us, self.from_us) {
             Some(named_us) => {
-                let (named, time) = (
-                    self.times.at(named_us),
-                    elapsed(named_us, self.last_us),
-                );
+                let (named, time) = (self.times.at(named_us), elapsed(named_us, self.last_us));
                 let samples = if self.from_us == self.last_us {
                     "in the sample at"
                 } else {
