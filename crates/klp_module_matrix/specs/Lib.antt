@@ -1,3 +1,4 @@
+pub mod Names
 pub mod Matrix
 pub mod Changes
 pub mod Outcomes

@@ -71,14 +71,25 @@ fn append_functions<'a>(
     Ok(())
 }
 
+/// Adds all functions that a patch changes, in the order of its tables.
+pub fn append_changed<'a>(
+    changed: &mut Vec<Changed<'a>>,
+    objects: &[Object<'a>],
+) -> Result<(), AllocError>
+    ensures { IfOk result (λ _. map meaning changed.new.items ≡ map meaning changed.old.items ++ changed_by objects.now) }
+{
+    for object in objects {
+        append_functions(changed, object.row.name, &object.functions)?;
+    }
+    Ok(())
+}
+
 /// Returns all functions that a patch changes, in the order of its tables.
 pub fn changed_by<'a>(alloc: Global, objects: &[Object<'a>]) -> Result<Vec<Changed<'a>>, AllocError>
     ensures { IfOk result (λ changed. map meaning changed.items ≡ changed_by objects.now) }
 {
     let mut changed = Vec::new(alloc);
-    for object in objects {
-        append_functions(&mut changed, object.row.name, &object.functions)?;
-    }
+    append_changed(&mut changed, objects)?;
     Ok(changed)
 }
 

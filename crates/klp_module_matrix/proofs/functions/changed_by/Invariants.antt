@@ -1,6 +1,0 @@
-use Rattle.std.proofs.Common.{◌≡◌, map, take}
-use Rattle.klp_module_matrix.specs.Changes.{changed_by, meaning}
-use Rattle.klp_module_matrix.proofs.functions.changed_by.Given as goal
-
-abbrev pub invariant-loop-object : goal.invariant-loop-object
-invariant-loop-object l = map meaning l.changed.items ≡ changed_by (take l.object-index l.objects)
