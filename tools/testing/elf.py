@@ -141,7 +141,7 @@ class Livepatch:
         return data, pointers, names
 
     def module(self, *, section_behind=None, without_symbols=False, patch_size=PATCH, patches=1, doubled=None, short=None, numbers=(), dropped=None,
-               outside=None, endless=False, sizes=()):
+               outside=None, endless=False, sizes=(), data_name=".data"):
         """The bytes of the module, with these faults."""
         data, pointers, names = self.write_tables()
         strings, symbols, functions = Strings(b"\0"), [(0, NO_KIND, 0, 0, 0)], {}
@@ -186,13 +186,13 @@ class Livepatch:
             ".modinfo": b"".join(it + b"\0" for it in info), OWN: bytes(MODULE), ".strtab": strings.data,
             ".symtab": b"".join(struct.pack("<IBBHQQ", name, kind, 0, section, value, size) for name, kind, section, value, size in symbols),
         })
-        return written(parts, section_behind, without_symbols)
+        return written(parts, section_behind, without_symbols, data_name)
 
 
-def written(parts, section_behind, without_symbols):
-    """An ELF file of these sections."""
+def written(parts, section_behind, without_symbols, data_name):
+    """An ELF file of these sections, of which .data may have another name."""
     names = Strings()
-    at = {it: names.add(it.encode()) for it in parts}
+    at = {it: names.add((data_name if it == ".data" else it).encode()) for it in parts}
     parts[".shstrtab"] = names.data
     body, headers = b"", b""
     for name, (kind, flags) in SECTIONS.items():

@@ -306,6 +306,9 @@ def faults():
     yield "no name", sample(is_named=False).module(), "its name is wanted in its section .modinfo: name="
     yield "no symbols", good.module(without_symbols=True), "it has no symbols, so no kernel loads it"
     yield "no struct klp_patch", good.module(patch_size=192), NO_PATCH
+    for section, tool in ((".kpatch.funcs", "kpatch-build"), ("__klp_objects", "klp-build"), (".init.klp_objects", "klp-build")):
+        yield f"the section {section}", good.module(patch_size=192, data_name=section), (
+            f"its tables are in the section {section}, as {tool} makes them: only a struct klp_patch that the compiler lays out is read")
     yield "two structs klp_patch", good.module(patches=2), SEVERAL
     at = good.place
     pointer = "a pointer is wanted, and "

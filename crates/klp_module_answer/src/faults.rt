@@ -17,6 +17,13 @@ const IMAGE_WORD: usize = 0x202;
 
 const IMAGE: &[u8] = b"HdrS";
 
+/// The sections in which tools keep a livepatch's tables that its code reads, each with the tool.
+const SECTIONS: [(&[u8], &str); 3] = [
+    (b".kpatch.funcs", "kpatch-build"),
+    (b"__klp_objects", "klp-build"),
+    (b".init.klp_objects", "klp-build"),
+];
+
 /// What is wrong with a file that isn't an ELF file as a module is one.
 #[derive(Clone, Copy)]
 pub(crate) struct FileWords<'b> {
@@ -161,6 +168,22 @@ impl<'e, 'a> ModuleFaultWords<'e, 'a> {
         )
     }
 
+    /// Writes that no variable is a struct klp_patch, or in which other form the tables are.
+    fn write_no_patch<W: fmt::Write>(&self, f: &mut fmt::Formatter<W>) -> fmt::Result {
+        for (section, tool) in SECTIONS {
+            if self.elf.section_named(section).is_some() {
+                return write!(
+                    f,
+                    "its tables are in the section {}, as {tool} makes them: only a struct klp_patch that the compiler lays out is read",
+                    Escaped(section)
+                );
+            }
+        }
+        f.write_str(
+            "a struct klp_patch is wanted: no variable of its size begins with a pointer to the module",
+        )
+    }
+
     fn write_table<W: fmt::Write>(
         &self,
         f: &mut fmt::Formatter<W>,
@@ -182,9 +205,7 @@ impl<'e, 'a> ModuleFaultWords<'e, 'a> {
                 self.place(at)
             ),
             TableFault::Layout { table, wanted } => self.write_layout(f, table, wanted),
-            TableFault::NoPatch => f.write_str(
-                "a struct klp_patch is wanted: no variable of its size begins with a pointer to the module",
-            ),
+            TableFault::NoPatch => self.write_no_patch(f),
             TableFault::SeveralPatches => f.write_str(
                 "one struct klp_patch is wanted: several variables of its size begin with a pointer to the module",
             ),

@@ -2,9 +2,9 @@
 use crate::listing::named_callbacks;
 use crate::livepatch::Livepatch;
 use crate::pairs::{OutcomeWords, Pair, has_unpatch_callbacks};
-use crate::spelled::{ObjectName, Spelled};
+use crate::spelled::Spelled;
 use klp_messages::Escaped;
-use klp_module_matrix::{Changed, Judgement, Outcome, Refusal};
+use klp_module_matrix::{Changed, Judgement, Outcome, Refusal, name_of_row};
 use klp_tables::{Callbacks, Object, Replaces};
 use serde::Serialize;
 use std::alloc::{AllocError, Global};
@@ -120,7 +120,7 @@ fn object_of(alloc: Global, object: &Object<'_>) -> Result<ObjectObject, AllocEr
         })?;
     }
     Ok(ObjectObject {
-        name: ObjectName(object.row.name).to_string(alloc)?,
+        name: text_of(alloc, name_of_row(&object.row))?,
         callbacks: callbacks_of(alloc, object.row.callbacks)?,
         functions,
     })
@@ -189,7 +189,7 @@ fn unrun_of(alloc: Global, pair: Pair<'_, '_>) -> Result<Vec<String>, AllocError
     let mut names = Vec::new(alloc);
     for object in &pair.older.patch.objects {
         if has_unpatch_callbacks(object) {
-            names.push(ObjectName(object.row.name).to_string(alloc)?)?;
+            names.push(text_of(alloc, name_of_row(&object.row))?)?;
         }
     }
     Ok(names)

@@ -2,8 +2,8 @@
 use crate::Form;
 use crate::json::write_patch;
 use crate::livepatch::Livepatch;
-use crate::spelled::ObjectName;
 use klp_messages::Escaped;
+use klp_module_matrix::name_of_row;
 use klp_tables::{Callbacks, Function, Object, Replaces};
 use std::alloc::Global;
 use std::io;
@@ -30,7 +30,7 @@ fn write_function<W: Write>(function: Function<'_>, out: &mut W) -> io::Result<(
 
 /// Writes an object with its callbacks and functions.
 fn write_object<W: Write>(object: &Object<'_>, out: &mut W) -> io::Result<()> {
-    write!(out, "  object {}", ObjectName(object.row.name))?;
+    write!(out, "  object {}", Escaped(name_of_row(&object.row)))?;
     let mut comma = ": callbacks ";
     for (name, is_there) in named_callbacks(object.row.callbacks) {
         if is_there {

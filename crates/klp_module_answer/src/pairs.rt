@@ -2,9 +2,9 @@
 use crate::Form;
 use crate::json::write_pair;
 use crate::livepatch::Livepatch;
-use crate::spelled::{FunctionWords, ObjectName};
+use crate::spelled::FunctionWords;
 use klp_messages::Escaped;
-use klp_module_matrix::{Judgement, Outcome, Refusal, judge};
+use klp_module_matrix::{Judgement, Outcome, Refusal, judge, name_of_row};
 use klp_tables::Object;
 use std::alloc::Global;
 use std::io::Write;
@@ -60,7 +60,7 @@ impl OutcomeWords<'_, '_, '_> {
         let mut comma = "; never run are its callbacks pre_unpatch and post_unpatch for ";
         for object in &self.pair.older.patch.objects {
             if has_unpatch_callbacks(object) {
-                write!(f, "{comma}{}", ObjectName(object.row.name))?;
+                write!(f, "{comma}{}", Escaped(name_of_row(&object.row)))?;
                 comma = ", ";
             }
         }

@@ -1,23 +1,10 @@
-//! How objects and functions are spelled.
+//! How functions are spelled.
 use klp_messages::Escaped;
-use klp_module_matrix::Changed;
+use klp_module_matrix::{Changed, object_name};
 use std::fmt;
-
-/// The name of the kernel's image as an object.
-const IMAGE: &[u8] = b"vmlinux";
 
 /// How many functions are named in a line.
 const NAMED: usize = 5;
-
-/// An object by its name.
-#[derive(Clone, Copy)]
-pub(crate) struct ObjectName<'a>(pub(crate) Option<&'a [u8]>);
-
-impl fmt::Display for ObjectName<'_> {
-    fn fmt<W: fmt::Write>(&self, f: &mut fmt::Formatter<W>) -> fmt::Result {
-        write!(f, "{}", Escaped(self.0.unwrap_or(IMAGE)))
-    }
-}
 
 /// A function with its object, as a catalog spells it: with its position if it isn't the first of its name.
 #[derive(Clone, Copy)]
@@ -30,7 +17,8 @@ impl fmt::Display for Spelled<'_> {
             name,
             position,
         } = self.0;
-        write!(f, "{}:{}", ObjectName(object), Escaped(name))?;
+        let object = object_name(object);
+        write!(f, "{}:{}", Escaped(object), Escaped(name))?;
         if position > 1 {
             write!(f, ",{position}")?;
         }
