@@ -151,8 +151,8 @@ def told_marks(patches, kernel):
 
 
 def rows_text(kernel):
-    """A kernel's symbols, as /proc/kallsyms lists them."""
-    return "".join(f"{address:016x} {letter} {name}" + ("\n" if object == "vmlinux" else f"\t[{object}]\n") for address, letter, name, object in kernel)
+    """A kernel's symbols, as /proc/kallsyms lists them, with an empty line behind them."""
+    return "".join(f"{address:016x} {letter} {name}" + ("\n" if object == "vmlinux" else f"\t[{object}]\n") for address, letter, name, object in kernel) + "\n"
 
 
 def catalog(kernel, *patches):
@@ -179,8 +179,9 @@ def refused_catalog(wanted, symbols, *patches):
     with tempfile.TemporaryDirectory(prefix="catalogs-") as room:
         with open(f"{room}/symbols", "w") as it:
             it.write(symbols)
-        came = run(["klpko", "--symbols", f"{room}/symbols", *(it["file"] for it in patches)])
-        return fault(came, (FAULTY, b"", f"klpko: {wanted}\n"))
+        files = [it["file"] for it in patches]
+        came = run(["klpko", "--symbols", f"{room}/symbols", *files])
+        return fault(came, (FAULTY, b"", f"klpko: {wanted.format(*files, s=f'{room}/symbols')}\n"))
 
 
 def of_example():
@@ -209,28 +210,58 @@ MADE = {
     "16 patches of 16 functions": [Livepatch(b"p%d" % it, [Object(None, [Function(b"f%d" % at, b"new") for at in range(16)])]) for it in range(16)],
 }
 FUNCTIONS = [Function(b"f%d" % it, b"new") for it in range(300)]
-# Livepatches of which no catalog is made, each with the reason.
+WHOLE, FEWER = "--list and --matrix take it whole", "give fewer patches; --matrix takes all"
+NAME, SYMBOL = "1 to 55 letters, digits, _ and -", "1 to 127 letters, digits, _, . and $"
+
+
+def of_patch(name, number, reason):
+    """A refusal that is about one patch: it names the file, the patch and what to do."""
+    return f"{{{number}}}: patch {name}: {reason}: {WHOLE}"
+
+
+def too_many(count, what, most):
+    return f"it has {count} {what}, and a catalog has room for {most} of a patch"
+
+
+def no_name(part, wanted):
+    return f"{part}a catalog can't have this name: wanted are {wanted}"
+
+
+# Livepatches of which no catalog is made, each with the reason. The number in braces stands for the file of that patch.
 TOO_MANY = {
-    "17 patches": ("17 patches are given, and a catalog has room for 16", [Livepatch(b"p%d" % it, []) for it in range(17)]),
-    "65 functions": ("65 functions of a patch are given, and a catalog has room for 64", [Livepatch(b"a", [Object(None, FUNCTIONS[:65])])]),
-    "9 objects": ("9 objects of a patch are given, and a catalog has room for 8", [Livepatch(b"a", [Object(b"m%d" % it, []) for it in range(9)])]),
-    "17 states": ("17 system states of a patch are given, and a catalog has room for 16", [Livepatch(b"a", [], states=[(it, 1) for it in range(1, 18)])]),
-    "18 objects in all": ("18 objects are given, and a catalog has room for 17", [
+    "17 patches": (f"17 patches are given, and a catalog has room for 16: {FEWER}", [Livepatch(b"p%d" % it, []) for it in range(17)]),
+    "65 functions": (of_patch("a", 0, too_many(65, "functions", 64)), [Livepatch(b"a", [Object(None, FUNCTIONS[:65])])]),
+    "65 functions of two objects, in the second patch": (of_patch("b", 1, too_many(65, "functions", 64)), [
+        Livepatch(b"a", [Object(None, FUNCTIONS[:64])]), Livepatch(b"b", [Object(None, FUNCTIONS[:64]), Object(b"m", FUNCTIONS[:1])])]),
+    "9 objects": (of_patch("a", 0, too_many(9, "objects", 8)), [Livepatch(b"a", [Object(b"m%d" % it, []) for it in range(9)])]),
+    "17 states": (of_patch("a", 0, too_many(17, "system states", 16)), [Livepatch(b"a", [], states=[(it, 1) for it in range(1, 18)])]),
+    "18 objects in all": (f"the patches change more than 17 objects with vmlinux, and a catalog has room for so many: {FEWER}", [
         Livepatch(b"p%d" % it, [Object(b"m%d_%d" % (it, at), []) for at in range(count)]) for it, count in enumerate((6, 6, 5))]),
-    "257 symbols": ("257 symbols are given, and a catalog has room for 256", [
+    "257 symbols": (f"there are more than 256 symbols that the patches name, and a catalog has room for so many: {FEWER}", [
         Livepatch(b"p%d" % it, [Object(b"n", FUNCTIONS[64 * it : min(64 * it + 64, 257)])]) for it in range(5)]),
-    "a position without end": (f"{2**32 - 1} symbols are given, and a catalog has room for 256", [Livepatch(b"a", [Object(b"n", [Function(b"f", b"g", 2**32 - 1)])])]),
+    "a position without end": (of_patch("a", 0, "function f of n: its position is above 256, and a catalog has room for so many symbols"), [
+        Livepatch(b"a", [Object(b"n", [Function(b"f", b"g", 2**64 - 1)])])]),
+    "the position 257": (of_patch("a", 0, "function f of vmlinux: its position is above 256, and a catalog has room for so many symbols"), [
+        Livepatch(b"a", [Object(None, [Function(b"g", b"g"), Function(b"f", b"g", 257)])])]),
 }
-# Names that no catalog can have, and symbols that aren't a kernel's, each with the reason.
+# Names that no catalog can have, and symbols that aren't a kernel's, each with the reason. `s` stands for the file of symbols.
+NO_ROW = "it isn't one of /proc/kallsyms: wanted is ADDRESS LETTER NAME [MODULE]"
 ODD = {
-    "a name with a point": ("a catalog can't spell it: its line 5 would be faulty, BadName", "", [Livepatch(b"a.b", [Object(None, [Function(b"g", b"g")])])]),
-    "two tables for an object": ("a catalog can't spell it: its line 8 would be faulty, Twice", "", [
-        Livepatch(b"a", [Object(None, [Function(b"g", b"g")]), Object(None, [])])]),
-    "a line of symbols without a name": ("line 2 of the symbols isn't one of /proc/kallsyms: wanted is ADDRESS LETTER NAME [MODULE]",
-                                         "ffffffff81000100 T ftrace_caller\nffffffff81000200 t\n", [Livepatch(b"a", [])]),
-    "a module without brackets": ("line 1 of the symbols isn't one of /proc/kallsyms: wanted is ADDRESS LETTER NAME [MODULE]",
-                                  "ffffffff81000100 T f m\n", [Livepatch(b"a", [])]),
-    "addresses of 0": ("all addresses of the symbols are 0: only root reads them in /proc/kallsyms",
+    "a name with a point": (of_patch("a.b", 0, no_name("", NAME)), "", [Livepatch(b"a.b", [Object(None, [Function(b"g", b"g")])])]),
+    "a name of 56 letters, behind another patch": (of_patch("a" * 56, 1, no_name("", NAME)), "", [Livepatch(b"b", []), Livepatch(b"a" * 56, [])]),
+    "an object with a slash": (of_patch("a", 0, no_name("object m/n: ", NAME)), "", [Livepatch(b"a", [Object(None, []), Object(b"m/n", [])])]),
+    "a function with an at": (of_patch("a", 0, no_name("function f@1 of m: ", SYMBOL)), "", [Livepatch(b"a", [Object(b"m", [Function(b"f@1", b"g")])])]),
+    "a function without a name": (of_patch("a", 0, no_name("function  of m: ", SYMBOL)), "", [Livepatch(b"a", [Object(b"m", [Function(b"", b"g")])])]),
+    "a function of 128 letters": (of_patch("a", 0, no_name(f"function {'f' * 128} of m: ", SYMBOL)), "", [
+        Livepatch(b"a", [Object(b"m", [Function(b"f" * 128, b"g")])])]),
+    "two tables for an object": (of_patch("a", 0, "object vmlinux: it has two tables, and a catalog has room for one"), "", [
+        Livepatch(b"a", [Object(None, [Function(b"g", b"g")]), Object(b"m", []), Object(None, [])])]),
+    "a state twice": (of_patch("a", 0, "state 7: it is there twice, and a catalog has room for one"), "", [Livepatch(b"a", [], states=[(7, 1), (8, 1), (7, 2)])]),
+    "a line of symbols without a name": (f"{{s}}: line 2: {NO_ROW}", "ffffffff81000100 T ftrace_caller\nffffffff81000200 t\n", [Livepatch(b"a", [])]),
+    "a faulty line behind an empty one": (f"{{s}}: line 3: {NO_ROW}", "ffffffff81000200 t f\n\nx t f\n", [Livepatch(b"a", [])]),
+    "a module without brackets": (f"{{s}}: line 1: {NO_ROW}", "ffffffff81000100 T f m\n", [Livepatch(b"a", [])]),
+    "an address of 17 digits": (f"{{s}}: line 1: {NO_ROW}", "0ffffffff81000100 T f\n", [Livepatch(b"a", [])]),
+    "addresses of 0": ("{s}: all addresses are 0: only root reads them in /proc/kallsyms",
                        "0000000000000000 T f\n0000000000000000 t g\n", [Livepatch(b"a", [Object(None, [Function(b"g", b"g")])])]),
 }
 

@@ -17,7 +17,8 @@ use Rattle.klp_tables.specs.declared.patch.Object.{Object}
 use Rattle.klp_tables.specs.declared.patch.State.{State}
 use Rattle.klp_tables.specs.declared.patch.Replaces.{Replaces}
 use Rattle.klp_tables.specs.declared.patch.Replaces.TheVariants.{No, Yes, Unknown}
-use Rattle.klp_module_catalog.specs.declared.NamedPatch.{NamedPatch}
+use Rattle.klp_module_matrix.specs.Names.{name_of_row}
+use Rattle.klp_module_fit.specs.declared.NamedPatch.{NamedPatch}
 
 -- a function that a patch changes: the symbol, its position, and the name of the new function as a catalog has it
 pub record SaidFunction : Type 0 where
@@ -50,11 +51,6 @@ abbrev pub spelled_name : List ℕ → List ℕ
 spelled_name [] = 45 ∷ []
 spelled_name (b ∷ bytes) = map spelled_byte (take MAX_NAME (b ∷ bytes))
 
--- the name of the kernel's image stands in for none
-abbrev pub object_name : Option (List ℕ) → List ℕ
-object_name None = codes "vmlinux"
-object_name (Some name) = name
-
 abbrev pub said_function : PlanFunction → SaidFunction
 said_function f = record { symbol = f.symbol; position = f.sympos; new_name = f.new_name }
 
@@ -80,7 +76,7 @@ row_function f = record { symbol = f.old_name.now; position = f.position; new_na
 
 abbrev pub row_target : Object → SaidTarget
 row_target o = record {
-  object = Some (object_name (option_map (λ n. n.now) o.row.name));
+  object = Some (name_of_row o.row);
   functions = map row_function o.functions.items;
   pre = o.row.callbacks.pre_patch;
   post = o.row.callbacks.post_patch;

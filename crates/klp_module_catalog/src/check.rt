@@ -3,9 +3,10 @@ ghost use Rattle.std.specs.Prelude.{◌≡◌, Some, map, option_map, slice_get,
 ghost use Rattle.klp_module_catalog.specs.Said.{has_kind, is_cumulative, row_function, row_patch, row_state, row_target};
 ghost use Rattle.klp_module_catalog.specs.Said.{said_function, said_patch, said_target};
 
-use crate::NamedPatch;
-use crate::names::{ObjectName, is_new_name};
+use crate::names::is_new_name;
 use klp_catalog_text::{PlanCallback, PlanFunction, PlanPatch, PlanTarget, SystemState};
+use klp_module_fit::NamedPatch;
+use klp_module_matrix::name_of_row;
 use klp_tables::{Function, Object, Replaces, State};
 use klp_types::{ObjId, ObjectText, Which};
 
@@ -59,7 +60,7 @@ fn is_target(objects: &[ObjectText], target: &PlanTarget, object: &Object<'_>) -
     ensures { Decides result (said_target objects.now target.now ≡ row_target object.now) }
 {
     let callbacks = object.row.callbacks;
-    is_named(objects, target.object, ObjectName(object.row.name).bytes())
+    is_named(objects, target.object, name_of_row(&object.row))
         && has_callback(&target.callbacks, Which::Pre) == callbacks.pre_patch
         && has_callback(&target.callbacks, Which::Post) == callbacks.post_patch
         && has_callback(&target.callbacks, Which::PreUn) == callbacks.pre_unpatch

@@ -1,54 +1,60 @@
-//! Why no catalog is made.
-use crate::limits::Limit;
-use klp_catalog_text::TextFault;
+//! Why no catalog is made, and what that is about.
+use klp_module_fit::FitFault;
 use std::alloc::AllocError;
-use std::fmt;
 
 /// Why no catalog is made of some patches.
 #[derive(Clone, Copy)]
 pub enum CatalogFault {
-    /// This line of the kernel's symbols isn't one of `/proc/kallsyms`.
+    /// A catalog can't have the patches.
+    Unfit(FitFault),
+    /// It can, but none is written.
+    Unwritten(WritingFault),
+}
+
+/// Why no catalog is written of patches that it can have.
+#[derive(Clone, Copy)]
+pub enum WritingFault {
+    /// This line of the kernel's symbols, from 1, isn't one of `/proc/kallsyms`.
     BadLine(u64),
     /// All symbols that are wanted have the address 0.
     NoAddresses,
-    /// A catalog has no room for all of the patches, or of one of them.
-    TooMany(Limit),
-    /// The text can't be read back: a name has bytes that a catalog can't have, or one patch has two tables for an
-    /// object.
-    NotRead(TextFault),
-    /// The text was read back, and says something else.
+    /// The patches change more than `klp_types::MAX_OBJECTS` objects, with the kernel's image.
+    TooManyObjects,
+    /// There are more than `klp_types::MAX_SITES` symbols of the names that the patches name.
+    TooManySymbols,
+    /// The text was read back, and is faulty or says something else.
     ReadsOtherwise,
     NoMemory,
 }
 
-impl From<AllocError> for CatalogFault {
-    fn from(_: AllocError) -> CatalogFault {
-        CatalogFault::NoMemory
+/// What is at fault.
+#[derive(Clone, Copy)]
+pub enum About {
+    /// The patches together.
+    All,
+    /// The patch of this number, from 0.
+    Patch(usize),
+    /// The kernel's symbols.
+    Symbols,
+}
+
+impl CatalogFault {
+    /// Returns what is at fault.
+    pub fn about(self) -> About {
+        match self {
+            CatalogFault::Unfit(FitFault::Patch { number, .. } | FitFault::PatchTwice(number)) => {
+                About::Patch(number)
+            }
+            CatalogFault::Unwritten(WritingFault::BadLine(_) | WritingFault::NoAddresses) => {
+                About::Symbols
+            }
+            _ => About::All,
+        }
     }
 }
 
-impl fmt::Display for CatalogFault {
-    fn fmt<W: fmt::Write>(&self, f: &mut fmt::Formatter<W>) -> fmt::Result {
-        match self {
-            CatalogFault::BadLine(line) => write!(
-                f,
-                "line {line} of the symbols isn't one of /proc/kallsyms: wanted is ADDRESS LETTER NAME [MODULE]"
-            ),
-            CatalogFault::NoAddresses => f.write_str(
-                "all addresses of the symbols are 0: only root reads them in /proc/kallsyms",
-            ),
-            CatalogFault::TooMany(limit) => write!(f, "{limit}"),
-            CatalogFault::NotRead(fault) => {
-                let (line, kind) = (fault.line, fault.kind);
-                write!(
-                    f,
-                    "a catalog can't spell it: its line {line} would be faulty, {kind}"
-                )
-            }
-            CatalogFault::ReadsOtherwise => {
-                f.write_str("the catalog that was written says something else than the tables")
-            }
-            CatalogFault::NoMemory => f.write_str("memory ran out"),
-        }
+impl From<AllocError> for WritingFault {
+    fn from(_: AllocError) -> WritingFault {
+        WritingFault::NoMemory
     }
 }

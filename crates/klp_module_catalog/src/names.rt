@@ -1,37 +1,11 @@
 //! How a catalog spells the names of a module.
-ghost use Rattle.std.specs.Prelude.{◌≡◌, take, option_map, Decides};
+ghost use Rattle.std.specs.Prelude.{◌≡◌, take, Decides};
 ghost use Rattle.klp_types.specs.declared.limits.TheConstants.{MAX_NAME};
-ghost use Rattle.klp_module_catalog.specs.Said.{object_name, spelled_byte, spelled_name};
+ghost use Rattle.klp_module_catalog.specs.Said.{spelled_byte, spelled_name};
 
-use klp_messages::Escaped;
 use klp_types::MAX_NAME;
 use klp_words::is_name;
 use std::alloc::{AllocError, Global};
-use std::fmt;
-
-/// The name of the kernel's image as an object.
-pub(crate) const IMAGE: &[u8] = b"vmlinux";
-
-/// An object by its name. The kernel's image has none in a table.
-#[derive(Clone, Copy)]
-pub(crate) struct ObjectName<'a>(pub(crate) Option<&'a [u8]>);
-
-impl<'a> ObjectName<'a> {
-    pub(crate) fn bytes(self) -> &'a [u8]
-        ensures { result.now ≡ object_name (option_map (λ n. n.now) self.entry.0) }
-    {
-        match self.0 {
-            Some(name) => name,
-            None => IMAGE,
-        }
-    }
-}
-
-impl fmt::Display for ObjectName<'_> {
-    fn fmt<W: fmt::Write>(&self, f: &mut fmt::Formatter<W>) -> fmt::Result {
-        write!(f, "{}", Escaped(self.bytes()))
-    }
-}
 
 /// Returns a byte of a new function's name as a catalog can have it.
 fn spelled_byte(byte: u8) -> u8

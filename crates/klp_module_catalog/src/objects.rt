@@ -1,10 +1,9 @@
 //! Writes the objects of a catalog with their symbols.
-use crate::fault::CatalogFault;
-use crate::limits::has_room;
-use crate::names::ObjectName;
+use crate::fault::WritingFault;
 use crate::symbols::KernelSymbols;
 use crate::wanted::{Wanted, WantedSymbol};
 use klp_messages::Escaped;
+use klp_types::{MAX_OBJECTS, MAX_SITES};
 use std::alloc::AllocError;
 
 /// The entry site of a function that can be patched, while none is: a NOP.
@@ -28,6 +27,17 @@ const APART: u64 = 64;
 pub(crate) struct Written {
     pub(crate) symbols: usize,
     pub(crate) assumed: usize,
+}
+
+/// Checks that a catalog has room for so many objects and symbols.
+fn has_room(objects: usize, symbols: usize) -> Result<(), WritingFault> {
+    if MAX_OBJECTS < objects {
+        return Err(WritingFault::TooManyObjects);
+    }
+    if MAX_SITES < symbols {
+        return Err(WritingFault::TooManySymbols);
+    }
+    Ok(())
 }
 
 /// Returns where the made-up symbols of an object begin.
@@ -65,7 +75,7 @@ fn write_assumed(
     text: &mut String,
     next: &mut u64,
     wanted: &WantedSymbol<'_>,
-) -> Result<usize, CatalogFault> {
+) -> Result<usize, WritingFault> {
     let name = Escaped(wanted.name);
     let count = usize::try_from(wanted.highest).unwrap_or(usize::MAX);
     has_room(1, count)?;
@@ -99,7 +109,7 @@ pub(crate) fn write_objects(
     text: &mut String,
     wanted: &Wanted<'_>,
     kernel: Option<&KernelSymbols<'_>>,
-) -> Result<Written, CatalogFault> {
+) -> Result<Written, WritingFault> {
     let handler = match kernel {
         Some(kernel) => kernel.handler.unwrap_or(HANDLER),
         None => HANDLER,
@@ -110,7 +120,7 @@ pub(crate) fn write_objects(
         assumed: 0,
     };
     for (number, object) in wanted.objects.iter().enumerate() {
-        writeln!(text, "object {}", ObjectName(Some(object)))?;
+        writeln!(text, "object {}", Escaped(object))?;
         let is_known = is_known(kernel, number);
         let mut next = base_of(number);
         let mut is_named = false;

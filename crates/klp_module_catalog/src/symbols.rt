@@ -1,7 +1,7 @@
 //! The symbols of a kernel, as `/proc/kallsyms` lists them.
-use crate::fault::CatalogFault;
-use crate::names::IMAGE;
+use crate::fault::WritingFault;
 use crate::wanted::Wanted;
+use klp_module_matrix::IMAGE;
 use klp_words::hexadecimal;
 use std::alloc::{AllocError, Global};
 
@@ -87,7 +87,7 @@ pub(crate) fn symbols_in<'s>(
     alloc: Global,
     text: &'s [u8],
     wanted: &Wanted<'_>,
-) -> Result<KernelSymbols<'s>, CatalogFault> {
+) -> Result<KernelSymbols<'s>, WritingFault> {
     let mut found = KernelSymbols {
         symbols: Vec::new(alloc),
         handler: None,
@@ -101,12 +101,12 @@ pub(crate) fn symbols_in<'s>(
             continue;
         }
         let Some(symbol) = symbol_in(line) else {
-            return Err(CatalogFault::BadLine(number));
+            return Err(WritingFault::BadLine(number));
         };
         found.note(symbol, wanted)?;
     }
     if !found.symbols.is_empty() && found.symbols.iter().all(|symbol| symbol.address == 0) {
-        return Err(CatalogFault::NoAddresses);
+        return Err(WritingFault::NoAddresses);
     }
     Ok(found)
 }

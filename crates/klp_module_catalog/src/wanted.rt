@@ -1,6 +1,6 @@
 //! The symbols that patches name.
-use crate::NamedPatch;
-use crate::names::{IMAGE, ObjectName};
+use klp_module_fit::NamedPatch;
+use klp_module_matrix::{IMAGE, name_of_row};
 use klp_tables::Function;
 use std::alloc::{AllocError, Global};
 
@@ -68,7 +68,7 @@ pub(crate) fn wanted_by<'a>(
     wanted.objects.push(IMAGE)?;
     for patch in patches {
         for object in &patch.patch.objects {
-            let number = wanted.object(ObjectName(object.row.name).bytes())?;
+            let number = wanted.object(name_of_row(&object.row))?;
             for function in &object.functions {
                 wanted.add(number, function)?;
             }

@@ -1,16 +1,19 @@
 //! Writes a catalog of livepatches.
-ghost use Rattle.std.specs.Prelude.{string_bytes, IfOk};
+ghost use Rattle.std.specs.Prelude.{◌≡◌, None, string_bytes, IfOk, MatchResult};
+ghost use Rattle.klp_module_fit.specs.Fit.{fit_fault};
+ghost use Rattle.klp_module_catalog.specs.Refusals.{IsRefusal};
 ghost use Rattle.klp_module_catalog.specs.Said.{IsCatalogOf};
 
-use crate::NamedPatch;
 use crate::check::are_patches;
-use crate::fault::CatalogFault;
-use crate::limits::have_room;
-use crate::names::{ObjectName, new_name_of};
+use crate::fault::{CatalogFault, WritingFault};
+use crate::names::new_name_of;
 use crate::objects::write_objects;
 use crate::symbols::symbols_in;
 use crate::wanted::wanted_by;
+use klp_catalog_text::TextFaultKind;
 use klp_messages::Escaped;
+use klp_module_fit::{NamedPatch, fit_fault};
+use klp_module_matrix::name_of_row;
 use klp_tables::{Callbacks, Object, Patch, Replaces};
 use std::alloc::{AllocError, Global};
 
@@ -55,7 +58,7 @@ fn write_target(
     object: &Object<'_>,
     next: &mut u64,
 ) -> Result<usize, AllocError> {
-    let name = ObjectName(object.row.name);
+    let name = Escaped(name_of_row(&object.row));
     writeln!(text, "target {name}")?;
     for function in &object.functions {
         let (old, position) = (Escaped(function.old_name), function.position);
@@ -128,7 +131,7 @@ fn text_of(
     alloc: Global,
     patches: &[NamedPatch<'_, '_>],
     symbols: Option<&[u8]>,
-) -> Result<ModuleCatalog, CatalogFault> {
+) -> Result<ModuleCatalog, WritingFault> {
     let wanted = wanted_by(alloc, patches)?;
     let kernel = match symbols {
         Some(text) => Some(symbols_in(alloc, text, &wanted)?),
@@ -145,27 +148,48 @@ fn text_of(
     Ok(ModuleCatalog { text, marked })
 }
 
+/// Reads a catalog back. Returns `Err` if it isn't one that says of these patches what their tables say.
+fn read_back(alloc: Global, text: &[u8], patches: &[NamedPatch<'_, '_>]) -> Result<(), WritingFault>
+    ensures { IfOk result (λ _. IsCatalogOf text.now patches.now) }
+{
+    let mut plan = match klp_catalog_text::read(alloc, text) {
+        Ok(plan) => plan,
+        Err(fault) => {
+            return Err(match fault.kind {
+                TextFaultKind::NoMemory => WritingFault::NoMemory,
+                _ => WritingFault::ReadsOtherwise,
+            });
+        }
+    };
+    let objects = plan.take_objects();
+    if !are_patches(&objects, &plan.into_patches(), patches) {
+        return Err(WritingFault::ReadsOtherwise);
+    }
+    Ok(())
+}
+
 /// Returns a catalog of some patches, in their order. `symbols` is what `/proc/kallsyms` of a kernel lists. Without it,
 /// the patches' symbols are made up, and marked so.
 ///
-/// Returns `Err` if the symbols are faulty, if a catalog has no room for the patches, or if it can't say what the tables
-/// say.
+/// Returns `Err` with the first reason why a catalog can't have the patches, if it has no room for the symbols of all, if
+/// the kernel's symbols are faulty, or if memory runs out.
 pub fn catalog_of(
     alloc: Global,
     patches: &[NamedPatch<'_, '_>],
     symbols: Option<&[u8]>,
 ) -> Result<ModuleCatalog, CatalogFault>
-    ensures { IfOk result (λ catalog. IsCatalogOf (string_bytes catalog.text) patches.now) }
+    ensures { MatchResult result (λ catalog. IsCatalogOf (string_bytes catalog.text) patches.now × (fit_fault patches.now ≡ None))
+        (λ fault. IsRefusal patches.now fault) }
 {
-    have_room(patches)?;
-    let catalog = text_of(alloc, patches, symbols)?;
-    let mut plan = match klp_catalog_text::read(alloc, catalog.text.as_bytes()) {
-        Ok(plan) => plan,
-        Err(fault) => return Err(CatalogFault::NotRead(fault)),
-    };
-    let objects = plan.take_objects();
-    if !are_patches(&objects, &plan.into_patches(), patches) {
-        return Err(CatalogFault::ReadsOtherwise);
+    if let Some(fault) = fit_fault(patches) {
+        return Err(CatalogFault::Unfit(fault));
     }
-    Ok(catalog)
+    let catalog = match text_of(alloc, patches, symbols) {
+        Ok(catalog) => catalog,
+        Err(fault) => return Err(CatalogFault::Unwritten(fault)),
+    };
+    match read_back(alloc, catalog.text.as_bytes(), patches) {
+        Ok(()) => Ok(catalog),
+        Err(fault) => Err(CatalogFault::Unwritten(fault)),
+    }
 }

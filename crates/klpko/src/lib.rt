@@ -7,7 +7,9 @@ use klp_arguments::{ModuleQuestion, ModuleWords, Program, given_words, module_wo
 use klp_diagnostics::{STANDARD_INPUT, file_in, only_one_input};
 use klp_messages::Escaped;
 use klp_module_answer::{Form, Livepatch, compare, list, read_livepatch};
-use klp_module_catalog::{CatalogFault, Marked, NamedPatch, catalog_of};
+use klp_module_catalog::{
+    About, CatalogFault, FaultWords, Marked, NamedPatch, WritingFault, catalog_of,
+};
 use klp_tables::MAX_PATCHES;
 use std::alloc::{AllocError, Global};
 use std::io;
@@ -57,18 +59,19 @@ fn files_in<'w, E: Write>(
 }
 
 /// Reads the kernel's symbols, if they are given. Returns the exit status as `Err` if they can't be read.
-fn symbols_in<E: Write>(
+fn symbols_in<'w, E: Write>(
     rt: &HostRuntime,
-    words: &ModuleWords<'_>,
+    words: &ModuleWords<'w>,
     err: &mut E,
-) -> Result<Option<Vec<u8>>, u8> {
+) -> Result<Option<File<'w>>, u8> {
     let Some(path) = words.symbols else {
         return Ok(None);
     };
     if words.modules.contains(&STANDARD_INPUT) {
         only_one_input(NAME, path, STANDARD_INPUT, err)?;
     }
-    Ok(Some(file_in(rt, NAME, path, err)?))
+    let bytes = file_in(rt, NAME, path, err)?;
+    Ok(Some(File { path, bytes }))
 }
 
 /// Writes that memory ran out, and returns the exit status.
@@ -136,11 +139,32 @@ fn tell_marks<E: Write>(marked: Marked, err: &mut E) -> bool {
     is_all_known
 }
 
+/// Writes why no catalog is made, with the file that is at fault if it is one. Returns the exit status.
+fn tell_refusal<E: Write>(
+    fault: CatalogFault,
+    patches: &[NamedPatch<'_, '_>],
+    livepatches: &[Livepatch<'_>],
+    symbols: Option<&File<'_>>,
+    err: &mut E,
+) -> u8 {
+    let words = FaultWords { fault, patches };
+    let path = match fault.about() {
+        About::All => None,
+        About::Patch(number) => livepatches.get(number).map(|livepatch| livepatch.file),
+        About::Symbols => symbols.map(|file| file.path),
+    };
+    let _ = match path {
+        Some(path) => writeln!(err, "{NAME}: {}: {words}", Escaped(path.as_bytes())),
+        None => writeln!(err, "{NAME}: {words}"),
+    };
+    FAULT
+}
+
 /// Writes a catalog of the livepatches. Returns whether all of it is known, or the exit status as `Err`.
 fn write_catalog<W: Write, E: Write>(
     alloc: Global,
     livepatches: &[Livepatch<'_>],
-    symbols: Option<&[u8]>,
+    symbols: Option<&File<'_>>,
     out: &mut W,
     err: &mut E,
 ) -> io::Result<Result<bool, u8>> {
@@ -154,17 +178,18 @@ fn write_catalog<W: Write, E: Write>(
             return Ok(Err(out_of_memory(err)));
         }
     }
-    match catalog_of(alloc, &patches, symbols) {
+    let text = match symbols {
+        Some(file) => Some(file.bytes.as_slice()),
+        None => None,
+    };
+    match catalog_of(alloc, &patches, text) {
         Ok(catalog) => {
             out.write_all(catalog.text.as_bytes())?;
             out.flush()?;
             Ok(Ok(tell_marks(catalog.marked, err)))
         }
-        Err(CatalogFault::NoMemory) => Ok(Err(out_of_memory(err))),
-        Err(fault) => {
-            let _ = writeln!(err, "{NAME}: {fault}");
-            Ok(Err(FAULT))
-        }
+        Err(CatalogFault::Unwritten(WritingFault::NoMemory)) => Ok(Err(out_of_memory(err))),
+        Err(fault) => Ok(Err(tell_refusal(fault, &patches, livepatches, symbols, err))),
     }
 }
 
@@ -173,7 +198,7 @@ fn answer<W: Write, E: Write>(
     alloc: Global,
     words: &ModuleWords<'_>,
     read: &Livepatches<'_>,
-    symbols: Option<&[u8]>,
+    symbols: Option<&File<'_>>,
     out: &mut W,
     err: &mut E,
 ) -> u8 {
@@ -211,7 +236,7 @@ fn status_in(rt: &HostRuntime) -> Result<u8, u8> {
     let symbols = symbols_in(rt, &words, &mut err)?;
     match livepatches_in(rt.alloc(), &files, &mut err) {
         Ok(read) => {
-            let symbols = symbols.as_deref();
+            let symbols = symbols.as_ref();
             Ok(answer(rt.alloc(), &words, &read, symbols, &mut out, &mut err))
         }
         Err(_) => Err(out_of_memory(&mut err)),
