@@ -1,18 +1,15 @@
 -- Lists of findings.
-use Rattle.std.proofs.Common.{◌≡◌, ℕ, zero, suc, Bool, true, false, not, ◌&&◌, ◌||◌, List, [], ◌∷◌, get_or, refl, ◌∙◌, ap, subst, inl, inr}
+use Rattle.std.proofs.Common.{◌≡◌, ℕ, zero, suc, Bool, true, false, not, ◌&&◌, ◌||◌, List, [], ◌∷◌, get_or, refl, ◌∙◌, ap, subst}
 use Rattle.std.proofs.Math.ListN.{set}
 use Rattle.std.specs.List.{list_any}
 use Rattle.klp_types.specs.Setting.{Setting}
 use Rattle.klp_model.specs.State.{State}
 use Rattle.klp_lint.specs.Premises.{ArePatchesOf}
-use Rattle.klp_lint_findings.specs.declared.finding.TraceFinding.{TraceFinding}
-use Rattle.klp_lint_findings.specs.declared.finding.TraceFinding.TheVariants.{Clean, Guessed, Installed, Moving, NotLoaded, NotUnderstood, MaybeCumulative, NotUndone, NotApart}
 use Rattle.klp_lint_findings.specs.declared.findings.Findings.{Findings}
 use Rattle.klp_lint_findings.specs.declared.findings.Said.{Said}
 use Rattle.klp_lint_findings.specs.declared.marks.Mark.{Mark}
-use Rattle.klp_lint_findings.specs.Deciding.{trace_decides, is_unknown, is_clean}
-use Rattle.klp_lint_findings.specs.Traces.{Claims}
-use Rattle.klp_lint_findings.specs.Sound.{one_decides, Grows, IsRight, Vouches}
+use Rattle.klp_lint_findings.specs.Deciding.{is_unknown, is_clean}
+use Rattle.klp_lint_findings.specs.Sound.{one_decides, Grows, Vouches}
 
 -- an element is replaced by one that the test can't tell from it
 pub list_any-set : {X : Type 0} (p : X → Bool) (xs : List X) (i : ℕ) (y d : X)
@@ -28,12 +25,6 @@ grows_on first second = record {
   kept = λ h. second.kept (first.kept h);
 }
 
--- neither of two tests passes
-none_passes : (a b : Bool) → (not a && not b) ≡ true → (a ≡ false) × (b ≡ false)
-none_passes true b h = absurd (cc)
-none_passes false true h = absurd (cc)
-none_passes false false h = (refl, refl)
-
 -- if the first test of a pair that neither passes is stronger than another, neither of the pair with the other passes
 none_passes-before : (a b m : Bool) → (a ≡ true → b ≡ true) → (not b && not m) ≡ true → (not a && not m) ≡ true
 none_passes-before true true m kept h = h
@@ -41,30 +32,11 @@ none_passes-before true false m kept h = let two = kept refl in absurd (cc)
 none_passes-before false true m kept h = absurd (cc)
 none_passes-before false false m kept h = h
 
-pub clean-decides : (said : List Said) (marks : List Mark) → is_clean said marks ≡ true → one_decides said ≡ true → ⊥
-clean-decides said marks h one = let two = (none_passes (one_decides said) (list_any is_unknown marks) h).0 in cc
-
-pub clean-unknown : (said : List Said) (marks : List Mark) → is_clean said marks ≡ true → list_any is_unknown marks ≡ true → ⊥
-clean-unknown said marks h one = let two = (none_passes (one_decides said) (list_any is_unknown marks) h).1 in cc
-
 -- what makes a longer list clean makes a shorter one clean
 pub clean-before : (one two : List Said) (marks : List Mark) → (one_decides one ≡ true → one_decides two ≡ true)
     → is_clean two marks ≡ true → is_clean one marks ≡ true
 clean-before one two marks kept h =
     none_passes-before (one_decides one) (one_decides two) (list_any is_unknown marks) kept h
-
--- a claim that doesn't make the status 3 says that the patch is right
-pub claims-right : (setting : Setting) (patch : ℕ) (state : State) (finding : TraceFinding)
-    → Claims setting patch state finding → (trace_decides finding ≡ true → ⊥) → IsRight setting state patch
-claims-right setting patch state (Clean is_everywhere is_partial) claims calm = inl claims.0
-claims-right setting patch state (Guessed place which mark) claims calm = inl claims
-claims-right setting patch state Installed claims calm = inr claims
-claims-right setting patch state Moving claims calm = absurd (calm refl)
-claims-right setting patch state (NotLoaded place) claims calm = absurd (calm refl)
-claims-right setting patch state (NotUnderstood place which mark) claims calm = absurd (calm refl)
-claims-right setting patch state (MaybeCumulative mark) claims calm = absurd (calm refl)
-claims-right setting patch state (NotUndone place pair key found left) claims calm = absurd (calm refl)
-claims-right setting patch state (NotApart first second key) claims calm = absurd (calm refl)
 
 -- a later list vouches for what an earlier one vouches for
 pub vouches_later : {setting : Setting} {state : State} {patch : ℕ} {one two : Findings} → two.linted ≡ one.linted

@@ -1,4 +1,4 @@
 pub mod Deciding
-pub mod Traces
 pub mod Sound
 pub mod Marking
+pub mod Targets

@@ -1,26 +1,22 @@
-//! What can be said about the patches of a catalog, as values, and what is found about each patch alone.
+//! What can be said about the patches of a catalog, as values.
 //!
 //! A [`Finding`] (`src/finding.rt`) has numbers and places, and no words. `findings.rt` has the list of findings,
 //! `about.rt` says which line and which patches a finding is about, and `deciding.rt` which findings make the status 3.
 //!
-//! `tracing.rt` asks `klp_lint` whether a patch leaves a trace. `idle.rt` finds parts that do nothing, and `limits.rt`
-//! parts near a limit. `marks.rt` reads the marks by which a catalog says how well it is known, and `known.rt` what they
-//! mean for a patch's callbacks. `laws.rt` has a law about lists of findings.
+//! `marks.rt` reads the marks by which a catalog says how well it is known, and `known.rt` what they mean for a patch's
+//! callbacks. `laws.rt` has a law about lists of findings.
 #![tactic(auto)]
 
 mod about;
 mod deciding;
 mod finding;
 mod findings;
-mod idle;
 mod known;
 pub mod laws;
-mod limits;
 mod linted;
 mod lists;
 mod marks;
 mod scripts;
-mod tracing;
 
 pub use about::{About, callbacks_of};
 pub use finding::{
@@ -29,11 +25,11 @@ pub use finding::{
     WhyNotLoaded, WhyStays,
 };
 pub use findings::{Findings, PARTS, Part, Said, World};
-pub use known::{callback_mark, is_understood};
+pub use known::{KINDS, MarkedCallback, callback_mark, first_marked, is_understood};
 pub use linted::{LintInput, Linted, NamedText, names_state, patch_id};
 pub use lists::{FunctionSet, PatchList};
 pub use marks::{
-    MARK_PREFIX, Mark, MarkFault, MarkFaultKind, MarkWord, NoMarks, left_out_by, read_marks,
+    MARK_PREFIX, Mark, MarkFault, MarkFaultKind, MarkWord, NoMarks, is_assumed, left_out_by,
+    mark_at, read_marks,
 };
-pub use scripts::edits_for;
-pub use tracing::judge_alone;
+pub use scripts::{count_added, count_all_added, edits_for};

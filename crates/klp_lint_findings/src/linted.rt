@@ -1,5 +1,6 @@
 //! The catalog that is judged, with the names and the lines of its parts.
-ghost use Rattle.std.specs.Prelude.{◌≡◌, ◌<◌};
+ghost use Rattle.std.specs.Prelude.{◌≡◌, ◌<◌, option_map, slice_get};
+ghost use Rattle.klp_lint_findings.specs.Targets.{target_at};
 
 use crate::marks::Mark;
 use klp_catalog_text::{PlanCallback, PlanPatch, PlanTarget};
@@ -42,12 +43,16 @@ pub fn names_state(patch: &PlanPatch, id: u64) -> bool {
 
 impl<'a> Linted<'a> {
     /// The patch with this number. `None` if there is no such patch.
-    pub fn patch(&self, patch: PatchId) -> Option<&'a PlanPatch> {
+    pub fn patch(&self, patch: PatchId) -> Option<&'a PlanPatch>
+        ensures { option_map (λ own. own.now) result ≡ slice_get self.now.patches.now patch }
+    {
         self.patches.get(usize::from(patch.0))
     }
 
     /// A target of a patch. `None` if there is no such target.
-    pub fn target(&self, patch: PatchId, place: usize) -> Option<&'a PlanTarget> {
+    pub fn target(&self, patch: PatchId, place: usize) -> Option<&'a PlanTarget>
+        ensures { option_map (λ target. target.now) result ≡ target_at self.now.patches.now patch place }
+    {
         let patch = self.patch(patch)?;
         patch.targets.get(place)
     }

@@ -13,9 +13,9 @@ use crate::lint_plan::LintPlan;
 use crate::script::do_lines;
 use klp_boot::{Fault, ManagerUse, over_text};
 use klp_core::Manager;
+use klp_lint_alone::judge_alone;
 use klp_lint_findings::{
-    CountFinding, Finding, Findings, Judged, JudgedWorlds, LintInput, World, judge_alone,
-    left_out_by,
+    CountFinding, Finding, Findings, Judged, JudgedWorlds, LintInput, World, left_out_by,
 };
 use klp_lint_together::{judge_together, not_installed};
 use klp_model::Event;

@@ -2,11 +2,10 @@
 ghost use Rattle.std.specs.Prelude.{IfOk};
 ghost use Rattle.klp_lint_findings.specs.Sound.{Grows};
 
-use crate::finding::{Finding, IdleReason, PartFinding};
-use crate::findings::Findings;
-use crate::linted::{Linted, names_state};
-use crate::marks::is_assumed;
 use klp_catalog_text::{PlanCallback, PlanPatch, PlanTarget};
+use klp_lint_findings::{
+    Finding, Findings, IdleReason, Linted, PartFinding, is_assumed, names_state,
+};
 use klp_modules::place_in;
 use klp_types::{Edit, PatchId};
 use std::alloc::AllocError;

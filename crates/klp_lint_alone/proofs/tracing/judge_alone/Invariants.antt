@@ -2,7 +2,7 @@
 use Rattle.std.proofs.Common.{◌≤◌, length}
 use Rattle.klp_manager_state.specs.Managed.{setting_of}
 use Rattle.klp_lint_findings.specs.Sound.{Grows, VouchesBelow}
-use Rattle.klp_lint_findings.proofs.tracing.judge_alone.Given as goal
+use Rattle.klp_lint_alone.proofs.tracing.judge_alone.Given as goal
 
 abbrev pub invariant-loop-number : goal.invariant-loop-number
 invariant-loop-number g l = record {

@@ -2,12 +2,10 @@
 ghost use Rattle.std.specs.Prelude.{IfOk};
 ghost use Rattle.klp_lint_findings.specs.Sound.{Grows};
 
-use crate::finding::{Finding, PartFinding};
-use crate::findings::Findings;
-use crate::linted::{Linted, patch_id};
-use crate::marks::is_assumed;
-use crate::scripts::{count_added, count_all_added};
 use klp_catalog_text::{PlanCallback, PlanFunction, PlanPatch, PlanTarget};
+use klp_lint_findings::{
+    Finding, Findings, Linted, PartFinding, count_added, count_all_added, is_assumed, patch_id,
+};
 use klp_modules::place_in;
 use klp_text::{displacement, entry_offset};
 use klp_types::{MAX_VARIABLES, ObjectText, PatchId, SymbolText, Which};

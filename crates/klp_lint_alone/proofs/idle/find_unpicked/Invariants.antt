@@ -1,6 +1,6 @@
 -- What was found so far is kept.
 use Rattle.klp_lint_findings.specs.Sound.{Grows}
-use Rattle.klp_lint_findings.proofs.limits.find_near.Given as goal
+use Rattle.klp_lint_alone.proofs.idle.find_unpicked.Given as goal
 
 abbrev pub invariant-loop-function : goal.invariant-loop-function
 invariant-loop-function l = Grows l.fn.found l.found

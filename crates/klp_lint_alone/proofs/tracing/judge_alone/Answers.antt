@@ -3,7 +3,7 @@ use Rattle.std.proofs.Common.{◌<◌, arith, subst, below_more}
 use Rattle.klp_manager_state.specs.Managed.{setting_of}
 use Rattle.klp_lint_findings.specs.Sound.{Grows, Vouches}
 use Rattle.klp_lint_findings.proofs.SaidLemmas.{grows_on, vouches_on}
-use Rattle.klp_lint_findings.proofs.tracing.judge_alone.Goals as goal
+use Rattle.klp_lint_alone.proofs.tracing.judge_alone.Goals as goal
 
 pub loop-number-preserved : goal.loop-number-preserved
 loop-number-preserved g c =

@@ -6,24 +6,26 @@ ghost use Rattle.klp_model.specs.Company.{IsFairStart};
 ghost use Rattle.klp_lint.specs.Premises.{ArePatchesOf, Fails, HoldEverywhere};
 ghost use Rattle.klp_lint.specs.declared.premise.Premise.TheVariants.{NotUndone};
 ghost use Rattle.klp_lint_findings.specs.Deciding.{is_unknown};
-ghost use Rattle.klp_lint_findings.specs.Traces.{Claims};
+ghost use Rattle.klp_lint_alone.specs.Traces.{Claims};
 ghost use Rattle.klp_lint_findings.specs.Sound.{Grows, Vouches, VouchesBelow};
+ghost use Rattle.klp_lint_findings.specs.Targets.{target_at, callbacks_for};
 
-use crate::finding::{Finding, TraceFinding};
-use crate::findings::{Findings, World};
 use crate::idle::{find_idle, find_unpicked};
-use crate::known::{KINDS, MarkedCallback, callback_mark, first_marked, is_understood};
 use crate::limits::{find_alike, find_near, find_room};
-use crate::linted::{Linted, patch_id};
-use crate::marks::{MarkWord, mark_at};
 use klp_catalog_text::{PlanCallback, PlanTarget};
 use klp_core::Manager;
 use klp_lint::{Pair, Premise, found_by, holds_everywhere, leaves_no_trace, left_behind};
+use klp_lint_findings::{
+    Finding, Findings, KINDS, Linted, MarkWord, MarkedCallback, TraceFinding, World, callback_mark,
+    first_marked, is_understood, mark_at, patch_id,
+};
 use klp_types::{PatchId, ShadowKey};
 use std::alloc::AllocError;
 
 /// The callbacks of a patch for a target. There are none if there is no such target.
-fn callbacks_at<'a>(linted: &Linted<'a>, patch: PatchId, place: usize) -> &'a [PlanCallback] {
+fn callbacks_at<'a>(linted: &Linted<'a>, patch: PatchId, place: usize) -> &'a [PlanCallback]
+    ensures { result.now ≡ callbacks_for (target_at linted.now.patches.now patch place) }
+{
     match linted.target(patch, place) {
         Some(target) => &target.callbacks,
         None => &[],
@@ -40,7 +42,7 @@ fn not_undone(
     key: ShadowKey,
 ) -> TraceFinding
     ensures { Fails (setting_of manager.now.managed) patch manager.now.managed.state (NotUndone place pair key)
-        → Claims (setting_of manager.now.managed) patch manager.now.managed.state result }
+        → Claims linted.now.patches.now (setting_of manager.now.managed) patch manager.now.managed.state result }
 {
     let callbacks = callbacks_at(linted, patch, place);
     let found = found_by(callbacks, pair, key, manager.shadow_get(key));
@@ -57,7 +59,7 @@ fn not_undone(
 /// The finding about a premise that fails.
 fn failing(linted: &Linted<'_>, manager: &Manager, patch: PatchId, premise: Premise) -> TraceFinding
     ensures { Fails (setting_of manager.now.managed) patch manager.now.managed.state premise
-        → Claims (setting_of manager.now.managed) patch manager.now.managed.state result }
+        → Claims linted.now.patches.now (setting_of manager.now.managed) patch manager.now.managed.state result }
 {
     match premise {
         Premise::Moving => TraceFinding::Moving,
@@ -103,7 +105,7 @@ fn trace_without_fault(
 ) -> Option<TraceFinding>
     ensures claims { ArePatchesOf (setting_of manager.now.managed) linted.now.patches.now
         → IsFairStart (setting_of manager.now.managed) patch manager.now.managed.state
-        → IfSome result (Claims (setting_of manager.now.managed) patch manager.now.managed.state) }
+        → IfSome result (Claims linted.now.patches.now (setting_of manager.now.managed) patch manager.now.managed.state) }
     ensures unknown { IfNone result (list_any is_unknown linted.now.marks.now ≡ true) }
 {
     if !is_understood(linted, manager, patch) {
@@ -127,7 +129,7 @@ fn trace_of(
     is_scripted: bool,
 ) -> Option<TraceFinding>
     ensures claims { ArePatchesOf (setting_of manager.now.managed) linted.now.patches.now
-        → IfSome result (Claims (setting_of manager.now.managed) patch manager.now.managed.state) }
+        → IfSome result (Claims linted.now.patches.now (setting_of manager.now.managed) patch manager.now.managed.state) }
     ensures unknown { IfNone result (list_any is_unknown linted.now.marks.now ≡ true) }
 {
     match leaves_no_trace(manager, linted.patches, patch) {
