@@ -1,4 +1,5 @@
 //! Gathers a report from a log and the run that shows it.
+use crate::elsewhere::slept_elsewhere;
 use crate::groups::{groups_of, process_name};
 use crate::inside::inside_of;
 use crate::lagging::{is_calm, lagging_of};
@@ -147,6 +148,7 @@ fn unplaced_of(
 fn kernel_holders_of(
     alloc: Global,
     capture: &Capture<'_>,
+    run: &Run<'_>,
     transitions: &[TransitionReport],
 ) -> Result<Vec<KernelHolderReport>, AllocError> {
     let mut holders = Vec::new(alloc);
@@ -164,6 +166,7 @@ fn kernel_holders_of(
                 function: text_of(alloc, holder.function)?,
                 from_us: holder.from.0,
                 to_us: holder.to.0,
+                slept_elsewhere: slept_elsewhere(capture, run, holder.thread),
             })?;
         }
     }
@@ -400,7 +403,7 @@ pub fn report_of(
         kernel_log_differs,
         is_preflight: !capture.asked.is_empty(),
         inside: inside_of(alloc, capture)?,
-        kernel_holders: kernel_holders_of(alloc, capture, &transitions)?,
+        kernel_holders: kernel_holders_of(alloc, capture, run, &transitions)?,
         transitions,
         nobody_lags,
         left_by_force: left_of(alloc, capture, run, &holding)?,

@@ -3,6 +3,7 @@
 //! ([`klp_capture_report::Report`]).
 #![tactic(auto)]
 
+mod elsewhere;
 mod gather;
 mod groups;
 mod inside;

@@ -41,13 +41,14 @@ fn milestone_of(text: &[u8], patch: &[u8]) -> Option<Milestone> {
     }
 }
 
-/// By how many microseconds the clock of the kernel's log and that of the samples may differ.
-const CLOCKS_APART: u64 = 200_000;
+/// How far apart the clock of the kernel's log and that of the samples usually are at most, in microseconds. This is
+/// enough to find the start of a transition. To contradict the kernel's log takes a safe bound, [`most_apart_at`].
+const USUALLY_APART: u64 = 200_000;
 
-/// Whether a time of the kernel's log may be after the beginning of a sample. The two clocks differ by at most
-/// `CLOCKS_APART`.
+/// Whether a time of the kernel's log may be after the beginning of a sample, if the two clocks are at most
+/// [`USUALLY_APART`] from each other.
 fn is_behind(at: BootTime, sample: BootTime) -> bool {
-    at.0.saturating_add(CLOCKS_APART) >= sample.0
+    at.0.saturating_add(USUALLY_APART) >= sample.0
 }
 
 /// Returns when a transition started. `sample` is the first sample that shows the transition, and `before` is the last
@@ -78,16 +79,17 @@ pub fn since_when(
     }
 }
 
-/// How long after a line of the kernel's log a sample must have begun so that it can contradict the line, in microseconds.
-/// The kernel's log has a clock of its own, which isn't set right while the machine runs. So the two clocks also part by
-/// up to a microsecond for each `PARTING` ones since boot, as much as a clock may be set right by.
-const SURELY_AFTER: u64 = 2_000_000;
+/// The part of the safe bound that doesn't grow with time, in microseconds.
+const MOST_APART_AT_BOOT: u64 = 2_000_000;
 
-const PARTING: u64 = 2_000;
+/// The number of microseconds since boot in which the two clocks may part by one microsecond more. While the machine runs,
+/// the clock of the samples is set right, by at most this rate, and the clock of the kernel's log isn't.
+const TIME_TO_PART: u64 = 2_000;
 
-/// Returns how far the clock of the kernel's log may be from that of a sample, in microseconds.
-fn clocks_apart_at(sample: &Sample) -> u64 {
-    SURELY_AFTER.saturating_add(sample.line.to.0 / PARTING)
+/// Returns how far apart the two clocks can be at the end of a sample, in microseconds: a safe bound. If a line of the
+/// kernel's log and the sample are at least so far apart, it is sure which came first.
+pub fn most_apart_at(sample: &Sample) -> u64 {
+    MOST_APART_AT_BOOT.saturating_add(sample.line.to.0 / TIME_TO_PART)
 }
 
 /// A line of the kernel's log that a later sample contradicts.
@@ -111,7 +113,7 @@ fn last_before(
     sample: &Sample,
 ) -> Option<(BootTime, Milestone)> {
     let mut last = None;
-    let apart = clocks_apart_at(sample);
+    let apart = most_apart_at(sample);
     for line in lines {
         let Some(milestone) = milestone_of(line.text, patch) else {
             continue;

@@ -20,7 +20,8 @@ mod transition;
 
 pub use kernel_holders::{KernelHolder, first_named, kernel_holders_in};
 pub use kernel_log::{
-    KernelLogDiffers, TransitionStart, first_forced_in, forced_in, kernel_log_differs, since_when,
+    KernelLogDiffers, TransitionStart, first_forced_in, forced_in, kernel_log_differs,
+    most_apart_at, since_when,
 };
 pub use named::{Files, Functions, SeenFunction, SeenPatch, SeenVersion, files_in, moving_in};
 pub use transition::{SeenTransition, TransitionEnd, TransitionEnding};

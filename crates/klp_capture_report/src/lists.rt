@@ -65,17 +65,52 @@ fn sleep_together(one: &KernelHolderReport, other: &KernelHolderReport) -> bool 
     one.function == other.function
 }
 
-/// Returns how many tasks slept in the function in which this one did, by the kernel's log, and when the kernel last found
-/// one of them there.
-fn count_together(holders: &[KernelHolderReport], one: &KernelHolderReport) -> (usize, u64) {
-    let (mut tasks, mut to_us): (usize, u64) = (0, one.to_us);
+/// The tasks that slept in one function, by the kernel's log.
+#[derive(Clone, Copy)]
+struct Together {
+    tasks: usize,
+    /// How many of them slept elsewhere, by the samples.
+    elsewhere: usize,
+    /// When the kernel last found one of them there.
+    to_us: u64,
+}
+
+/// Counts the tasks that slept in the function in which this one did, by the kernel's log.
+fn count_together(holders: &[KernelHolderReport], one: &KernelHolderReport) -> Together {
+    let mut together = Together {
+        tasks: 0,
+        elsewhere: 0,
+        to_us: one.to_us,
+    };
     for other in holders {
         if sleep_together(other, one) {
-            tasks = tasks.saturating_add(1);
-            to_us = to_us.max(other.to_us);
+            together.tasks = together.tasks.saturating_add(1);
+            together.elsewhere = together
+                .elsewhere
+                .saturating_add(usize::from(other.slept_elsewhere));
+            together.to_us = together.to_us.max(other.to_us);
         }
     }
-    (tasks, to_us)
+    together
+}
+
+/// Writes that samples contradict the kernel's log, which has these tasks asleep in a function. Writes nothing if they
+/// don't.
+fn print_elsewhere<W: Write>(together: Together, out: &mut W) -> io::Result<()> {
+    let elsewhere = together.elsewhere;
+    if elsewhere == 0 {
+        return Ok(());
+    }
+    if together.tasks == 1 {
+        return writeln!(
+            out,
+            "    the samples have it asleep in no function of a patch then: one of the two is wrong"
+        );
+    }
+    writeln!(
+        out,
+        "    the samples have {elsewhere} of them asleep in no function of a patch then: one of the two is wrong"
+    )
 }
 
 /// Writes which tasks the kernel couldn't switch by its own log, though no sample shows that. The kernel's log has no
@@ -93,9 +128,10 @@ pub(crate) fn print_kernel_holders<W: Write>(
         {
             continue;
         }
-        let (tasks, to_us) = count_together(holders, one);
+        let together = count_together(holders, one);
+        let tasks = together.tasks;
         let (name, thread, function) = (shown(&one.name), one.thread, shown(&one.function));
-        let (from, to) = (times.at(one.from_us), times.at(to_us));
+        let (from, to) = (times.at(one.from_us), times.at(together.to_us));
         if tasks > 1 {
             writeln!(
                 out,
@@ -108,6 +144,7 @@ pub(crate) fn print_kernel_holders<W: Write>(
                 "  the kernel's log names {name}[{thread}] as a holder, asleep in {function}, from {from} to {to}"
             )?;
         }
+        print_elsewhere(together, out)?;
     }
     Ok(())
 }

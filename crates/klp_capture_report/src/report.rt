@@ -40,6 +40,8 @@ pub struct KernelHolderReport {
     /// When the kernel first wrote so. `to_us` is when it last did.
     pub from_us: u64,
     pub to_us: u64,
+    /// Whether samples show that the task slept in no function of a patch at a time at which the kernel wrote so.
+    pub slept_elsewhere: bool,
 }
 
 /// Threads of one process that hold, or held, a transition up in one function.

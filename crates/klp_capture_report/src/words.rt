@@ -76,19 +76,20 @@ impl Report {
         Ok(())
     }
 
-    /// Writes what was left out because a catalog has no room for it.
+    /// Writes how many functions were left out because a catalog has no room for them, and how many names of functions
+    /// were shortened because a catalog has no room for names so long.
     fn print_limits<W: Write>(&self, out: &mut W) -> io::Result<()> {
-        let (left_out, cut) = (self.others.functions_left_out, self.others.names_cut);
+        let (left_out, shortened) = (self.others.functions_left_out, self.others.names_cut);
         if left_out > 0 {
             writeln!(
                 out,
                 "{left_out} functions of the patches were left out: a catalog has no room for them"
             )?;
         }
-        if cut > 0 {
+        if shortened > 0 {
             writeln!(
                 out,
-                "{cut} names of functions were cut off: a catalog's are shorter"
+                "{shortened} names of functions were shortened: a catalog has no room for names so long"
             )?;
         }
         Ok(())

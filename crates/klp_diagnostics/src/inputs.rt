@@ -101,10 +101,10 @@ impl<'a> Inputs<'a> {
         }
     }
 
-    /// Writes a hint to `err` about the first line of the script that may be misspelled. The line may be meant to be
-    /// refused by the console, so the message is only a hint. Writes nothing if the script is a catalog or UTF-16,
-    /// since another message says so, or if the catalog can't be read.
-    pub fn hint_line<E: Write>(&self, alloc: Global, err: &mut E) {
+    /// Writes a hint to `err` about the first line of the script that seems misspelled. This is no fault, since a script
+    /// may have a line that the console refuses on purpose. Writes nothing if the script's file is a catalog or UTF-16,
+    /// since another message says so. Also writes nothing if the first file can't be read as a catalog.
+    pub fn hint_misspelled<E: Write>(&self, alloc: Global, err: &mut E) {
         let text = self.second.bytes;
         if begins_as_catalog(text) || begins_as_utf16(text) {
             return;
@@ -125,8 +125,9 @@ impl<'a> Inputs<'a> {
         };
     }
 
-    /// Writes to `err` in which file and line a fault is, and what is wanted there. Returns the exit status of a fault,
-    /// 1.
+    /// Writes a message about a fault to `err`: the file and the line of the fault, and what is wanted there. If the
+    /// fault has no place, the message has the program and the fault's name instead. Returns 1, the exit status of a
+    /// fault, even if the message can't be written.
     pub fn print_fault<E: Write>(&self, alloc: Global, fault: Fault, err: &mut E) -> u8
         ensures { result ≡ 1 }
     {

@@ -149,8 +149,8 @@ fn judge(
     }
 }
 
-/// Adds how many patches were judged, in which worlds, and what was left out.
-fn find_judged(
+/// Adds one finding: how many patches were judged, in which worlds, and what was left out.
+fn find_judged_count(
     found: &mut Findings<'_>,
     manager: &Manager,
     worlds: JudgedWorlds,
@@ -170,7 +170,8 @@ fn find_judged(
     found.add(Finding::Count(CountFinding::Judged(judged)))
 }
 
-/// What a manager is booted for: its findings are added to the list. `modules` is how many modules the catalog has.
+/// Judges the patches of a catalog with a manager that was just booted over it. `found` is the list to which the findings
+/// are added. `modules` is how many modules the catalog has.
 #[derive(Drop)]
 struct Linting<'a> {
     found: Findings<'a>,
@@ -186,9 +187,10 @@ impl ManagerUse for Linting<'_> {
         → AssuresAll booted before.found.linted.input.script before.modules
         (length before.found.linted.patches.now) after.found)) };
 
+    /// Judges the patches, and then adds how many were judged.
     fn run(&mut self, alloc: Global, manager: &mut Manager) -> Result<(), Fault> {
         let worlds = judge(alloc, &mut self.found, manager, self.modules)?;
-        find_judged(&mut self.found, manager, worlds)?;
+        find_judged_count(&mut self.found, manager, worlds)?;
         Ok(())
     }
 }

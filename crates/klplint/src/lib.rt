@@ -79,7 +79,7 @@ fn lint<W: Write, E: Write>(
     ensures { result ≡ 0 → IsCleanText input.entry.catalog.bytes.now input.entry.script }
 {
     if input.script.is_some() {
-        inputs.hint_line(alloc, err);
+        inputs.hint_misspelled(alloc, err);
     }
     match lint_over_text(alloc, input, form, out) {
         Ok(true) => CLEAN,

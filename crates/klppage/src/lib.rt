@@ -74,7 +74,7 @@ fn show<W: Write, E: Write>(
 ) -> u8 {
     inputs.hint(err);
     if matches!(inputs.kind, FileKind::Script) {
-        inputs.hint_line(alloc, err);
+        inputs.hint_misspelled(alloc, err);
     }
     match write(alloc, inputs, names, out) {
         Ok(()) => 0,
