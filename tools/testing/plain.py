@@ -273,7 +273,7 @@ class Machine:
         if target == 0:
             state.pinned.add(name)
         elif self.catalog.patches[name]["replace"]:
-            state.pinned.update(state.installed[:state.installed.index(name)])
+            state.pinned.update(it for it in state.installed if it != name)
         return "ok"
 
     def poll(self):
