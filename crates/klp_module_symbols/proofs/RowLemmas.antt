@@ -1,0 +1,65 @@
+-- The rows of a kernel's symbols, line by line.
+use Rattle.std.proofs.Common.{◌≡◌, ℕ, suc, Bool, true, false, ◌||◌, ◌&&◌, map, if◌then◌else◌, List, [], ◌∷◌, ◌++◌, Option, Some, None, ◌⊎◌, inl, inr, refl, sym, ap, ◌∙◌, append_assoc}
+use Rattle.std.specs.List.{filter_map, list_all, list_any}
+use Rattle.std.proofs.lemmas.List.Elements.{filter_map-append}
+use Rattle.klp_module_symbols.specs.Kernel.{RowFacts, are_unknown, first_bad, is_bad, row_of_line, unless_bad}
+use Rattle.klp_module_symbols.specs.declared.rows.RowsFault.{RowsFault}
+use Rattle.klp_module_symbols.specs.declared.rows.RowsFault.TheVariants.{BadLine, NoMemory, NoAddresses}
+
+-- a line was read, and its row added
+pub rows_done : (before after : List RowFacts) (line : List ℕ) (lines more : List (List ℕ)) (whole : List RowFacts)
+    → after ≡ before ++ filter_map row_of_line (line ∷ []) → lines ≡ line ∷ more → before ++ filter_map row_of_line lines ≡ whole
+    → after ++ filter_map row_of_line more ≡ whole
+rows_done before after line lines more whole added cut so_far =
+    ap (λ (all : List RowFacts). all ++ filter_map row_of_line more) added
+    ∙ append_assoc before (filter_map row_of_line (line ∷ [])) (filter_map row_of_line more)
+    ∙ ap (λ (all : List RowFacts). before ++ all) (sym (filter_map-append row_of_line (line ∷ []) more))
+    ∙ ap (λ (ls : List (List ℕ)). before ++ filter_map row_of_line ls) (sym cut)
+    ∙ so_far
+
+-- a line was read that isn't bad
+pub good_done : (number next : ℕ) (line : List ℕ) (lines more : List (List ℕ)) (whole : Option RowsFault)
+    → next ≡ suc number → is_bad line ≡ false → lines ≡ line ∷ more → first_bad number lines ≡ whole → first_bad next more ≡ whole
+good_done number next line lines more whole is_next fine cut so_far =
+    ap (λ (n : ℕ). first_bad n more) is_next
+    ∙ sym (ap (λ (b : Bool). if b then Some (BadLine number) else first_bad (suc number) more) fine)
+    ∙ ap (λ (ls : List (List ℕ)). first_bad number ls) (sym cut)
+    ∙ so_far
+
+bad_here : (number : ℕ) (line : List ℕ) (lines more : List (List ℕ)) (whole : Option RowsFault)
+    → is_bad line ≡ true → lines ≡ line ∷ more → first_bad number lines ≡ whole → whole ≡ Some (BadLine number)
+bad_here number line lines more whole bad cut so_far =
+    sym so_far
+    ∙ ap (λ (ls : List (List ℕ)). first_bad number ls) cut
+    ∙ ap (λ (b : Bool). if b then Some (BadLine number) else first_bad (suc number) more) bad
+
+-- memory ran out at a line, or the line is the first bad one
+pub stopped : (number : ℕ) (line : List ℕ) (lines more : List (List ℕ)) (whole : Option RowsFault) (fault : RowsFault)
+    → (fault ≡ NoMemory) ⊎ ((fault ≡ BadLine number) × (is_bad line ≡ true)) → lines ≡ line ∷ more → first_bad number lines ≡ whole
+    → (fault ≡ NoMemory) ⊎ (whole ≡ Some fault)
+stopped number line lines more whole fault (inl memory) cut so_far = inl memory
+stopped number line lines more whole fault (inr bad) cut so_far =
+    inr (bad_here number line lines more whole bad.1 cut so_far ∙ ap (λ (f : RowsFault). Some f) (sym bad.0))
+
+-- a bad line is the fault of all
+pub faulty : (first : Option RowsFault) (rows : List RowFacts) (fault : RowsFault)
+    → (fault ≡ NoMemory) ⊎ (first ≡ Some fault) → (fault ≡ NoMemory) ⊎ (unless_bad first rows ≡ Some fault)
+faulty first rows fault (inl memory) = inl memory
+faulty first rows fault (inr bad) = inr (ap (λ (f : Option RowsFault). unless_bad f rows) bad)
+
+-- without a bad line the addresses decide
+pub addressed : (first : Option RowsFault) (rows all : List RowFacts) (unknown : Bool)
+    → first ≡ None → rows ≡ all → unknown ≡ are_unknown rows → unless_bad first all ≡ (if unknown then Some NoAddresses else None)
+addressed first rows all unknown none same answer =
+    ap (λ (f : Option RowsFault). unless_bad f all) none
+    ∙ ap (λ (rs : List RowFacts). if are_unknown rs then Some NoAddresses else None) (sym same)
+    ∙ ap (λ (b : Bool). if b then Some NoAddresses else None) (sym answer)
+
+-- an element of a map passes a test exactly if what it is made of does
+pub any_map : {X Y : Type 0} (p : Y → Bool) (f : X → Y) (xs : List X) → list_any p (map f xs) ≡ list_any (λ x. p (f x)) xs
+any_map p f [] = refl
+any_map p f (x ∷ xs) = ap (λ (b : Bool). p (f x) || b) (any_map p f xs)
+
+pub all_map : {X Y : Type 0} (p : Y → Bool) (f : X → Y) (xs : List X) → list_all p (map f xs) ≡ list_all (λ x. p (f x)) xs
+all_map p f [] = refl
+all_map p f (x ∷ xs) = ap (λ (b : Bool). p (f x) && b) (all_map p f xs)
