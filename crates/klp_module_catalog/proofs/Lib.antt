@@ -1,1 +1,3 @@
 pub mod SameLemmas
+pub mod MarkLemmas
+pub mod EndLemmas

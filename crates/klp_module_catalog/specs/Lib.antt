@@ -1,2 +1,3 @@
 pub mod Refusals
+pub mod Marks
 pub mod Said

@@ -1,17 +1,16 @@
 -- What a catalog says of livepatches, and what the tables of their modules say.
-use Rattle.std.specs.Prelude.{ℕ, ◌≡◌, Bool, true, false, List, [], ◌∷◌, codes, map, take, Option, Some, None, option_map, slice_get, string_bytes, if◌then◌else◌, Ok}
+use Rattle.std.specs.Prelude.{ℕ, ◌≡◌, ◌==◌, ◌&&◌, bytes_eq, Bool, true, false, List, [], ◌∷◌, map, take, Option, Some, None, option_map, slice_get, if◌then◌else◌, Ok}
 use Rattle.std.specs.List.{list_any}
 use Rattle.klp_types.specs.declared.limits.TheConstants.{MAX_NAME}
 use Rattle.klp_types.specs.declared.callback.Which.{Which}
 use Rattle.klp_types.specs.declared.callback.Which.TheVariants.{Pre, Post, PreUn, PostUn}
 use Rattle.klp_types.specs.Callbacks.{is_kind}
 use Rattle.klp_types.specs.Compatible.{SystemState}
-use Rattle.klp_types.specs.Image.{Object as ImageObject}
+use Rattle.klp_types.specs.Image.{Object as ImageObject, Symbol}
 use Rattle.klp_types.specs.Setting.{Callback}
 use Rattle.klp_words.specs.Words.{is_name_byte}
 use Rattle.klp_catalog_text.specs.Plan.{Plan, PlanFunction, PlanPatch, PlanTarget}
 use Rattle.klp_catalog_text.specs.Text.{plan_of}
-use Rattle.klp_tables.specs.declared.patch.Callbacks.{Callbacks}
 use Rattle.klp_tables.specs.declared.patch.Function.{Function}
 use Rattle.klp_tables.specs.declared.patch.Object.{Object}
 use Rattle.klp_tables.specs.declared.patch.State.{State}
@@ -19,6 +18,9 @@ use Rattle.klp_tables.specs.declared.patch.Replaces.{Replaces}
 use Rattle.klp_tables.specs.declared.patch.Replaces.TheVariants.{No, Yes, Unknown}
 use Rattle.klp_module_matrix.specs.Names.{name_of_row}
 use Rattle.klp_module_fit.specs.declared.NamedPatch.{NamedPatch}
+use Rattle.klp_module_symbols.specs.Kernel.{RowFacts}
+use Rattle.klp_module_symbols.specs.Symbols.{ObjectFacts, SymbolFacts, objects_of}
+use Rattle.klp_module_catalog.specs.Marks.{AreMarked}
 
 -- a function that a patch changes: the symbol, its position, and the name of the new function as a catalog has it
 pub record SaidFunction : Type 0 where
@@ -102,8 +104,34 @@ row_patch p = record {
   targets = map row_target p.patch.now.objects.items;
 }
 
--- The text is a catalog that has exactly these patches, in this order, and says of each what its tables say.
-pub record IsCatalogOf (text : List ℕ) (patches : List NamedPatch) : Type 0 where
+-- a symbol has an address of the kernel, if one is known
+abbrev pub is_address : ℕ → Option ℕ → Bool
+is_address address None = true
+is_address address (Some known) = address == known
+
+abbrev pub is_symbol : Symbol → SymbolFacts → Bool
+is_symbol symbol wanted = bytes_eq symbol.name wanted.name && is_address symbol.address wanted.address
+
+-- the symbols are these, in order
+abbrev pub are_symbols : List Symbol → List SymbolFacts → Bool
+are_symbols [] [] = true
+are_symbols (symbol ∷ symbols) (one ∷ wanted) = is_symbol symbol one && are_symbols symbols wanted
+are_symbols symbols wanted = false
+
+abbrev pub is_object : ImageObject → ObjectFacts → Bool
+is_object object wanted = bytes_eq object.name wanted.name && are_symbols object.symbols wanted.symbols
+
+-- the objects are these, in order, each with its symbols
+abbrev pub are_objects : List ImageObject → List ObjectFacts → Bool
+are_objects [] [] = true
+are_objects (object ∷ objects) (one ∷ wanted) = is_object object one && are_objects objects wanted
+are_objects objects wanted = false
+
+-- The text is a catalog that has exactly these patches, in this order, and says of each what its tables say. Its objects
+-- have the symbols that it should have over a kernel with these rows, and it marks what isn't known.
+pub record IsCatalogOf (text : List ℕ) (rows : List RowFacts) (patches : List NamedPatch) : Type 0 where
   pub plan : Plan
   pub is_plan : plan_of text ≡ Ok plan
   pub says : map (said_patch plan.objects) plan.patches ≡ map row_patch patches
+  pub objects : are_objects plan.objects (objects_of rows patches) ≡ true
+  pub marks : AreMarked text (objects_of rows patches) patches

@@ -1,14 +1,22 @@
 //! Whether a catalog says of patches what their tables say.
-ghost use Rattle.std.specs.Prelude.{◌≡◌, Some, map, option_map, slice_get, Decides};
-ghost use Rattle.klp_module_catalog.specs.Said.{has_kind, is_cumulative, row_function, row_patch, row_state, row_target};
-ghost use Rattle.klp_module_catalog.specs.Said.{said_function, said_patch, said_target};
+ghost use Rattle.std.specs.Prelude.{◌≡◌, ◌&&◌, IfOk, Some, map, option_map, slice_get, Decides};
+ghost use Rattle.klp_catalog_text.specs.declared.fault.TextFaultKind.TheVariants.{NoMemory};
+ghost use Rattle.klp_module_symbols.specs.Kernel.{row_meaning};
+ghost use Rattle.klp_module_symbols.specs.Symbols.{object_meaning, symbol_meaning};
+ghost use Rattle.klp_module_catalog.specs.Said.{are_objects, are_symbols, has_kind, is_address, is_cumulative, is_object, is_symbol, row_function, row_patch, row_state, row_target};
+ghost use Rattle.klp_module_catalog.specs.Said.{said_function, said_patch, said_target, IsCatalogOf};
 
+use crate::marks::are_marked;
 use crate::names::is_new_name;
-use klp_catalog_text::{PlanCallback, PlanFunction, PlanPatch, PlanTarget, SystemState};
+use klp_catalog_text::{
+    PlanCallback, PlanFunction, PlanPatch, PlanTarget, SystemState, TextFault, TextFaultKind,
+};
 use klp_module_fit::NamedPatch;
 use klp_module_matrix::name_of_row;
+use klp_module_symbols::{CatalogSymbol, KernelRow, ObjectSymbols, objects_of};
 use klp_tables::{Function, Object, Replaces, State};
-use klp_types::{ObjId, ObjectText, Which};
+use klp_types::{ObjId, ObjectText, SymbolText, Which};
+use std::alloc::{AllocError, Global};
 
 /// Whether a function of a catalog is that of a row.
 fn is_function(plan: &PlanFunction, function: &Function<'_>) -> bool
@@ -118,11 +126,7 @@ fn is_patch(objects: &[ObjectText], plan: &PlanPatch, named: &NamedPatch<'_, '_>
 }
 
 /// Whether the patches of a plan are exactly these. `objects` are those of the plan.
-pub(crate) fn are_patches(
-    objects: &[ObjectText],
-    plan: &[PlanPatch],
-    patches: &[NamedPatch<'_, '_>],
-) -> bool
+fn are_patches(objects: &[ObjectText], plan: &[PlanPatch], patches: &[NamedPatch<'_, '_>]) -> bool
     ensures { Decides result (map (said_patch objects.now) plan.now ≡ map row_patch patches.now) }
 {
     plan.len() == patches.len()
@@ -130,4 +134,92 @@ pub(crate) fn are_patches(
             .iter()
             .zip(patches)
             .all(|(one, named)| is_patch(objects, one, named))
+}
+
+/// Whether a symbol has the address that the kernel's has, if that is known.
+fn is_address(address: u64, wanted: Option<u64>) -> bool
+    ensures { result ≡ is_address address wanted }
+{
+    match wanted {
+        Some(known) => address == known,
+        None => true,
+    }
+}
+
+fn is_symbol(symbol: &SymbolText, wanted: &CatalogSymbol<'_>) -> bool
+    ensures { result ≡ is_symbol symbol.now (symbol_meaning wanted.now) }
+{
+    symbol.name.as_bytes() == wanted.name && is_address(symbol.address, wanted.address)
+}
+
+/// Whether some symbols are these, in order.
+fn are_symbols(symbols: &[SymbolText], wanted: &[CatalogSymbol<'_>]) -> bool
+    ensures { result ≡ are_symbols symbols.now (map symbol_meaning wanted.now) }
+{
+    let (mut left, mut right) = (symbols, wanted);
+    while let ([symbol, behind @ ..], [one, rest @ ..]) = (left, right) {
+        if !is_symbol(symbol, one) {
+            return false;
+        }
+        left = behind;
+        right = rest;
+    }
+    left.is_empty() && right.is_empty()
+}
+
+fn is_object(object: &ObjectText, wanted: &ObjectSymbols<'_>) -> bool
+    ensures { result ≡ is_object object.now (object_meaning wanted.now) }
+{
+    object.name.as_bytes() == wanted.name && are_symbols(&object.symbols, &wanted.symbols)
+}
+
+/// Whether some objects are these, in order.
+fn are_objects(objects: &[ObjectText], wanted: &[ObjectSymbols<'_>]) -> bool
+    ensures { result ≡ are_objects objects.now (map object_meaning wanted.now) }
+{
+    let (mut left, mut right) = (objects, wanted);
+    while let ([object, behind @ ..], [one, rest @ ..]) = (left, right) {
+        if !is_object(object, one) {
+            return false;
+        }
+        left = behind;
+        right = rest;
+    }
+    left.is_empty() && right.is_empty()
+}
+
+/// Whether memory ran out, and the text isn't faulty.
+fn is_no_memory(fault: TextFault) -> bool
+    ensures { Decides result (fault.kind ≡ NoMemory) }
+{
+    matches!(fault.kind, TextFaultKind::NoMemory)
+}
+
+fn are_all(one: bool, other: bool, last: bool) -> bool
+    ensures { result ≡ (one && other && last) }
+{
+    one && other && last
+}
+
+/// Decides whether a text is a catalog of these patches over a kernel with these symbols: whether it says of each patch
+/// what its tables say, has the symbols that it should have, and marks what isn't known. `Err` if memory runs out.
+pub fn is_catalog_of(
+    alloc: Global,
+    text: &[u8],
+    rows: &[KernelRow<'_>],
+    patches: &[NamedPatch<'_, '_>],
+) -> Result<bool, AllocError>
+    ensures { IfOk result (λ r. Decides r (IsCatalogOf text.now (map row_meaning rows.now) patches.now)) }
+{
+    let mut plan = match klp_catalog_text::read(alloc, text) {
+        Ok(plan) => plan,
+        Err(fault) if is_no_memory(fault) => return Err(AllocError),
+        Err(_) => return Ok(false),
+    };
+    let wanted = objects_of(alloc, rows, patches)?;
+    let is_marked = are_marked(alloc, text, &wanted, patches)?;
+    let objects = plan.take_objects();
+    let has_symbols = are_objects(&objects, &wanted);
+    let says_so = are_patches(&objects, &plan.into_patches(), patches);
+    Ok(are_all(is_marked, has_symbols, says_so))
 }

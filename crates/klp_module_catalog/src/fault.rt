@@ -1,60 +1,46 @@
-//! Why no catalog is made, and what that is about.
-use klp_module_fit::FitFault;
-use std::alloc::AllocError;
+//! Why no catalog is written.
+ghost use Rattle.std.specs.Prelude.{◌≡◌};
+ghost use Rattle.klp_module_catalog.specs.declared.fault.CatalogFault.TheVariants.{NoMemory};
 
-/// Why no catalog is made of some patches.
+use klp_module_fit::FitFault;
+use std::alloc::{AllocError, AllocFailed};
+
+/// Why no catalog is written of some patches.
 #[derive(Clone, Copy)]
 pub enum CatalogFault {
     /// A catalog can't have the patches.
     Unfit(FitFault),
-    /// It can, but none is written.
-    Unwritten(WritingFault),
-}
-
-/// Why no catalog is written of patches that it can have.
-#[derive(Clone, Copy)]
-pub enum WritingFault {
-    /// This line of the kernel's symbols, from 1, isn't one of `/proc/kallsyms`.
-    BadLine(u64),
-    /// All symbols that are wanted have the address 0.
-    NoAddresses,
     /// The patches change more than `klp_types::MAX_OBJECTS` objects, with the kernel's image.
     TooManyObjects,
     /// There are more than `klp_types::MAX_SITES` symbols of the names that the patches name.
     TooManySymbols,
-    /// The text was read back, and is faulty or says something else.
-    ReadsOtherwise,
     NoMemory,
 }
 
-/// What is at fault.
-#[derive(Clone, Copy)]
-pub enum About {
-    /// The patches together.
-    All,
-    /// The patch of this number, from 0.
-    Patch(usize),
-    /// The kernel's symbols.
-    Symbols,
-}
-
 impl CatalogFault {
-    /// Returns what is at fault.
-    pub fn about(self) -> About {
+    /// Returns the number of the patch that is at fault, from 0. `None` if it is all of them together.
+    pub fn patch(self) -> Option<usize> {
         match self {
             CatalogFault::Unfit(FitFault::Patch { number, .. } | FitFault::PatchTwice(number)) => {
-                About::Patch(number)
+                Some(number)
             }
-            CatalogFault::Unwritten(WritingFault::BadLine(_) | WritingFault::NoAddresses) => {
-                About::Symbols
-            }
-            _ => About::All,
+            _ => None,
         }
     }
 }
 
-impl From<AllocError> for WritingFault {
-    fn from(_: AllocError) -> WritingFault {
-        WritingFault::NoMemory
+impl From<AllocError> for CatalogFault {
+    ghost from_gives = { λ _ fault. fault ≡ NoMemory };
+
+    fn from(_: AllocError) -> CatalogFault {
+        CatalogFault::NoMemory
+    }
+}
+
+impl<T: Drop> From<AllocFailed<T>> for CatalogFault {
+    ghost from_gives = { λ _ fault. fault ≡ NoMemory };
+
+    fn from(_: AllocFailed<T>) -> CatalogFault {
+        CatalogFault::NoMemory
     }
 }

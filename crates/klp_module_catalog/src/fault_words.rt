@@ -1,5 +1,5 @@
 //! Why no catalog is written, in words.
-use crate::fault::{CatalogFault, WritingFault};
+use crate::fault::CatalogFault;
 use klp_messages::Escaped;
 use klp_module_fit::{FitFault, NamedPatch, PatchFault};
 use klp_module_matrix::name_of_row;
@@ -180,36 +180,19 @@ impl FaultWords<'_, '_, '_> {
     }
 }
 
-/// Writes why no catalog is written of patches that it can have.
-fn write_unwritten<W: fmt::Write>(f: &mut fmt::Formatter<W>, fault: WritingFault) -> fmt::Result {
-    match fault {
-        WritingFault::BadLine(line) => write!(
-            f,
-            "line {line}: it isn't one of /proc/kallsyms: wanted is ADDRESS LETTER NAME [MODULE]"
-        ),
-        WritingFault::NoAddresses => {
-            f.write_str("all addresses are 0: only root reads them in /proc/kallsyms")
-        }
-        WritingFault::TooManyObjects => write!(
-            f,
-            "the patches change more than {MAX_OBJECTS} objects with vmlinux, and a catalog has room for so many: {FEWER}"
-        ),
-        WritingFault::TooManySymbols => write!(
-            f,
-            "there are more than {MAX_SITES} symbols that the patches name, and a catalog has room for so many: {FEWER}"
-        ),
-        WritingFault::ReadsOtherwise => f.write_str(
-            "the catalog says something else than the tables, so none is written: it is a fault of klpko",
-        ),
-        WritingFault::NoMemory => f.write_str("memory ran out"),
-    }
-}
-
 impl fmt::Display for FaultWords<'_, '_, '_> {
     fn fmt<W: fmt::Write>(&self, f: &mut fmt::Formatter<W>) -> fmt::Result {
         match self.fault {
             CatalogFault::Unfit(fault) => self.write_unfit(f, fault),
-            CatalogFault::Unwritten(fault) => write_unwritten(f, fault),
+            CatalogFault::TooManyObjects => write!(
+                f,
+                "the patches change more than {MAX_OBJECTS} objects with vmlinux, and a catalog has room for so many: {FEWER}"
+            ),
+            CatalogFault::TooManySymbols => write!(
+                f,
+                "there are more than {MAX_SITES} symbols that the patches name, and a catalog has room for so many: {FEWER}"
+            ),
+            CatalogFault::NoMemory => f.write_str("memory ran out"),
         }
     }
 }

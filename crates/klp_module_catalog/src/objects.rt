@@ -1,13 +1,14 @@
 //! Writes the objects of a catalog with their symbols.
-use crate::fault::WritingFault;
-use crate::symbols::KernelSymbols;
-use crate::wanted::{Wanted, WantedSymbol};
 use klp_messages::Escaped;
-use klp_types::{MAX_OBJECTS, MAX_SITES};
+use klp_module_matrix::IMAGE;
+use klp_module_symbols::{KernelRow, ObjectSymbols};
 use std::alloc::AllocError;
 
 /// The entry site of a function that can be patched, while none is: a NOP.
 const NOP: &str = "0f1f440000";
+
+/// The function that a patched function calls first. The second one stands in where the kernel has no first.
+const HANDLERS: [&[u8]; 2] = [b"ftrace_caller", b"ftrace_regs_caller"];
 
 /// The address of the handler where the kernel's isn't known. Made-up symbols of the kernel's image begin a page behind
 /// it, those of modules where modules are, each module's so many bytes behind the one before.
@@ -22,24 +23,6 @@ const MODULE_ROOM: u64 = 0x10_0000;
 /// How far two made-up symbols are apart.
 const APART: u64 = 64;
 
-/// How many objects and symbols were written, and how many objects have made-up symbols.
-#[derive(Clone, Copy)]
-pub(crate) struct Written {
-    pub(crate) symbols: usize,
-    pub(crate) assumed: usize,
-}
-
-/// Checks that a catalog has room for so many objects and symbols.
-fn has_room(objects: usize, symbols: usize) -> Result<(), WritingFault> {
-    if MAX_OBJECTS < objects {
-        return Err(WritingFault::TooManyObjects);
-    }
-    if MAX_SITES < symbols {
-        return Err(WritingFault::TooManySymbols);
-    }
-    Ok(())
-}
-
 /// Returns where the made-up symbols of an object begin.
 fn base_of(object: usize) -> u64 {
     match object {
@@ -48,99 +31,57 @@ fn base_of(object: usize) -> u64 {
     }
 }
 
-/// Writes the symbols of a name that the kernel has. Returns how many there are.
-fn write_known(
+fn is_handler(row: &KernelRow<'_>) -> bool {
+    row.object == IMAGE && HANDLERS.contains(&row.name)
+}
+
+/// Returns the address of the handler.
+fn handler_of(rows: &[KernelRow<'_>]) -> u64 {
+    match rows.iter().find(|row| is_handler(row)) {
+        Some(row) => row.address,
+        None => HANDLER,
+    }
+}
+
+/// Writes the symbols of an object, which has this number.
+fn write_symbols(
     text: &mut String,
-    kernel: &KernelSymbols<'_>,
-    object: &[u8],
-    wanted: &WantedSymbol<'_>,
-) -> Result<usize, AllocError> {
-    let mut count: usize = 0;
-    for symbol in &kernel.symbols {
-        if symbol.object != object || symbol.name != wanted.name {
-            continue;
-        }
-        let (name, address) = (Escaped(symbol.name), symbol.address);
+    number: usize,
+    object: &ObjectSymbols<'_>,
+) -> Result<(), AllocError> {
+    let mut next = base_of(number);
+    for symbol in &object.symbols {
+        let (name, address) = (Escaped(symbol.name), symbol.address.unwrap_or(next));
         writeln!(text, "symbol {name} {address:x} {NOP}")?;
         if !symbol.is_function {
             writeln!(text, "#? data")?;
         }
-        count = count.saturating_add(1);
+        next = next.saturating_add(APART);
     }
-    Ok(count)
+    Ok(())
 }
 
-/// Writes made-up symbols of a name, as many as the highest position at which a patch names it. Returns how many.
-fn write_assumed(
-    text: &mut String,
-    next: &mut u64,
-    wanted: &WantedSymbol<'_>,
-) -> Result<usize, WritingFault> {
-    let name = Escaped(wanted.name);
-    let count = usize::try_from(wanted.highest).unwrap_or(usize::MAX);
-    has_room(1, count)?;
-    for _position in 0..count {
-        let address = *next;
-        writeln!(text, "symbol {name} {address:x} {NOP}")?;
-        *next = next.saturating_add(APART);
-    }
-    Ok(count)
-}
-
-/// Whether the kernel's symbols of an object are known.
-fn is_known(kernel: Option<&KernelSymbols<'_>>, object: usize) -> bool {
-    match kernel {
-        Some(kernel) => kernel.has.get(object) == Some(&true),
-        None => false,
-    }
-}
-
-/// Why the symbols of an object are made up, as its mark says.
-fn why_assumed(kernel: Option<&KernelSymbols<'_>>) -> &'static str {
-    match kernel {
-        Some(_) => "the kernel has no symbols of it: it isn't loaded",
-        None => "no symbols of a kernel were given",
-    }
-}
-
-/// Writes the handler, and the objects with the symbols that patches name. Symbols of an object of which the kernel has
-/// none are made up.
+/// Writes the handler, and the objects with their symbols. Returns how many objects have symbols that are made up.
 pub(crate) fn write_objects(
     text: &mut String,
-    wanted: &Wanted<'_>,
-    kernel: Option<&KernelSymbols<'_>>,
-) -> Result<Written, WritingFault> {
-    let handler = match kernel {
-        Some(kernel) => kernel.handler.unwrap_or(HANDLER),
-        None => HANDLER,
-    };
+    rows: &[KernelRow<'_>],
+    objects: &[ObjectSymbols<'_>],
+) -> Result<usize, AllocError> {
+    let handler = handler_of(rows);
     writeln!(text, "handler {handler:x}")?;
-    let mut written = Written {
-        symbols: 0,
-        assumed: 0,
+    let why = if rows.is_empty() {
+        "no symbols of a kernel were given"
+    } else {
+        "the kernel has no symbols of it: it isn't loaded"
     };
-    for (number, object) in wanted.objects.iter().enumerate() {
-        writeln!(text, "object {}", Escaped(object))?;
-        let is_known = is_known(kernel, number);
-        let mut next = base_of(number);
-        let mut is_named = false;
-        for symbol in wanted
-            .symbols
-            .iter()
-            .filter(|symbol| symbol.object == number)
-        {
-            if !is_known && !is_named {
-                is_named = true;
-                written.assumed = written.assumed.saturating_add(1);
-                writeln!(text, "#? assumed {}", why_assumed(kernel))?;
-            }
-            let count = match kernel {
-                Some(kernel) if is_known => write_known(text, kernel, object, symbol)?,
-                _ => write_assumed(text, &mut next, symbol)?,
-            };
-            written.symbols = written.symbols.saturating_add(count);
+    let mut count: usize = 0;
+    for (number, object) in objects.iter().enumerate() {
+        writeln!(text, "object {}", Escaped(object.name))?;
+        if object.is_made_up && !object.symbols.is_empty() {
+            writeln!(text, "#? assumed {why}")?;
+            count = count.saturating_add(1);
         }
+        write_symbols(text, number, object)?;
     }
-    has_room(wanted.objects.len(), written.symbols)?;
-    Ok(written)
+    Ok(count)
 }

@@ -8,8 +8,9 @@ use klp_diagnostics::{STANDARD_INPUT, file_in, only_one_input};
 use klp_messages::Escaped;
 use klp_module_answer::{Form, Livepatch, compare, list, read_livepatch};
 use klp_module_catalog::{
-    About, CatalogFault, FaultWords, Marked, NamedPatch, WritingFault, catalog_of,
+    CatalogFault, Draft, FaultWords, NamedPatch, Unknown, draft_of, is_catalog_of,
 };
+use klp_module_symbols::{KernelRow, RowsFault, read_rows};
 use klp_tables::MAX_PATCHES;
 use std::alloc::{AllocError, Global};
 use std::io;
@@ -58,7 +59,7 @@ fn files_in<'w, E: Write>(
     Ok(files)
 }
 
-/// Reads the kernel's symbols, if they are given. Returns the exit status as `Err` if they can't be read.
+/// Reads the file of the kernel's symbols, if it is given. Returns the exit status as `Err` if it can't be read.
 fn symbols_in<'w, E: Write>(
     rt: &HostRuntime,
     words: &ModuleWords<'w>,
@@ -72,6 +73,26 @@ fn symbols_in<'w, E: Write>(
     }
     let bytes = file_in(rt, NAME, path, err)?;
     Ok(Some(File { path, bytes }))
+}
+
+/// Returns the symbols of a kernel, none if none are given. Returns the exit status as `Err` if they are faulty.
+fn rows_in<'s, E: Write>(
+    alloc: Global,
+    symbols: Option<&'s File<'_>>,
+    err: &mut E,
+) -> Result<Vec<KernelRow<'s>>, u8> {
+    let Some(file) = symbols else {
+        return Ok(Vec::new(alloc));
+    };
+    match read_rows(alloc, &file.bytes) {
+        Ok(rows) => Ok(rows),
+        Err(RowsFault::NoMemory) => Err(out_of_memory(err)),
+        Err(fault) => {
+            let path = Escaped(file.path.as_bytes());
+            let _ = writeln!(err, "{NAME}: {path}: {fault}");
+            Err(FAULT)
+        }
+    }
 }
 
 /// Writes that memory ran out, and returns the exit status.
@@ -120,12 +141,12 @@ fn livepatches_in<'f, E: Write>(
 }
 
 /// Writes how much of a catalog isn't known, if anything isn't. Returns whether all is known.
-fn tell_marks<E: Write>(marked: Marked, err: &mut E) -> bool {
+fn tell_unknown<E: Write>(unknown: Unknown, err: &mut E) -> bool {
     let counted = [
-        (marked.callbacks, "callbacks whose code isn't read"),
-        (marked.objects, "objects with made-up symbols"),
+        (unknown.callbacks, "callbacks whose code isn't read"),
+        (unknown.objects, "objects with made-up symbols"),
         (
-            marked.replacing,
+            unknown.replacing,
             "patches whose code sets whether they replace others",
         ),
     ];
@@ -144,20 +165,53 @@ fn tell_refusal<E: Write>(
     fault: CatalogFault,
     patches: &[NamedPatch<'_, '_>],
     livepatches: &[Livepatch<'_>],
-    symbols: Option<&File<'_>>,
     err: &mut E,
 ) -> u8 {
     let words = FaultWords { fault, patches };
-    let path = match fault.about() {
-        About::All => None,
-        About::Patch(number) => livepatches.get(number).map(|livepatch| livepatch.file),
-        About::Symbols => symbols.map(|file| file.path),
+    let file = match fault.patch() {
+        Some(number) => livepatches.get(number).map(|livepatch| livepatch.file),
+        None => None,
     };
-    let _ = match path {
+    let _ = match file {
         Some(path) => writeln!(err, "{NAME}: {}: {words}", Escaped(path.as_bytes())),
         None => writeln!(err, "{NAME}: {words}"),
     };
     FAULT
+}
+
+/// Returns a catalog of the livepatches, once it was read back. Returns the exit status as `Err` if there is none.
+fn catalog_of<E: Write>(
+    alloc: Global,
+    livepatches: &[Livepatch<'_>],
+    rows: &[KernelRow<'_>],
+    err: &mut E,
+) -> Result<Draft, u8> {
+    let mut patches = Vec::new(alloc);
+    for livepatch in livepatches {
+        let named = NamedPatch {
+            name: livepatch.name,
+            patch: &livepatch.patch,
+        };
+        if patches.push(named).is_err() {
+            return Err(out_of_memory(err));
+        }
+    }
+    let draft = match draft_of(alloc, rows, &patches) {
+        Ok(draft) => draft,
+        Err(CatalogFault::NoMemory) => return Err(out_of_memory(err)),
+        Err(fault) => return Err(tell_refusal(fault, &patches, livepatches, err)),
+    };
+    match is_catalog_of(alloc, draft.text.as_bytes(), rows, &patches) {
+        Ok(true) => Ok(draft),
+        Ok(false) => {
+            let _ = writeln!(
+                err,
+                "{NAME}: the catalog says something else than the tables, so none is written: it is a fault of {NAME}"
+            );
+            Err(FAULT)
+        }
+        Err(_) => Err(out_of_memory(err)),
+    }
 }
 
 /// Writes a catalog of the livepatches. Returns whether all of it is known, or the exit status as `Err`.
@@ -168,28 +222,17 @@ fn write_catalog<W: Write, E: Write>(
     out: &mut W,
     err: &mut E,
 ) -> io::Result<Result<bool, u8>> {
-    let mut patches = Vec::new(alloc);
-    for livepatch in livepatches {
-        let named = NamedPatch {
-            name: livepatch.name,
-            patch: &livepatch.patch,
-        };
-        if patches.push(named).is_err() {
-            return Ok(Err(out_of_memory(err)));
-        }
-    }
-    let text = match symbols {
-        Some(file) => Some(file.bytes.as_slice()),
-        None => None,
+    let rows = match rows_in(alloc, symbols, err) {
+        Ok(rows) => rows,
+        Err(status) => return Ok(Err(status)),
     };
-    match catalog_of(alloc, &patches, text) {
-        Ok(catalog) => {
-            out.write_all(catalog.text.as_bytes())?;
+    match catalog_of(alloc, livepatches, &rows, err) {
+        Ok(draft) => {
+            out.write_all(draft.text.as_bytes())?;
             out.flush()?;
-            Ok(Ok(tell_marks(catalog.marked, err)))
+            Ok(Ok(tell_unknown(draft.unknown, err)))
         }
-        Err(CatalogFault::Unwritten(WritingFault::NoMemory)) => Ok(Err(out_of_memory(err))),
-        Err(fault) => Ok(Err(tell_refusal(fault, &patches, livepatches, symbols, err))),
+        Err(status) => Ok(Err(status)),
     }
 }
 

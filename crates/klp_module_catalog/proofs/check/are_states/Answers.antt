@@ -1,4 +1,4 @@
-use Rattle.std.proofs.Common.{◌≡◌, List, map, subst, arith, rules, tests, Decides}
+use Rattle.std.proofs.Common.{◌≡◌, List, map, subst, rules, tests, Decides}
 use Rattle.std.proofs.lemmas.List.{map-id}
 use Rattle.std.proofs.lemmas.Iterator.{YieldsList-from_slice, YieldsList-from_zip, cases_from_all}
 use Rattle.klp_types.specs.Compatible.{SystemState}

@@ -1,20 +1,20 @@
 //! Writes a catalog of livepatches.
-ghost use Rattle.std.specs.Prelude.{◌≡◌, None, string_bytes, IfOk, MatchResult};
-ghost use Rattle.klp_module_fit.specs.Fit.{fit_fault};
-ghost use Rattle.klp_module_catalog.specs.Refusals.{IsRefusal};
-ghost use Rattle.klp_module_catalog.specs.Said.{IsCatalogOf};
+ghost use Rattle.std.specs.Prelude.{◌≡◌, ◌⊎◌, map, nat_lt, MatchResult, None, Some};
+ghost use Rattle.klp_types.specs.declared.limits.TheConstants.{MAX_SITES};
+ghost use Rattle.klp_module_symbols.specs.Kernel.{row_meaning};
+ghost use Rattle.klp_module_symbols.specs.Symbols.{object_meaning};
+ghost use Rattle.klp_module_catalog.specs.Refusals.{refusal_of, room_fault, symbol_count};
+ghost use Rattle.klp_module_catalog.specs.declared.fault.CatalogFault.TheVariants.{NoMemory};
 
-use crate::check::are_patches;
-use crate::fault::{CatalogFault, WritingFault};
+use crate::fault::CatalogFault;
 use crate::names::new_name_of;
 use crate::objects::write_objects;
-use crate::symbols::symbols_in;
-use crate::wanted::wanted_by;
-use klp_catalog_text::TextFaultKind;
 use klp_messages::Escaped;
 use klp_module_fit::{NamedPatch, fit_fault};
 use klp_module_matrix::name_of_row;
+use klp_module_symbols::{KernelRow, ObjectSymbols, objects_of};
 use klp_tables::{Callbacks, Object, Patch, Replaces};
+use klp_types::{MAX_OBJECTS, MAX_SITES};
 use std::alloc::{AllocError, Global};
 
 /// Where new functions are said to be. Any address will do.
@@ -25,7 +25,7 @@ const APART: u64 = 64;
 
 /// How much of a catalog isn't known, and marked so.
 #[derive(Clone, Copy)]
-pub struct Marked {
+pub struct Unknown {
     /// How many callbacks there are. What they do isn't known.
     pub callbacks: usize,
     /// Of how many patches it isn't known whether they replace those before them.
@@ -34,15 +34,15 @@ pub struct Marked {
     pub objects: usize,
 }
 
-/// A catalog's text, and how much of it isn't known.
+/// A catalog's text before it is read back, and how much of it isn't known.
 #[derive(Drop)]
-pub struct ModuleCatalog {
+pub struct Draft {
     pub text: String,
-    pub marked: Marked,
+    pub unknown: Unknown,
 }
 
 /// Returns the words of a catalog for the callbacks, each with whether it is there, in the order in which they run.
-pub(crate) fn callback_words(callbacks: Callbacks) -> [(&'static str, bool); 4] {
+fn callback_words(callbacks: Callbacks) -> [(&'static str, bool); 4] {
     [
         ("pre", callbacks.pre_patch),
         ("post", callbacks.post_patch),
@@ -111,85 +111,91 @@ fn write_patches(
     alloc: Global,
     text: &mut String,
     patches: &[NamedPatch<'_, '_>],
-    marked: &mut Marked,
+    unknown: &mut Unknown,
 ) -> Result<(), AllocError> {
     let mut next = NEW_FUNCTIONS;
     for named in patches {
         if !write_head(text, named.name, named.patch)? {
-            marked.replacing = marked.replacing.saturating_add(1);
+            unknown.replacing = unknown.replacing.saturating_add(1);
         }
         for object in &named.patch.objects {
             let callbacks = write_target(alloc, text, object, &mut next)?;
-            marked.callbacks = marked.callbacks.saturating_add(callbacks);
+            unknown.callbacks = unknown.callbacks.saturating_add(callbacks);
         }
     }
     Ok(())
 }
 
-/// Returns the text of a catalog of some patches, before it is read back.
+/// Returns the text of a catalog.
 fn text_of(
     alloc: Global,
+    rows: &[KernelRow<'_>],
+    objects: &[ObjectSymbols<'_>],
     patches: &[NamedPatch<'_, '_>],
-    symbols: Option<&[u8]>,
-) -> Result<ModuleCatalog, WritingFault> {
-    let wanted = wanted_by(alloc, patches)?;
-    let kernel = match symbols {
-        Some(text) => Some(symbols_in(alloc, text, &wanted)?),
-        None => None,
-    };
+) -> Result<Draft, AllocError> {
     let mut text = String::new(alloc);
-    let written = write_objects(&mut text, &wanted, kernel.as_ref())?;
-    let mut marked = Marked {
+    let mut unknown = Unknown {
         callbacks: 0,
         replacing: 0,
-        objects: written.assumed,
+        objects: write_objects(&mut text, rows, objects)?,
     };
-    write_patches(alloc, &mut text, patches, &mut marked)?;
-    Ok(ModuleCatalog { text, marked })
+    write_patches(alloc, &mut text, patches, &mut unknown)?;
+    Ok(Draft { text, unknown })
 }
 
-/// Reads a catalog back. Returns `Err` if it isn't one that says of these patches what their tables say.
-fn read_back(alloc: Global, text: &[u8], patches: &[NamedPatch<'_, '_>]) -> Result<(), WritingFault>
-    ensures { IfOk result (λ _. IsCatalogOf text.now patches.now) }
+/// Whether some objects have more symbols together than a catalog.
+fn have_too_many(objects: &[ObjectSymbols<'_>]) -> bool
+    ensures { result ≡ nat_lt MAX_SITES (symbol_count (map object_meaning objects.now)) }
 {
-    let mut plan = match klp_catalog_text::read(alloc, text) {
-        Ok(plan) => plan,
-        Err(fault) => {
-            return Err(match fault.kind {
-                TextFaultKind::NoMemory => WritingFault::NoMemory,
-                _ => WritingFault::ReadsOtherwise,
-            });
+    let mut rest = objects;
+    let mut room = MAX_SITES;
+    while let [object, behind @ ..] = rest {
+        if room < object.symbols.len() {
+            return true;
         }
-    };
-    let objects = plan.take_objects();
-    if !are_patches(&objects, &plan.into_patches(), patches) {
-        return Err(WritingFault::ReadsOtherwise);
+        room -= object.symbols.len();
+        rest = behind;
     }
-    Ok(())
+    false
 }
 
-/// Returns a catalog of some patches, in their order. `symbols` is what `/proc/kallsyms` of a kernel lists. Without it,
-/// the patches' symbols are made up, and marked so.
+/// Returns why a catalog has no room for some objects.
+fn room_fault(objects: &[ObjectSymbols<'_>]) -> Option<CatalogFault>
+    ensures { result ≡ room_fault (map object_meaning objects.now) }
+{
+    if MAX_OBJECTS < objects.len() {
+        return Some(CatalogFault::TooManyObjects);
+    }
+    if have_too_many(objects) {
+        return Some(CatalogFault::TooManySymbols);
+    }
+    None
+}
+
+/// Writes a catalog of some patches, in their order, over a kernel with these symbols. Of an object of which there are
+/// none the symbols are made up, and marked so. [`is_catalog_of`](crate::is_catalog_of) reads it back.
 ///
-/// Returns `Err` with the first reason why a catalog can't have the patches, if it has no room for the symbols of all, if
-/// the kernel's symbols are faulty, or if memory runs out.
-pub fn catalog_of(
+/// Returns `Err` with the first reason why a catalog can't have the patches, or if memory runs out.
+pub fn draft_of(
     alloc: Global,
+    rows: &[KernelRow<'_>],
     patches: &[NamedPatch<'_, '_>],
-    symbols: Option<&[u8]>,
-) -> Result<ModuleCatalog, CatalogFault>
-    ensures { MatchResult result (λ catalog. IsCatalogOf (string_bytes catalog.text) patches.now × (fit_fault patches.now ≡ None))
-        (λ fault. IsRefusal patches.now fault) }
+) -> Result<Draft, CatalogFault>
+    ensures { MatchResult result (λ _. refusal_of (map row_meaning rows.now) patches.now ≡ None)
+        (λ fault. (fault ≡ NoMemory) ⊎ (refusal_of (map row_meaning rows.now) patches.now ≡ Some fault)) }
 {
     if let Some(fault) = fit_fault(patches) {
         return Err(CatalogFault::Unfit(fault));
     }
-    let catalog = match text_of(alloc, patches, symbols) {
-        Ok(catalog) => catalog,
-        Err(fault) => return Err(CatalogFault::Unwritten(fault)),
+    let objects = match objects_of(alloc, rows, patches) {
+        Ok(objects) => objects,
+        Err(_) => return Err(CatalogFault::NoMemory),
     };
-    match read_back(alloc, catalog.text.as_bytes(), patches) {
-        Ok(()) => Ok(catalog),
-        Err(fault) => Err(CatalogFault::Unwritten(fault)),
+    if let Some(fault) = room_fault(&objects) {
+        return Err(fault);
+    }
+    match text_of(alloc, rows, &objects, patches) {
+        Ok(draft) => Ok(draft),
+        Err(_) => Err(CatalogFault::NoMemory),
     }
 }
