@@ -22,6 +22,13 @@ use std::alloc::{AllocError, Global};
 /// The width of a sign and of the gap after it, in points.
 const SIGN: u64 = 12;
 
+/// How far to the left of a place its sign begins, in points. A sign is about 8 points wide, so its middle is over the
+/// place.
+const HALF_SIGN: u64 = 4;
+
+/// The lower end of the signs in the head of the table, in points from the top.
+const SIGN_BOTTOM: u64 = 13;
+
 /// The data that the parts of the drawing need: what is drawn and where it is drawn.
 #[derive(Drop)]
 struct Board<'a> {
@@ -62,8 +69,7 @@ fn add_signs(sheet: &mut Sheet, bars: &Bars) {
             continue;
         }
         free = x.saturating_add(SIGN);
-        // A sign is about 8 points wide, so this puts its middle over the mark.
-        add_text_start(sheet, "sign", x.saturating_sub(4), 13);
+        add_text_start(sheet, "sign", x.saturating_sub(HALF_SIGN), SIGN_BOTTOM);
         sheet.markup(sign_text(mark.sign));
         let next = match bars.marks.get(number.saturating_add(1)) {
             Some(next) => bars.scale.left_of(next.line),
@@ -127,10 +133,11 @@ fn add_differing(sheet: &mut Sheet, places: &[u64]) {
     sheet.markup("\"/></g>");
 }
 
-/// Adds a sign above each place at which a kernel differs from the rules.
+/// Adds a sign above each place at which a kernel differs from the rules. It may cover a mark's sign at the same place,
+/// since a difference matters more.
 fn add_differing_signs(sheet: &mut Sheet, places: &[u64]) {
     for x in places {
-        add_text_start(sheet, "sign", x.saturating_sub(4), 13);
+        add_text_start(sheet, "sign", x.saturating_sub(HALF_SIGN), SIGN_BOTTOM);
         sheet.markup("<tspan style=\"fill:var(--hold);font-weight:600\">\u{2260}</tspan></text>");
     }
 }

@@ -53,8 +53,8 @@ fn tasks_alike(alloc: Global, own: &Sleep, sleeps: &[Sleep]) -> Result<TaskList,
     Ok(tasks)
 }
 
-/// Appends one sentence with the tasks of all stays in `sleeps` that are alike to `own`. All these stays begin with
-/// `line`.
+/// Appends one sentence about `own`, which is one of `sleeps`, and about all stays in `sleeps` that are alike to it. The
+/// sentence has the tasks of all of them. Every stay in `sleeps` must begin with `line`.
 fn add_alike(
     sentences: &mut Vec<Sentence>,
     alloc: Global,
