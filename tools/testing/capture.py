@@ -490,6 +490,55 @@ def without_livepatch(shell):
         )
 
 
+def newer(shell):
+    """What newer kernels show of each patch beside, on its line: of a kernel that has both files, one, or neither. A word that is
+    none of theirs stands for no file, and so does the place of a patch whose folder is just being made or taken away."""
+    with machine() as it:
+        def show(name, enabled, transition, replace=None, order=None):
+            folder = f"sys/kernel/livepatch/{name}"
+            for file, text in (("enabled", enabled), ("transition", transition), ("replace", replace), ("stack_order", order)):
+                if text is None:
+                    with contextlib.suppress(FileNotFoundError):
+                        os.remove(f"{it.root}/{folder}/{file}")
+                else:
+                    it.put(f"{folder}/{file}", f"{text}\n")
+
+        def change(*patches):
+            return lambda: [show(*patch) for patch in patches]
+
+        show("eventfd_fix", 1, 1, 1, 2)
+        show("other", 1, 0, 0, 1)
+        changes = (
+            change(("other", 0, 1, 0, 1)), change(("other", 0, 0, 0, 1), ("eventfd_fix", 1, 1, 1, 1)), lambda: shutil.rmtree(f"{it.root}/sys/kernel/livepatch/other"),
+            change(("eventfd_fix", 1, 0, 1)), change(("eventfd_fix", 0, 1, None, 10)), change(("eventfd_fix", 1, 1, 2, 0)),
+            change(("eventfd_fix", 1, 0, "$(touch made)", "a[$(touch${IFS}made)]")), change(("eventfd_fix", 1, 1)),
+        )
+        told = [of(sample, "patch") for sample in samples(shell, it, changes)]
+        made = [name for _, _, names in os.walk(it.root) for name in names if name == "made"]
+        return differs((made, []), (told, [
+            ["patch eventfd_fix 1 1 1 2", "patch other 1 0 0 1"], ["patch eventfd_fix 1 1 1 2", "patch other 0 1 0 1"],
+            ["patch eventfd_fix 1 1 1 1", "patch other 0 0 0 -"], ["patch eventfd_fix 1 1 1 1"],
+            ["patch eventfd_fix 1 0 1 -"], ["patch eventfd_fix 0 1 - 10"], ["patch eventfd_fix 1 1"], ["patch eventfd_fix 1 0"], ["patch eventfd_fix 1 1"],
+        ]))
+
+
+def goes_while_read(shell):
+    """A patch goes while a sample is taken: here its files are pipes, and the test puts into one that it isn't there any more."""
+    with machine() as it:
+        it.put("sys/kernel/livepatch/eventfd_fix/replace", "1\n")
+        pipe = f"{it.root}/sys/kernel/livepatch/eventfd_fix/stack_order"
+        os.mkfifo(pipe)
+        process = it.begin(shell, "-c", "1")
+        with open(pipe, "w", encoding="utf-8"):  # klpcap has come to it
+            shutil.rmtree(f"{it.root}/sys/kernel/livepatch/eventfd_fix")
+        status, out, err = finish(process)
+        lines = out.decode().splitlines()
+        return differs(
+            ((status, err), (0, "")), (of(lines, "patch", "object", "function"), ["patch eventfd_fix 1 1 1 -"]), (lines[-1], "end count"),
+            ([line.split(" ")[6] for line in of(lines, "sample")], ["1"]),
+        )
+
+
 def kept_through_patches(shell):
     """Whether a task is inside is judged anew where patches change: it hasn't run, and is in what the next patch changes."""
     with machine() as it:
@@ -1007,7 +1056,7 @@ RUN = (
     ("", captured), (", names with line feeds", named), (", commands for names", harmless), (", a bare address", zeroed), (", into a file", logged),
     (", to the end", ended), (", its head", headed), (", names of processes", processes), (", a process's number again", processes_again),
     (", more tasks than slots", chosen), (", those that merely lag", preferred), (", slots given up", left), (", no transition any more", left_at_end),
-    (", slots behind -f", left_asked), (", no livepatch", without_livepatch), (", one patch behind another", kept_through_patches), (", what can't be written", unwritten),
+    (", slots behind -f", left_asked), (", no livepatch", without_livepatch), (", files of newer kernels", newer), (", a patch that goes meanwhile", goes_while_read), (", one patch behind another", kept_through_patches), (", what can't be written", unwritten),
     (", the kernel's log", kernels_log), (", a sleep that takes no fractions", sleepless), (", signals", stopped), (", signals in a sample", torn), (", signals between samples", torn_again), (", signals at the end", ends_whole), (", names behind -f", asked), (", names that the kernel lacks", lacking), (", a write that a signal interrupts", interrupted), (", a look for symbols that a signal ends", looked_up_again), (", at a terminal", at_terminal), (", waits at a terminal", waiting),
     (", Ctrl-C at a terminal", stopped_at_terminal), (", no file named at a terminal", unnamed), (", the time of the day", timed), *((f", at a terminal: {name}", functools.partial(spoken, *scene)) for name, *scene in SPOKEN),
     (", what can't be read", unreadable), (", help and version", helped),

@@ -187,6 +187,7 @@ def cut_off(name):
 
 TASK_FORM = "task TID PID START STATE PATCH_STATE RUNS STABLE KTHREAD NAME"
 SAMPLE_FORM = "sample FROM TO TASKS RUNNING SLEEPING TORN INSIDE"
+PATCH_FORM = "patch NAME ENABLED TRANSITION [REPLACE STACK_ORDER]"
 LATE_SAMPLE = "wanted is a sample that ends after it began, and begins after the one before it"
 # Lines that are faulty between the samples of a log, and what is said of the last of them.
 FAULTY_LINES = (
@@ -206,6 +207,10 @@ FAULTY_LINES = (
     ("log x y", "'log x y': wanted is log TIME TEXT"), ("symbol xyz t n", "'symbol xyz t n': wanted is symbol ADDRESS TYPE NAME [MODULE]"),
     ("symbol 99 t n m", "'symbol 99 t n m': wanted is symbol ADDRESS TYPE NAME [MODULE]"),
     ("patch x 1 1", "'patch': wanted before it is a line `patches` of the same sample"),
+    *((f"patch x {words}", f"'patch x {words}': wanted is {PATCH_FORM}") for words in (
+        "1", "1 2", "1 1 1", "1 1 2 1", "1 1 1 0", "1 1 1 x", "1 1 1 4294967296", "1 1 x -", "1 1 - -1", "1 1 - - -",
+    )),
+    ("patch x 1 1 - 1", "'patch': wanted before it is a line `patches` of the same sample"),
     ("object x 1", "'object': wanted before it is a line `patch` of the same sample"),
     ("loaded x", "'loaded': wanted before it is a line `object` of the same sample"),
     ("function f,1", "'function': wanted before it is a line `object` of the same sample"),

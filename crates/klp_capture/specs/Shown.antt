@@ -20,7 +20,7 @@ span_of span items = if nat_le span.from span.to && nat_le span.to (length items
 
 -- a patch that is there, of this name; while its folder is made or taken away, both of its files read 0
 abbrev pub is_there_as : List ℕ → PatchRow → Bool
-is_there_as wanted (Patch name enabled moving) = bytes_eq name.now wanted && (enabled || moving)
+is_there_as wanted (Patch name enabled moving newer) = bytes_eq name.now wanted && (enabled || moving)
 is_there_as wanted row = false
 
 abbrev pub flag_text : Bool → List ℕ
@@ -29,7 +29,7 @@ flag_text false = codes " 0"
 
 -- what the files of a patch read: saw PATCH ENABLED TRANSITION
 abbrev pub files_text : Option PatchRow → List ℕ
-files_text (Some (Patch name enabled moving)) = flag_text enabled ++ flag_text moving
+files_text (Some (Patch name enabled moving newer)) = flag_text enabled ++ flag_text moving
 files_text other = codes " gone"
 
 abbrev pub files_item : List PatchRow → List ℕ → List ℕ

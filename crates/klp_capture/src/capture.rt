@@ -3,7 +3,9 @@ ghost use Rattle.std.specs.Prelude.{◌≡◌};
 ghost use Rattle.klp_capture.specs.Shown.{span_of};
 
 use crate::fault::{CaptureFault, CaptureFaultKind};
-use crate::line::{Clock, FrameLine, Line, ProcessLine, SampleLine, SymbolLine, TaskLine};
+use crate::line::{
+    Clock, FrameLine, Line, NewerFiles, ProcessLine, SampleLine, SymbolLine, TaskLine,
+};
 use crate::time::BootTime;
 use klp_catalog_text::Lines;
 use std::alloc::Global;
@@ -32,7 +34,7 @@ impl Span {
 /// A line of a sample that is about patches.
 #[derive(Clone, Copy)]
 pub enum PatchRow<'a> {
-    /// A patch, with its files `enabled` and `transition`.
+    /// A patch, with what its files read.
     Patch {
         /// The patch's name.
         name: &'a [u8],
@@ -40,6 +42,8 @@ pub enum PatchRow<'a> {
         is_enabled: bool,
         /// Whether the file `transition` reads 1.
         is_moving: bool,
+        /// What the files read that only newer kernels have.
+        newer: NewerFiles,
     },
     /// An object that the patch of an earlier line changes.
     Object {
@@ -290,14 +294,11 @@ impl<'a> Capture<'a> {
     fn add_seen(&mut self, line: Line<'a>) -> Result<(), CaptureFaultKind> {
         match line {
             Line::Patches => self.begin_patches(),
-            Line::Patch {
-                name,
-                is_enabled,
-                is_moving,
-            } => self.add_row(PatchRow::Patch {
-                name,
-                is_enabled,
-                is_moving,
+            Line::Patch(patch) => self.add_row(PatchRow::Patch {
+                name: patch.name,
+                is_enabled: patch.is_enabled,
+                is_moving: patch.is_moving,
+                newer: patch.newer,
             })?,
             Line::Object(name, is_patched) => {
                 if self.begun.patches.of(&self.rows).is_empty() {

@@ -16,8 +16,8 @@ mod time;
 pub use capture::{Capture, LogLine, PatchRow, Sample, SeenTask, Span};
 pub use fault::{CaptureFault, CaptureFaultKind};
 pub use line::{
-    Activity, Clock, FrameLine, Line, PatchedState, ProcessLine, SampleLine, SymbolLine, TaskLine,
-    form_of,
+    Activity, Clock, FrameLine, Line, NewerFiles, PatchLine, PatchedState, ProcessLine, SampleLine,
+    SymbolLine, TaskLine, form_of,
 };
 pub use shown::patch_in;
 pub use text::Text;

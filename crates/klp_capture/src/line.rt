@@ -1,4 +1,9 @@
 //! One line of a log: a word, and the rest of the line (docs/CAPTURE.md, "What a log says").
+ghost use Rattle.std.specs.Prelude.{◌≡◌, IfSome};
+ghost use Rattle.klp_words.specs.Split.{words_between, separates};
+ghost use Rattle.klp_words.specs.declared.split.Separators.TheVariants.{Spaces};
+ghost use Rattle.klp_capture.specs.PatchLine.{flag_of, flag_if_there, order_if_there, newer_of, Says};
+
 use crate::time::BootTime;
 use klp_words::{LineWords, Separators, cut, hexadecimal, microseconds, number32, number64};
 
@@ -98,6 +103,29 @@ pub struct ProcessLine<'a> {
     pub name: &'a [u8],
 }
 
+/// What the files of a patch read that only newer kernels have.
+#[derive(Clone, Copy)]
+pub struct NewerFiles {
+    /// Whether the patch is cumulative: what the file `replace` reads. `None` if the log doesn't have it.
+    pub is_cumulative: Option<bool>,
+    /// The place of the patch among the installed ones, from 1 for the oldest: what the file `stack_order` reads. `None`
+    /// if the log doesn't have it.
+    pub order: Option<u32>,
+}
+
+/// A patch, with what its files read.
+#[derive(Clone, Copy)]
+pub struct PatchLine<'a> {
+    /// The patch's name.
+    pub name: &'a [u8],
+    /// Whether the file `enabled` reads 1.
+    pub is_enabled: bool,
+    /// Whether the file `transition` reads 1.
+    pub is_moving: bool,
+    /// What the files read that only newer kernels have.
+    pub newer: NewerFiles,
+}
+
 /// A symbol with its address.
 #[derive(Clone, Copy)]
 pub struct SymbolLine<'a> {
@@ -126,34 +154,26 @@ pub enum Line<'a> {
     /// A function for which `klpcap` was told to look, though no patch changes the function.
     Find(&'a [u8]),
     Patches,
-    Patch {
-        name: &'a [u8],
-        is_enabled: bool,
-        is_moving: bool,
-    },
+    Patch(PatchLine<'a>),
     /// An object, and what its file `patched` reads. `None` if there is no such file.
     Object(&'a [u8], Option<bool>),
     Loaded(&'a [u8]),
-    Function {
-        name: &'a [u8],
-        position: u32,
-    },
+    Function { name: &'a [u8], position: u32 },
     Task(TaskLine<'a>),
     Frame(FrameLine<'a>),
     /// The task is inside of the same functions as in its line before.
     SameFrames,
     Gone(u64),
     Sample(SampleLine),
-    Log {
-        at: BootTime,
-        text: &'a [u8],
-    },
+    Log { at: BootTime, text: &'a [u8] },
     Symbol(SymbolLine<'a>),
     Module(&'a [u8]),
     End,
 }
 
-fn flag_of(word: &[u8]) -> Option<bool> {
+fn flag_of(word: &[u8]) -> Option<bool>
+    ensures { result ≡ flag_of word.now }
+{
     if word == b"0".as_slice() {
         Some(false)
     } else if word == b"1".as_slice() {
@@ -186,18 +206,63 @@ fn module_of(word: Option<&[u8]>) -> Option<Option<&[u8]>> {
     Some(Some(named(inner)?))
 }
 
-fn patch_line(rest: &[u8]) -> Option<Line<'_>> {
+/// Reads what a file says that may not be there. If it isn't, the word is `-`.
+fn flag_if_there(word: &[u8]) -> Option<Option<bool>>
+    ensures { result ≡ flag_if_there word.now }
+{
+    if word == b"-".as_slice() {
+        return Some(None);
+    }
+    Some(Some(flag_of(word)?))
+}
+
+/// Reads a place among the installed patches, counted from 1. If the file isn't there, the word is `-`.
+fn order_if_there(word: &[u8]) -> Option<Option<u32>>
+    ensures { result ≡ order_if_there word.now }
+{
+    if word == b"-".as_slice() {
+        return Some(None);
+    }
+    match number32(word)? {
+        0 => None,
+        order => Some(Some(order)),
+    }
+}
+
+/// Reads `REPLACE STACK_ORDER`, up to the end of the line. A kernel that has neither file is told by no word.
+fn newer_files(words: &mut LineWords<'_>) -> Option<NewerFiles>
+    ensures { result ≡ newer_of words.old }
+{
+    let Some(replace) = words.next() else {
+        return Some(NewerFiles {
+            is_cumulative: None,
+            order: None,
+        });
+    };
+    let order = words.next()?;
+    if words.next().is_some() {
+        return None;
+    }
+    Some(NewerFiles {
+        is_cumulative: flag_if_there(replace)?,
+        order: order_if_there(order)?,
+    })
+}
+
+/// Reads `NAME ENABLED TRANSITION`, and `REPLACE STACK_ORDER` of a kernel that has one of these files.
+fn patch_line(rest: &[u8]) -> Option<PatchLine<'_>>
+    ensures { IfSome result (λ line. Says (words_between (separates Spaces) rest.now) line) }
+{
     let mut words = LineWords::new(rest, Separators::Spaces);
     let name = words.next()?;
     let is_enabled = flag_of(words.next()?)?;
     let is_moving = flag_of(words.next()?)?;
-    if words.next().is_some() {
-        return None;
-    }
-    Some(Line::Patch {
+    let newer = newer_files(&mut words)?;
+    Some(PatchLine {
         name,
         is_enabled,
         is_moving,
+        newer,
     })
 }
 
@@ -355,7 +420,10 @@ const FORMS: [(&str, &str); 21] = [
     ("missing", "missing FILE"),
     ("find", "find FUNC"),
     ("patches", "patches"),
-    ("patch", "patch NAME ENABLED TRANSITION"),
+    (
+        "patch",
+        "patch NAME ENABLED TRANSITION [REPLACE STACK_ORDER]",
+    ),
     ("object", "object NAME PATCHED"),
     ("loaded", "loaded NAME"),
     ("function", "function NAME,POSITION"),
@@ -401,7 +469,7 @@ impl<'a> Line<'a> {
             b"missing" => Some(Line::Missing(named(rest)?)),
             b"find" => Some(Line::Find(named(rest)?)),
             b"patches" if rest.is_empty() => Some(Line::Patches),
-            b"patch" => patch_line(rest),
+            b"patch" => Some(Line::Patch(patch_line(rest)?)),
             b"object" => object_line(rest),
             b"loaded" => Some(Line::Loaded(named(rest)?)),
             b"function" => function_line(rest),

@@ -34,6 +34,7 @@ fn is_there_as(row: &PatchRow<'_>, wanted: &[u8]) -> bool
             name,
             is_enabled,
             is_moving,
+            ..
         } => *name == wanted && (*is_enabled || *is_moving),
         _ => false,
     }
@@ -72,9 +73,9 @@ fn files_item(alloc: Global, rows: &[PatchRow<'_>], name: &[u8]) -> Result<Vec<u
     match patch_in(rows, name) {
         Some(
             PatchRow::Patch {
-                name: _,
                 is_enabled,
                 is_moving,
+                ..
             },
         ) => {
             item.extend_from_slice(flag_text(is_enabled))?;

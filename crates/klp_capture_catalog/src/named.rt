@@ -102,9 +102,9 @@ pub fn files_in(rows: &[PatchRow<'_>], name: &[u8]) -> Files {
     match patch_in(rows, name) {
         Some(
             PatchRow::Patch {
-                name: _,
                 is_enabled,
                 is_moving,
+                ..
             },
         ) => Some((is_enabled, is_moving)),
         _ => None,
@@ -118,6 +118,7 @@ pub fn moving_in<'a>(rows: &[PatchRow<'a>]) -> Option<(&'a [u8], bool)> {
             name,
             is_enabled,
             is_moving: true,
+            ..
         } = row
         {
             return Some((*name, *is_enabled));

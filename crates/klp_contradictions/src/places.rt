@@ -136,6 +136,7 @@ impl<'c, 'a> Patches<'c, 'a> {
                     name,
                     is_enabled,
                     is_moving,
+                    ..
                 } => {
                     if let Some(other) = moving
                         && *is_moving
