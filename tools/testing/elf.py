@@ -189,20 +189,41 @@ class Livepatch:
         return written(parts, section_behind, without_symbols, data_name)
 
 
-def written(parts, section_behind, without_symbols, data_name):
+# The sections of a module that a livepatch may change.
+TARGET_SECTIONS = {
+    "": (0, 0), ".text": (BYTES, ALLOC | EXECUTE), ".data": (BYTES, ALLOC | WRITE), ".init.text": (BYTES, ALLOC | EXECUTE), ".comment": (BYTES, 0),
+    ".modinfo": (BYTES, ALLOC), ".symtab": (SYMBOLS, 0), ".strtab": (STRINGS, 0), ".shstrtab": (STRINGS, 0),
+}
+
+
+def target(name, symbols):
+    """The bytes of a module with these symbols, each a name, a kind and the section (or its number) in which it is. It has a name or
+    none."""
+    strings, rows, numbers = Strings(b"\0"), [(0, NO_KIND, 0, 0, 0)], {it: number for number, it in enumerate(TARGET_SECTIONS)}
+    rows += [(strings.add(it) if it else 0, kind, numbers.get(section, section), 16 * at, 16) for at, (it, kind, section) in enumerate(symbols)]
+    parts = dict.fromkeys(TARGET_SECTIONS, bytes(16 * len(symbols)))
+    parts.update({
+        "": b"", ".modinfo": b"license=GPL\0" + (b"name=" + name + b"\0" if name else b""), ".strtab": strings.data,
+        ".symtab": b"".join(struct.pack("<IBBHQQ", at, kind, 0, section, value, size) for at, kind, section, value, size in rows),
+    })
+    return written(parts, None, False, ".data", TARGET_SECTIONS)
+
+
+def written(parts, section_behind, without_symbols, data_name, sections=None):
     """An ELF file of these sections, of which .data may have another name."""
-    names = Strings()
+    sections = sections or SECTIONS
+    names, numbers = Strings(), {it: number for number, it in enumerate(sections)}
     at = {it: names.add((data_name if it == ".data" else it).encode()) for it in parts}
     parts[".shstrtab"] = names.data
     body, headers = b"", b""
-    for name, (kind, flags) in SECTIONS.items():
+    for name, (kind, flags) in sections.items():
         size = len(parts[name]) + (2**40 if name == section_behind else 0)
-        link = NUMBERS[".symtab"] if kind == RELOCATIONS else NUMBERS[".strtab"] if kind == SYMBOLS else 0
-        info = NUMBERS[name.removeprefix(".rela")] if kind == RELOCATIONS else 0
+        link = numbers[".symtab"] if kind == RELOCATIONS else numbers[".strtab"] if kind == SYMBOLS else 0
+        info = numbers[name.removeprefix(".rela")] if kind == RELOCATIONS else 0
         kind = BYTES if without_symbols and kind == SYMBOLS else kind
         offset = HEADER + len(body) if kind else 0
         headers += struct.pack("<IIQQQQIIQQ", at[name], kind, flags, 0, offset, size, link, info, 8, 24 if kind in (SYMBOLS, RELOCATIONS) else 0)
         body += parts[name] + bytes(-len(parts[name]) % 8)
     ident = b"\x7fELF\x02\x01\x01".ljust(16, b"\0")
-    header = ident + struct.pack("<HHIQQQIHHHHHH", 1, 62, 1, 0, 0, HEADER + len(body), 0, HEADER, 0, 0, SECTION, len(SECTIONS), NUMBERS[".shstrtab"])
+    header = ident + struct.pack("<HHIQQQIHHHHHH", 1, 62, 1, 0, 0, HEADER + len(body), 0, HEADER, 0, 0, SECTION, len(sections), numbers[".shstrtab"])
     return header + body + headers

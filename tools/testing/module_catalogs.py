@@ -6,6 +6,7 @@ import functools
 import re
 import tempfile
 
+from testing import elf
 from testing.elf import CALLBACKS, Function, Livepatch, Object
 from testing.run import fault, read, run
 
@@ -13,11 +14,12 @@ FOLDER = "modules"
 CLEAN, FAULTY, FINDINGS = 0, 1, 3
 NOP = "0f1f440000"
 WORDS = dict(zip(("pre", "post", "preun", "postun"), CALLBACKS))
+FUNCTIONS_LETTERS = "tTwW"
 # The handler where no kernel is known, and where made-up symbols and new functions are.
 HANDLER = 0xFFFFFFFF81000000
 UNKNOWN_CODE = "unknown its code isn't read"
 UNKNOWN_REPLACE = "unknown its code sets whether it replaces others"
-NO_KERNEL, NOT_LOADED = "no symbols of a kernel were given", "the kernel has no symbols of it: it isn't loaded"
+NOT_GIVEN = "assumed no symbols of it are given"
 
 
 @dataclasses.dataclass
@@ -102,8 +104,8 @@ def wanted_symbols(name, names, kernel):
     """The symbols of an object, without their addresses where these are made up, and the marks of the object."""
     own = [row for row in kernel or () if row[3] == name]
     if own:
-        return [(it, row[0], NOP, [] if row[1] in "tTwW" else ["data"]) for it in names for row in own if row[2] == it], []
-    marks = [f"assumed {NOT_LOADED if kernel else NO_KERNEL}"] if names else []
+        return [(it, row[0], NOP, [] if row[1] in FUNCTIONS_LETTERS else ["data"]) for it in names for row in own if row[2] == it], []
+    marks = [NOT_GIVEN] if names else []
     return [(it, None, NOP, []) for it, count in names.items() for _ in range(count)], marks
 
 
@@ -126,8 +128,8 @@ def wrong_catalog(text, patches, kernel):
         return f"the objects are {[it['name'] for it in came.objects]}"
     for it in came.objects:
         symbols, marks = wanted_symbols(it["name"], names[it["name"]], kernel)
-        is_made_up = not any(row[3] == it["name"] for row in kernel or ())
-        own = [(row[0], None, *row[2:]) for row in it["symbols"]] if is_made_up else it["symbols"]
+        has_addresses = any(row[3] == it["name"] and row[0] for row in kernel or ())
+        own = it["symbols"] if has_addresses else [(row[0], None, *row[2:]) for row in it["symbols"]]
         if (own, it["marks"]) != (symbols, marks):
             return f"{it['name']}: {own}, {it['marks']}, where {symbols}, {marks} are wanted"
     wanted = [wanted_patch(it) for it in patches]
@@ -174,6 +176,65 @@ def catalog(kernel, *patches):
         return None if status in (CLEAN, FINDINGS) and not err else f"klplint: status {status}, {err}"
 
 
+# A module that isn't loaded, as its file has it, each symbol with its kind and section, and whether a kernel lists it: one that is
+# undefined, absolute, of the module's init, or in a section that isn't loaded isn't listed.
+TARGET = [
+    (b"f", elf.CODE, ".init.text", False), (b"f", elf.CODE, ".text", True), (b"", 3, ".text", False), (b"f", elf.VARIABLE, ".data", True),
+    (b"f", elf.NO_KIND, 0, False), (b"g", elf.CODE, ".text", True), (b"f", elf.NO_KIND, 0xFFF1, False), (b"f", elf.VARIABLE, ".comment", False),
+    (b"f", elf.CODE, ".text", True), (b"f", elf.CODE, 0xFF20, False), (b"f", elf.CODE, 200, False),
+]
+
+
+def over_target(name, kernel, *patches):
+    """A catalog has the symbols of a module's file, in its order, if the kernel has none of the module. Of a second file of it, and of
+    one of which the kernel has symbols, none are taken, and that is told."""
+    known = any(row[3] == name for row in kernel)
+    rows = [*kernel, *((None, "t" if kind == elf.CODE else "d", it.decode(), name) for it, kind, _, listed in TARGET if listed and not known)]
+    with tempfile.TemporaryDirectory(prefix="catalogs-") as room:
+        with open(f"{room}/symbols", "w") as it:
+            it.write(rows_text(kernel))
+        for file in ("one.ko", "two.ko"):
+            with open(f"{room}/{file}", "wb") as it:
+                it.write(elf.target(name.encode(), [it[:3] for it in TARGET]))
+        words = ["--symbols", f"{room}/symbols", "--module", f"{room}/one.ko", "--module", f"{room}/two.ko"]
+        status, out, err = run(["klpko", *words, *(it["file"] for it in patches)])
+        twice = f"klpko: the symbols of {name} are there already, so its file isn't used
+" * (2 if known else 1)
+        code, told = told_marks(patches, rows)
+        return fault((status, err), (code, twice + told)) or wrong_catalog(out.decode(), patches, rows)
+
+
+def refused_target(data, wanted, *patches):
+    """A module's file is refused, and no catalog is made."""
+    with tempfile.TemporaryDirectory(prefix="catalogs-") as room:
+        with open(f"{room}/m.ko", "wb") as it:
+            it.write(data)
+        came = run(["klpko", "--module", f"{room}/m.ko", *(it["file"] for it in patches)])
+        return fault(came, (FAULTY, b"", f"klpko: {room}/m.ko: {wanted}\n"))
+
+
+def traceable(text, wanted, *patches):
+    """What stands against patches, by the list of functions that a kernel can trace. `wanted` has a line for each, in which `f0` stands
+    for the first patch's file, and `l` for the list."""
+    with tempfile.TemporaryDirectory(prefix="catalogs-") as room:
+        with open(f"{room}/list", "w") as it:
+            it.write(text)
+        files = {f"f{number}": it["file"] for number, it in enumerate(patches)}
+        status, _, err = run(["klpko", "--traceable", f"{room}/list", *files.values()])
+        _, told = told_marks(patches, None)
+        said = "".join(f"klpko: {it.format(l=f'{room}/list', **files)}\n" for it in wanted)
+        return fault((status, err), (FINDINGS, told + said))
+
+
+def bad_list(text, wanted, *patches):
+    """A list of functions is refused, and no catalog is made."""
+    with tempfile.TemporaryDirectory(prefix="catalogs-") as room:
+        with open(f"{room}/list", "w") as it:
+            it.write(text)
+        came = run(["klpko", "--traceable", f"{room}/list", *(it["file"] for it in patches)])
+        return fault(came, (FAULTY, b"", f"klpko: {room}/list: {wanted}\n"))
+
+
 def refused_catalog(wanted, symbols, *patches):
     """No catalog is made, for this reason."""
     with tempfile.TemporaryDirectory(prefix="catalogs-") as room:
@@ -210,6 +271,26 @@ MADE = {
     "16 patches of 16 functions": [Livepatch(b"p%d" % it, [Object(None, [Function(b"f%d" % at, b"new") for at in range(16)])]) for it in range(16)],
 }
 FUNCTIONS = [Function(b"f%d" % it, b"new") for it in range(300)]
+# Patches of a module whose file is given, and of one of which the kernel has symbols.
+OVER_TARGET = [Livepatch(b"a", [Object(b"n", [Function(b"f", b"new_f", 3), Function(b"g", b"new_g")]), Object(b"m", [Function(b"f", b"new_m", 2)])])]
+# Lists of functions that a kernel can trace, each with what stands against the patches then.
+TRACED = [
+    Livepatch(b"a", [Object(None, [Function(b"f", b"g"), Function(b"h", b"g", 2)]), Object(b"m", [Function(b"f", b"g")])]),
+    Livepatch(b"b", [Object(b"m", [], CALLBACKS[:1]), Object(None, [Function(b"h", b"g")])]),
+]
+REFUSES = "the kernel refuses the patch: {l} doesn't list"
+UNLISTED = "so it isn't known which of them the kernel can patch"
+LISTS = {
+    "all functions": ("f\nh\nh\nf [m]\n", []),
+    "all but one": ("f\n\nf [m]\n", [f"{{f0}}: {REFUSES} h of vmlinux, so it can't be patched", f"{{f1}}: {REFUSES} h of vmlinux, so it can't be patched"]),
+    "a name of a module alone": ("f\nh [m]\n", [
+        f"{{f0}}: {REFUSES} h of vmlinux, so it can't be patched", f"{{f0}}: {REFUSES} f of m, so it can't be patched",
+        f"{{f1}}: {REFUSES} h of vmlinux, so it can't be patched"]),
+    "no module": ("f\nh\n", [f"{{f0}}: {{l}} lists no function of m, {UNLISTED}"]),
+    "nothing": ("", [f"{{f0}}: {{l}} lists no function of vmlinux, {UNLISTED}", f"{{f0}}: {{l}} lists no function of m, {UNLISTED}",
+                     f"{{f1}}: {{l}} lists no function of vmlinux, {UNLISTED}"]),
+}
+NO_FUNCTION = "it isn't one of available_filter_functions: wanted is NAME [MODULE]"
 WHOLE, FEWER = "--list and --matrix take it whole", "give fewer patches; --matrix takes all"
 NAME, SYMBOL = "1 to 55 letters, digits, _ and -", "1 to 127 letters, digits, _, . and $"
 
@@ -280,4 +361,13 @@ def cases(source_of, names, written):
         made[f"no catalog of {name}"] = (written, functools.partial(refused_catalog, reason, ""), *patches)
     for name, (reason, symbols, patches) in ODD.items():
         made[f"no catalog of {name}"] = (written, functools.partial(refused_catalog, reason, symbols), *patches)
+    made["the catalog over a module's file"] = (written, functools.partial(over_target, "n", KERNEL), *OVER_TARGET)
+    made["the catalog over a module's file, which is loaded"] = (written, functools.partial(over_target, "m", KERNEL), *OVER_TARGET)
+    made["no catalog over a module without a name"] = (
+        written, functools.partial(refused_target, elf.target(None, []), "its name is wanted in its section .modinfo: name="), *OVER_TARGET)
+    made["no catalog over a module that is none"] = (
+        written, functools.partial(refused_target, b"x", "it isn't an ELF file: wanted is a module, .ko"), *OVER_TARGET)
+    for name, (text, wanted) in LISTS.items():
+        made[f"functions that can be traced, {name}"] = (written, functools.partial(traceable, text, wanted), *TRACED)
+    made["no list of functions"] = (written, functools.partial(bad_list, "f\n\nf m\n", f"line 3: {NO_FUNCTION}"), *TRACED)
     return made

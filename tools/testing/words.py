@@ -12,7 +12,7 @@ USAGE = {
     "klppage": "klppage CATALOG SCRIPT|--trace TRACE [NAMES]",
     "klplint": "klplint [--json] CATALOG [SCRIPT]",
     "klpsee": "klpsee [-o FOLDER] [--json|--follow] LOG|[--metrics] LOG..",
-    "klpko": "klpko [--symbols FILE] PATCH..|--list|--matrix [--json] PATCH..",
+    "klpko": "klpko [--symbols FILE] [--module FILE].. [--traceable FILE] PATCH..|--list|--matrix [--json] PATCH..",
 }
 REFUSED = {
     "klpsim": [
@@ -35,6 +35,8 @@ REFUSED = {
         (), ("--list",), ("--matrix", "--json"), ("x", "--json"), ("--list", "--matrix", "x"), ("--list", "--list", "x"), ("--list=x", "x"),
         ("--list", "x", "-o", "y"), ("--list", b"\xff"), ("--symbols", "x"), ("x", "--symbols"), ("--symbols", "y", "--list", "x"),
         ("--matrix", "x", "--symbols", "y"), ("--symbols", "y", "--json", "x"), ("--symbols", "y", "--symbols", "y", "x"),
+        ("--module", "y", "--list", "x"), ("--matrix", "x", "--traceable", "y"), ("--module", "y"), ("x", "--module"), ("x", "--traceable"),
+        ("--traceable", "y", "--traceable", "y", "x"), ("--module", "y", "--json", "x"),
     ],
 }
 # Words that mean the same, in each line those in front.
@@ -206,6 +208,7 @@ def cases():
     made.update({f"{name}, {words[at]} from standard input": (from_input, name, words, at) for name, words, places in inputs for at in places})
     made.update({f"{words[0]}, twice standard input, {words[1:]}": (twice, *words) for words in (
         ("klpwatch", "-", "-"), ("klplint", "-", "-"), ("klppage", "-", "-"), ("klppage", "-", "x", "-"), ("klppage", "x", "-", "-"), ("klppage", "-", "--trace", "-"), ("klpko", "--list", "-", "x", "-"),
+        ("klpko", "--symbols", "-", "-"), ("klpko", "--module", "-", "--module", "-", "x"), ("klpko", "--traceable", "-", "--symbols", "-", "x"),
     )})
     odd = "\x1b[2J"
     paths = (("klpwatch", odd, "x"), ("klpwatch", "k.catalog", odd), ("klppage", odd, "x"), ("klplint", odd), ("klplint", "k.catalog", odd), ("klpsee", odd), ("klpko", "--list", odd))

@@ -1,6 +1,6 @@
 -- What words ask a program for, by the values that the reader of words finds in them.
 use Rattle.std.specs.Prelude.{ℕ, ◌≡◌, ◌≢◌, ◌⊎◌, ⊤, Bool, true, false, List, [], ◌∷◌, codes, bytes_eq, Option, Some, None, option_map, ◌==◌, ◌&&◌, ◌||◌, not, nat_lt, is_some, length, map, if◌then◌else◌}
-use Rattle.clap.specs.Words.{App, Kinds, Row, Text, IsAmong, all_of, fault_of, first_of, matches_of}
+use Rattle.clap.specs.Words.{Kinds, Row, Text, IsAmong, all_of, fault_of, first_of, matches_of}
 use Rattle.clap.specs.declared.error.kind.ErrorKind.TheVariants.{DisplayHelp, DisplayVersion}
 use Rattle.klp_arguments.specs.Commands.{lint_app, module_app, page_app, see_app, watch_app}
 use Rattle.klp_arguments.specs.declared.asked.WatchWords.{WatchWords}
@@ -40,6 +40,8 @@ pub record Modules : Type 0 where
   pub question : ModuleQuestion
   pub is_json : Bool
   pub symbols : Option Text
+  pub objects : List Text
+  pub traceable : Option Text
 
 -- an option without a value is given
 abbrev pub is_given : Option Text → Bool
@@ -83,17 +85,21 @@ seen_by logs folder json follow metrics =
     let seen : Seen = record { logs = logs; folder = folder; is_json = is_given json; follows = is_given follow; is_metrics = is_given metrics } in
     seen_if (go_together (length logs) seen) seen
 
--- One of --list and --matrix, or a catalog. An answer for programs is of the first two, and symbols are for a catalog
+-- One of --list and --matrix, or a catalog. An answer for programs is of the first two, and what is known of the kernel is for a catalog
 abbrev pub question_of : Bool → Bool → Bool → Bool → Option ModuleQuestion
 question_of true false json false = Some Listed
 question_of false true json false = Some Matrix
-question_of false false false symbols = Some Catalog
-question_of list matrix json symbols = None
+question_of false false false kernel = Some Catalog
+question_of list matrix json kernel = None
 
-abbrev pub modules_by : List Text → Option Text → Option Text → Option Text → Option Text → Option Modules
-modules_by patches list matrix json symbols =
-    option_map (λ question. record { patches = patches; question = question; is_json = is_given json; symbols = symbols })
-    (question_of (is_given list) (is_given matrix) (is_given json) (is_some symbols))
+-- files say something of the kernel: its symbols, modules of it, or which functions can be traced
+abbrev pub has_kernel : Option Text → List Text → Option Text → Bool
+has_kernel symbols objects traceable = is_some symbols || nat_lt 0 (length objects) || is_some traceable
+
+abbrev pub modules_by : List Text → Option Text → Option Text → Option Text → Option Text → List Text → Option Text → Option Modules
+modules_by patches list matrix json symbols objects traceable =
+    option_map (λ question. record { patches = patches; question = question; is_json = is_given json; symbols = symbols; objects = objects; traceable = traceable })
+    (question_of (is_given list) (is_given matrix) (is_given json) (has_kernel symbols objects traceable))
 
 -- what the values ask for, unless the words are at fault
 abbrev pub unless : {Z : Type 0} → Kinds → Option Z → Option Z
@@ -117,7 +123,7 @@ seen_in rows =
 abbrev pub modules_in : List Row → Option Modules
 modules_in rows =
     modules_by (values_in (all_of (codes "PATCH") rows)) (first_of (codes "LIST") rows) (first_of (codes "MATRIX") rows) (first_of (codes "JSON") rows)
-    (first_of (codes "SYMBOLS") rows)
+    (first_of (codes "SYMBOLS") rows) (values_in (all_of (codes "MODULE") rows)) (first_of (codes "TRACEABLE") rows)
 
 abbrev pub watch_asked : List Text → Option Watched
 watch_asked words = unless (fault_of watch_app words) (watched_in (matches_of watch_app words))
@@ -158,6 +164,8 @@ module_meaning words = record {
   question = words.question;
   is_json = words.is_json;
   symbols = option_map (λ symbols. symbols.now) words.symbols;
+  objects = map (λ object. object.now) words.objects.items;
+  traceable = option_map (λ traceable. traceable.now) words.traceable;
 }
 
 -- the words ask for help, or for the version

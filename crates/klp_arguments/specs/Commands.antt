@@ -67,8 +67,19 @@ see_app = with_rule (with_rule answer_app follow) metrics
 abbrev pub patches : Rule
 patches = record (required (codes "PATCH")) { action = Some Append }
 
+-- an option with a value
+abbrev pub valued : Text → Text → Rule
+valued id long = record (new_rule id) { long = Some long }
+
 abbrev pub symbols : Rule
-symbols = record (new_rule (codes "SYMBOLS")) { long = Some (codes "symbols") }
+symbols = valued (codes "SYMBOLS") (codes "symbols")
+
+-- given once or more
+abbrev pub objects : Rule
+objects = record (valued (codes "MODULE") (codes "module")) { action = Some Append }
+
+abbrev pub traceable : Rule
+traceable = valued (codes "TRACEABLE") (codes "traceable")
 
 -- for what the tables of modules say
 abbrev pub table_app : App
@@ -77,7 +88,7 @@ table_app =
     with_rule (with_rule listed (flag (codes "MATRIX") (codes "matrix"))) json
 
 abbrev pub module_app : App
-module_app = with_rule table_app symbols
+module_app = with_rule (with_rule (with_rule table_app symbols) objects) traceable
 
 -- the command is this one
 abbrev pub IsCommand : Command → App → Type 0

@@ -64,4 +64,8 @@ pub struct ModuleWords<'a> {
     pub is_json: bool,
     /// The path of the kernel's symbols, if they are given.
     pub symbols: Option<&'a str>,
+    /// The paths of modules whose functions the patches change.
+    pub objects: Vec<&'a str>,
+    /// The path of the list of functions that the kernel can trace, if it is given.
+    pub traceable: Option<&'a str>,
 }

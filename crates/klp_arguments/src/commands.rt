@@ -1,8 +1,8 @@
 //! The command of each program, by which `clap` reads its arguments and writes its help.
 ghost use Rattle.std.specs.Prelude.{◌≡◌, IfOk};
 ghost use Rattle.clap.specs.Words.{app_of, new_rule};
-ghost use Rattle.klp_arguments.specs.Commands.{answer_app, bare, flag, folder, follow, json, lint_app, logs, metrics, module_app};
-ghost use Rattle.klp_arguments.specs.Commands.{name_of, page_app, patches, required, see_app, symbols, table_app, trace, watch_app, IsArg};
+ghost use Rattle.klp_arguments.specs.Commands.{answer_app, bare, flag, folder, follow, json, lint_app, logs, metrics, module_app, objects};
+ghost use Rattle.klp_arguments.specs.Commands.{name_of, page_app, patches, required, see_app, symbols, table_app, trace, traceable, valued, watch_app, IsArg};
 ghost use Rattle.klp_arguments.specs.Commands.{IsCommand};
 
 use crate::program::Program;
@@ -36,6 +36,10 @@ pub(crate) const LIST: &str = "LIST";
 pub(crate) const MATRIX: &str = "MATRIX";
 
 pub(crate) const SYMBOLS: &str = "SYMBOLS";
+
+pub(crate) const MODULE: &str = "MODULE";
+
+pub(crate) const TRACEABLE: &str = "TRACEABLE";
 
 /// Returns the command of a program with its version and the texts of its help, but without arguments. The words that it
 /// matches begin after the program's name.
@@ -205,13 +209,50 @@ fn patches<'a>(alloc: Global) -> Arg<'a>
     needed(alloc, PATCH, "The files of the livepatches, .ko").action(ArgAction::Append)
 }
 
+/// Returns an option with a value, a file's path. `id` is the argument's name, `long` the option's, and `help` says in
+/// the help what the file is.
+fn valued<'a>(alloc: Global, id: &'a str, long: &'a str, help: &'a str) -> Arg<'a>
+    ensures { IsArg result (valued id.now long.now) }
+{
+    Arg::new(alloc, id).long(long).help(help)
+}
+
 /// Returns klpko's option `--symbols`. Its value is the file with the symbols of the kernel.
 fn symbols<'a>(alloc: Global) -> Arg<'a>
     ensures { IsArg result symbols }
 {
-    Arg::new(alloc, SYMBOLS)
-        .long("symbols")
-        .help("The symbols of the kernel, /proc/kallsyms")
+    valued(
+        alloc,
+        SYMBOLS,
+        "symbols",
+        "The symbols of the kernel, /proc/kallsyms",
+    )
+}
+
+/// Returns klpko's option `--module`, which may be given again. Its values are the files of modules whose functions the
+/// patches change.
+fn objects<'a>(alloc: Global) -> Arg<'a>
+    ensures { IsArg result objects }
+{
+    valued(
+        alloc,
+        MODULE,
+        "module",
+        "The file of a module that the patches change, .ko; may be given again",
+    )
+    .action(ArgAction::Append)
+}
+
+/// Returns klpko's option `--traceable`. Its value is the file with the functions that the kernel can trace.
+fn traceable<'a>(alloc: Global) -> Arg<'a>
+    ensures { IsArg result traceable }
+{
+    valued(
+        alloc,
+        TRACEABLE,
+        "traceable",
+        "The functions that can be patched, available_filter_functions",
+    )
 }
 
 /// Returns the command of klpko for what it says of modules: it takes these, and the options `--list`, `--matrix` and
@@ -231,9 +272,13 @@ fn table_command<'a>(alloc: Global) -> Result<Command<'a>, AllocError>
         .arg(json(alloc))
 }
 
-/// Returns the command of klpko: it takes modules, and the options `--list`, `--matrix`, `--json` and `--symbols`.
+/// Returns the command of klpko: it takes modules, and the options `--list`, `--matrix`, `--json`, `--symbols`,
+/// `--module` and `--traceable`.
 pub(crate) fn module_command<'a>(alloc: Global) -> Result<Command<'a>, AllocError>
     ensures { IfOk result (λ command. IsCommand command module_app) }
 {
-    table_command(alloc)?.arg(symbols(alloc))
+    table_command(alloc)?
+        .arg(symbols(alloc))?
+        .arg(objects(alloc))?
+        .arg(traceable(alloc))
 }

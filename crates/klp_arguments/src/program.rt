@@ -97,7 +97,8 @@ impl Program {
             Program::Klppage => "klppage CATALOG SCRIPT|--trace TRACE [NAMES]",
             Program::Klplint => "klplint [--json] CATALOG [SCRIPT]",
             Program::Klpsee => "klpsee [-o FOLDER] [--json|--follow] LOG|[--metrics] LOG..",
-            Program::Klpko => "klpko [--symbols FILE] PATCH..|--list|--matrix [--json] PATCH..",
+            Program::Klpko =>
+                "klpko [--symbols FILE] [--module FILE].. [--traceable FILE] PATCH..|--list|--matrix [--json] PATCH..",
         }
     }
 

@@ -3,13 +3,14 @@ ghost use Rattle.std.specs.Prelude.{◌≡◌, ◌⊎◌, [], true, length, map,
 ghost use Rattle.clap.specs.Words.{all_of, app_of, fault_of, first_of, found_of, is_simple, is_simple_and_free, matches_of, rows_of};
 ghost use Rattle.klp_arguments.specs.Asked.{is_given, lint_asked, module_asked, page_asked, see_asked, watch_asked, Ends, EndsBy, EndsWith};
 ghost use Rattle.klp_arguments.specs.Asked.{lint_meaning, module_meaning, page_meaning, see_meaning, watch_meaning};
-ghost use Rattle.klp_arguments.specs.Asked.{go_together, linted_in, modules_in, paged_in, question_of, seen_in, values_in, watched_in};
+ghost use Rattle.klp_arguments.specs.Asked.{go_together, has_kernel, linted_in, modules_in, paged_in, question_of, seen_in, values_in, watched_in};
 ghost use Rattle.klp_arguments.specs.Commands.{lint_app, module_app, page_app, see_app, watch_app};
 
 use crate::asked::{LintWords, ModuleQuestion, ModuleWords, PageWords, SeeWords, WatchWords};
 use crate::commands::{
-    CATALOG, FOLDER, FOLLOW, JSON, LIST, LOG, MATRIX, METRICS, NAMES, PATCH, SCRIPT, SYMBOLS,
-    TRACE, lint_command, module_command, page_command, see_command, watch_command,
+    CATALOG, FOLDER, FOLLOW, JSON, LIST, LOG, MATRIX, METRICS, MODULE, NAMES, PATCH, SCRIPT,
+    SYMBOLS, TRACE, TRACEABLE, lint_command, module_command, page_command, see_command,
+    watch_command,
 };
 use crate::ending::Ending;
 use crate::program::Program;
@@ -260,16 +261,23 @@ fn question_of(
     lists: bool,
     compares: bool,
     is_json: bool,
-    has_symbols: bool,
+    has_kernel: bool,
 ) -> Option<ModuleQuestion>
-    ensures { result ≡ question_of lists compares is_json has_symbols }
+    ensures { result ≡ question_of lists compares is_json has_kernel }
 {
-    match (lists, compares, is_json, has_symbols) {
+    match (lists, compares, is_json, has_kernel) {
         (true, false, _, false) => Some(ModuleQuestion::List),
         (false, true, _, false) => Some(ModuleQuestion::Matrix),
         (false, false, false, _) => Some(ModuleQuestion::Catalog),
         _ => None,
     }
+}
+
+/// Whether files say something of the kernel: its symbols, modules of it, or which functions can be traced.
+fn has_kernel(symbols: Option<&str>, objects: &[&str], traceable: Option<&str>) -> bool
+    ensures { result ≡ has_kernel (option_map (λ s. s.now) symbols.entry) (map (λ o. o.now) objects.now) (option_map (λ t. t.now) traceable.entry) }
+{
+    symbols.is_some() || !objects.is_empty() || traceable.is_some()
 }
 
 /// Returns from the matched arguments of klpko which modules it is to read, what it is to say of them, and the form of
@@ -282,7 +290,12 @@ fn modules<'a>(
 {
     let (is_json, symbols) = (is_given(matches, JSON), value_of(matches, SYMBOLS));
     let (lists, compares) = (is_given(matches, LIST), is_given(matches, MATRIX));
-    let Some(question) = question_of(lists, compares, is_json, symbols.is_some()) else {
+    let (objects, traceable) = (
+        values_of(alloc, matches, MODULE)?,
+        value_of(matches, TRACEABLE),
+    );
+    let has_kernel = has_kernel(symbols, &objects, traceable);
+    let Some(question) = question_of(lists, compares, is_json, has_kernel) else {
         return Ok(None);
     };
     Ok(Some(ModuleWords {
@@ -290,6 +303,8 @@ fn modules<'a>(
         question,
         is_json,
         symbols,
+        objects,
+        traceable,
     }))
 }
 

@@ -13,15 +13,12 @@ use crate::row::{Relocation, Section, SectionKind, relocation_at};
 use crate::table::{ROW, bytes_of, is_ragged};
 use std::alloc::Global;
 
-/// The flag of a section that is loaded.
-const ALLOC: u64 = 2;
-
 /// Whether a table has relocations of a section that is loaded. A kernel leaves the others out.
 fn is_applied(sections: &[Section], table: &Section) -> bool
     ensures { result ≡ is_applied sections.now table.now }
 {
     match (table.kind, sections.get(table.info as usize)) {
-        (SectionKind::Relocations, Some(changed)) => changed.flags & ALLOC != 0,
+        (SectionKind::Relocations, Some(changed)) => changed.is_loaded(),
         _ => false,
     }
 }

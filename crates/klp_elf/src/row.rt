@@ -1,7 +1,8 @@
 //! The rows of a file's tables: sections, symbols and relocations.
-ghost use Rattle.std.specs.Prelude.{◌≡◌, ◌≤◌, ◌<◌, ◌+◌, ◌^◌, length};
+ghost use Rattle.std.specs.Prelude.{◌≡◌, ◌≤◌, ◌<◌, ◌+◌, ◌^◌, length, Some};
 ghost use Rattle.klp_elf.specs.Rows.{relocation_at, section_at, section_kind, symbol_at, symbol_kind, symbol_section};
 ghost use Rattle.klp_elf.specs.Rows.{relocation_kind};
+ghost use Rattle.klp_elf.specs.Tables.{is_loaded};
 
 use crate::number::{u16_at, u32_at, u64_at};
 
@@ -31,6 +32,18 @@ pub struct Section {
     /// Of relocations: the number of the section that they change.
     pub info: u32,
     pub entry_size: u64,
+}
+
+/// The flag of a section that is loaded.
+const ALLOC: u64 = 2;
+
+impl Section {
+    /// Whether the section is in memory once the module is loaded.
+    pub fn is_loaded(&self) -> bool
+        ensures { result ≡ is_loaded (Some self.now) }
+    {
+        self.flags & ALLOC != 0
+    }
 }
 
 /// What a symbol stands for, as far as this crate reads it.

@@ -60,6 +60,56 @@ fn livepatch_of<'a>(
     })
 }
 
+/// Reads a module's file. If it can't be read, writes to `err` why, as a line of the program.
+fn read_elf<'a, E: Write>(
+    alloc: Global,
+    program: &str,
+    file: &str,
+    bytes: &'a [u8],
+    err: &mut E,
+) -> Option<Elf<'a>> {
+    let name = Escaped(file.as_bytes());
+    if MAX_FILE < bytes.len() {
+        let _ = writeln!(err, "{program}: {name}: it has over {MAX_FILE} bytes");
+        return None;
+    }
+    match Elf::read(alloc, bytes) {
+        Ok(elf) => Some(elf),
+        Err(fault) => {
+            let words = FileWords { bytes, fault };
+            let _ = writeln!(err, "{program}: {name}: {words}");
+            None
+        }
+    }
+}
+
+/// A module whose functions livepatches may change, by its file.
+#[derive(Drop)]
+pub struct TargetModule<'a> {
+    /// The name under which a kernel lists the module.
+    pub name: &'a [u8],
+    pub elf: Elf<'a>,
+}
+
+/// Reads a module that livepatches may change. If it can't be read, writes to `err` why, as a line of the program.
+pub fn read_target<'a, E: Write>(
+    alloc: Global,
+    program: &str,
+    file: &str,
+    bytes: &'a [u8],
+    err: &mut E,
+) -> Option<TargetModule<'a>> {
+    let elf = read_elf(alloc, program, file, bytes, err)?;
+    let Some(name) = info_of(&elf).name else {
+        let fault = ModuleFault::NoName;
+        let words = ModuleFaultWords { elf: &elf, fault };
+        let name = Escaped(file.as_bytes());
+        let _ = writeln!(err, "{program}: {name}: {words}");
+        return None;
+    };
+    Some(TargetModule { name, elf })
+}
+
 /// Reads the livepatch of a module's file. If it can't be read, writes to `err` why, as a line of the program.
 pub fn read_livepatch<'a, E: Write>(
     alloc: Global,
@@ -68,19 +118,8 @@ pub fn read_livepatch<'a, E: Write>(
     bytes: &'a [u8],
     err: &mut E,
 ) -> Option<Livepatch<'a>> {
+    let elf = read_elf(alloc, program, file, bytes, err)?;
     let name = Escaped(file.as_bytes());
-    if MAX_FILE < bytes.len() {
-        let _ = writeln!(err, "{program}: {name}: it has over {MAX_FILE} bytes");
-        return None;
-    }
-    let elf = match Elf::read(alloc, bytes) {
-        Ok(elf) => elf,
-        Err(fault) => {
-            let words = FileWords { bytes, fault };
-            let _ = writeln!(err, "{program}: {name}: {words}");
-            return None;
-        }
-    };
     match livepatch_of(alloc, file, &elf) {
         Ok(livepatch) => Some(livepatch),
         Err(fault) => {

@@ -38,7 +38,7 @@ fn is_handler(row: &KernelRow<'_>) -> bool {
 /// Returns the address of the handler.
 fn handler_of(rows: &[KernelRow<'_>]) -> u64 {
     match rows.iter().find(|row| is_handler(row)) {
-        Some(row) => row.address,
+        Some(row) => row.address.unwrap_or(HANDLER),
         None => HANDLER,
     }
 }
@@ -69,16 +69,11 @@ pub(crate) fn write_objects(
 ) -> Result<usize, AllocError> {
     let handler = handler_of(rows);
     writeln!(text, "handler {handler:x}")?;
-    let why = if rows.is_empty() {
-        "no symbols of a kernel were given"
-    } else {
-        "the kernel has no symbols of it: it isn't loaded"
-    };
     let mut count: usize = 0;
     for (number, object) in objects.iter().enumerate() {
         writeln!(text, "object {}", Escaped(object.name))?;
         if object.is_made_up && !object.symbols.is_empty() {
-            writeln!(text, "#? assumed {why}")?;
+            writeln!(text, "#? assumed no symbols of it are given")?;
             count = count.saturating_add(1);
         }
         write_symbols(text, number, object)?;

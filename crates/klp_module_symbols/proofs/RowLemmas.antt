@@ -1,45 +1,46 @@
 -- The rows of a kernel's symbols, line by line.
-use Rattle.std.proofs.Common.{◌≡◌, ℕ, suc, Bool, true, false, ◌||◌, ◌&&◌, map, if◌then◌else◌, List, [], ◌∷◌, ◌++◌, Option, Some, None, ◌⊎◌, inl, inr, refl, sym, ap, ◌∙◌, append_assoc}
+use Rattle.std.proofs.Common.{◌≡◌, ℕ, suc, Bool, true, false, ◌||◌, ◌&&◌, map, if◌then◌else◌, List, [], ◌∷◌, ◌++◌, Option, Some, None, option_map, ◌⊎◌, inl, inr, refl, sym, ap, ◌∙◌, append_assoc}
 use Rattle.std.specs.List.{filter_map, list_all, list_any}
 use Rattle.std.proofs.lemmas.List.Elements.{filter_map-append}
-use Rattle.klp_module_symbols.specs.Kernel.{RowFacts, are_unknown, first_bad, is_bad, row_of_line, unless_bad}
+use Rattle.klp_module_symbols.specs.Kernel.{RowFacts, are_unknown, first_bad, unless_bad}
 use Rattle.klp_module_symbols.specs.declared.rows.RowsFault.{RowsFault}
-use Rattle.klp_module_symbols.specs.declared.rows.RowsFault.TheVariants.{BadLine, NoMemory, NoAddresses}
+use Rattle.klp_module_symbols.specs.declared.rows.RowsFault.TheVariants.{NoMemory, NoAddresses}
 
--- a line was read, and its row added
-pub rows_done : (before after : List RowFacts) (line : List ℕ) (lines more : List (List ℕ)) (whole : List RowFacts)
-    → after ≡ before ++ filter_map row_of_line (line ∷ []) → lines ≡ line ∷ more → before ++ filter_map row_of_line lines ≡ whole
-    → after ++ filter_map row_of_line more ≡ whole
-rows_done before after line lines more whole added cut so_far =
-    ap (λ (all : List RowFacts). all ++ filter_map row_of_line more) added
-    ∙ append_assoc before (filter_map row_of_line (line ∷ [])) (filter_map row_of_line more)
-    ∙ ap (λ (all : List RowFacts). before ++ all) (sym (filter_map-append row_of_line (line ∷ []) more))
-    ∙ ap (λ (ls : List (List ℕ)). before ++ filter_map row_of_line ls) (sym cut)
+-- a line was read, and what it has was added
+pub lines_done : {R : Type 0} (read : List ℕ → Option R) (before after : List R) (line : List ℕ) (lines more : List (List ℕ)) (whole : List R)
+    → after ≡ before ++ filter_map read (line ∷ []) → lines ≡ line ∷ more → before ++ filter_map read lines ≡ whole
+    → after ++ filter_map read more ≡ whole
+lines_done {R} read before after line lines more whole added cut so_far =
+    ap (λ (all : List R). all ++ filter_map read more) added
+    ∙ append_assoc before (filter_map read (line ∷ [])) (filter_map read more)
+    ∙ ap (λ (all : List R). before ++ all) (sym (filter_map-append read (line ∷ []) more))
+    ∙ ap (λ (ls : List (List ℕ)). before ++ filter_map read ls) (sym cut)
     ∙ so_far
 
 -- a line was read that isn't bad
-pub good_done : (number next : ℕ) (line : List ℕ) (lines more : List (List ℕ)) (whole : Option RowsFault)
-    → next ≡ suc number → is_bad line ≡ false → lines ≡ line ∷ more → first_bad number lines ≡ whole → first_bad next more ≡ whole
-good_done number next line lines more whole is_next fine cut so_far =
-    ap (λ (n : ℕ). first_bad n more) is_next
-    ∙ sym (ap (λ (b : Bool). if b then Some (BadLine number) else first_bad (suc number) more) fine)
-    ∙ ap (λ (ls : List (List ℕ)). first_bad number ls) (sym cut)
+pub good_done : (bad : List ℕ → Bool) (number next : ℕ) (line : List ℕ) (lines more : List (List ℕ)) (whole : Option ℕ)
+    → next ≡ suc number → bad line ≡ false → lines ≡ line ∷ more → first_bad bad number lines ≡ whole → first_bad bad next more ≡ whole
+good_done bad number next line lines more whole is_next fine cut so_far =
+    ap (λ (n : ℕ). first_bad bad n more) is_next
+    ∙ sym (ap (λ (b : Bool). if b then Some number else first_bad bad (suc number) more) fine)
+    ∙ ap (λ (ls : List (List ℕ)). first_bad bad number ls) (sym cut)
     ∙ so_far
 
-bad_here : (number : ℕ) (line : List ℕ) (lines more : List (List ℕ)) (whole : Option RowsFault)
-    → is_bad line ≡ true → lines ≡ line ∷ more → first_bad number lines ≡ whole → whole ≡ Some (BadLine number)
-bad_here number line lines more whole bad cut so_far =
+bad_here : (bad : List ℕ → Bool) (number : ℕ) (line : List ℕ) (lines more : List (List ℕ)) (whole : Option ℕ)
+    → bad line ≡ true → lines ≡ line ∷ more → first_bad bad number lines ≡ whole → whole ≡ Some number
+bad_here bad number line lines more whole is_bad cut so_far =
     sym so_far
-    ∙ ap (λ (ls : List (List ℕ)). first_bad number ls) cut
-    ∙ ap (λ (b : Bool). if b then Some (BadLine number) else first_bad (suc number) more) bad
+    ∙ ap (λ (ls : List (List ℕ)). first_bad bad number ls) cut
+    ∙ ap (λ (b : Bool). if b then Some number else first_bad bad (suc number) more) is_bad
 
 -- memory ran out at a line, or the line is the first bad one
-pub stopped : (number : ℕ) (line : List ℕ) (lines more : List (List ℕ)) (whole : Option RowsFault) (fault : RowsFault)
-    → (fault ≡ NoMemory) ⊎ ((fault ≡ BadLine number) × (is_bad line ≡ true)) → lines ≡ line ∷ more → first_bad number lines ≡ whole
-    → (fault ≡ NoMemory) ⊎ (whole ≡ Some fault)
-stopped number line lines more whole fault (inl memory) cut so_far = inl memory
-stopped number line lines more whole fault (inr bad) cut so_far =
-    inr (bad_here number line lines more whole bad.1 cut so_far ∙ ap (λ (f : RowsFault). Some f) (sym bad.0))
+pub stopped : {F : Type 0} (memory : F) (at_line : ℕ → F) (bad : List ℕ → Bool) (number : ℕ) (line : List ℕ) (lines more : List (List ℕ))
+    (whole : Option ℕ) (fault : F)
+    → (fault ≡ memory) ⊎ ((fault ≡ at_line number) × (bad line ≡ true)) → lines ≡ line ∷ more → first_bad bad number lines ≡ whole
+    → (fault ≡ memory) ⊎ (option_map at_line whole ≡ Some fault)
+stopped memory at_line bad number line lines more whole fault (inl ran_out) cut so_far = inl ran_out
+stopped {F} memory at_line bad number line lines more whole fault (inr is_bad) cut so_far =
+    inr (ap (option_map at_line) (bad_here bad number line lines more whole is_bad.1 cut so_far) ∙ ap (λ (f : F). Some f) (sym is_bad.0))
 
 -- a bad line is the fault of all
 pub faulty : (first : Option RowsFault) (rows : List RowFacts) (fault : RowsFault)

@@ -1,5 +1,5 @@
 -- The symbols of a kernel, as /proc/kallsyms lists them.
-use Rattle.std.specs.Prelude.{ℕ, ◌-◌, suc, ◌==◌, ◌&&◌, ◌||◌, Bool, bytes_eq, codes, nat_lt, if◌then◌else◌, List, [], ◌∷◌, length, slice_index, slice_range, Option, Some, None, is_none}
+use Rattle.std.specs.Prelude.{ℕ, ◌-◌, suc, ◌==◌, ◌&&◌, ◌||◌, Bool, bytes_eq, codes, nat_lt, if◌then◌else◌, List, [], ◌∷◌, length, slice_index, slice_range, false, Option, Some, None, is_none, option_map}
 use Rattle.std.specs.List.{filter_map, list_all}
 use Rattle.std.specs.Str.Lines.{lines}
 use Rattle.klp_words.specs.Words.{hexadecimal_of}
@@ -8,9 +8,9 @@ use Rattle.klp_module_symbols.specs.declared.rows.KernelRow.{KernelRow}
 use Rattle.klp_module_symbols.specs.declared.rows.RowsFault.{RowsFault}
 use Rattle.klp_module_symbols.specs.declared.rows.RowsFault.TheVariants.{BadLine, NoAddresses}
 
--- a symbol of a kernel, with the name of its object
+-- a symbol of a kernel, with the name of its object. That of a module's file has no address
 pub record RowFacts : Type 0 where
-  pub address : ℕ
+  pub address : Option ℕ
   pub is_function : Bool
   pub name : List ℕ
   pub object : List ℕ
@@ -35,7 +35,7 @@ object_of_words (word ∷ words) = bracketed word
 
 abbrev pub row_with : List ℕ → List ℕ → ℕ → Option (List ℕ) → Option RowFacts
 row_with letter name address None = None
-row_with letter name address (Some object) = Some (record { address = address; is_function = is_function_letter letter; name = name; object = object })
+row_with letter name address (Some object) = Some (record { address = Some address; is_function = is_function_letter letter; name = name; object = object })
 
 abbrev pub row_at : List ℕ → List ℕ → List (List ℕ) → Option ℕ → Option RowFacts
 row_at letter name words None = None
@@ -57,14 +57,18 @@ rows_of text = filter_map row_of_line (lines text)
 abbrev pub is_bad : List ℕ → Bool
 is_bad line = nat_lt 0 (length line) && is_none (row_of_line line)
 
--- the first line that is bad; the first of the list has this number
-abbrev pub first_bad : ℕ → List (List ℕ) → Option RowsFault
-first_bad number [] = None
-first_bad number (line ∷ lines) = if is_bad line then Some (BadLine number) else first_bad (suc number) lines
+-- the number of the first line that is bad; the first of the list has this number
+abbrev pub first_bad : (List ℕ → Bool) → ℕ → List (List ℕ) → Option ℕ
+first_bad bad number [] = None
+first_bad bad number (line ∷ lines) = if bad line then Some number else first_bad bad (suc number) lines
+
+abbrev pub is_zero : Option ℕ → Bool
+is_zero (Some address) = address == 0
+is_zero None = false
 
 -- there are rows, and all have the address 0
 abbrev pub are_unknown : List RowFacts → Bool
-are_unknown rows = nat_lt 0 (length rows) && list_all (λ (r : RowFacts). r.address == 0) rows
+are_unknown rows = nat_lt 0 (length rows) && list_all (λ (r : RowFacts). is_zero r.address) rows
 
 abbrev pub unless_bad : Option RowsFault → List RowFacts → Option RowsFault
 unless_bad (Some fault) rows = Some fault
@@ -72,4 +76,4 @@ unless_bad None rows = if are_unknown rows then Some NoAddresses else None
 
 -- The first reason why a text isn't the list of a kernel's symbols: a line that is none, or addresses that only root reads.
 abbrev pub rows_fault : List ℕ → Option RowsFault
-rows_fault text = unless_bad (first_bad 1 (lines text)) (rows_of text)
+rows_fault text = unless_bad (option_map BadLine (first_bad is_bad 1 (lines text))) (rows_of text)

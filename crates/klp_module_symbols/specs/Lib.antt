@@ -1,2 +1,4 @@
+pub mod Files
 pub mod Kernel
 pub mod Symbols
+pub mod Traceable

@@ -1,5 +1,5 @@
 -- Which symbols a catalog of livepatches has.
-use Rattle.std.specs.Prelude.{ℕ, ◌++◌, ◌&&◌, not, max, Bool, true, bytes_eq, codes, if◌then◌else◌, List, [], ◌∷◌, map, filter, replicate, Option, Some, None}
+use Rattle.std.specs.Prelude.{ℕ, ◌++◌, ◌&&◌, not, max, Bool, true, bytes_eq, codes, if◌then◌else◌, List, [], ◌∷◌, map, filter, replicate, Option, None}
 use Rattle.std.specs.List.{flat_map, fold, list_any}
 use Rattle.klp_module_matrix.specs.Names.{name_of_row, object_name}
 use Rattle.klp_tables.specs.declared.patch.Object.{Object}
@@ -70,7 +70,7 @@ abbrev pub is_row_of : Change → RowFacts → Bool
 is_row_of symbol row = bytes_eq row.object (object_name symbol.object) && bytes_eq row.name symbol.name
 
 abbrev pub known_symbol : RowFacts → SymbolFacts
-known_symbol row = record { name = row.name; address = Some row.address; is_function = row.is_function }
+known_symbol row = record { name = row.name; address = row.address; is_function = row.is_function }
 
 abbrev pub made_up : Change → SymbolFacts
 made_up symbol = record { name = symbol.name; address = None; is_function = true }

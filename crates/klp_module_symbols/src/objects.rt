@@ -16,7 +16,7 @@ use std::alloc::{AllocError, Global};
 #[derive(Clone, Copy)]
 pub struct CatalogSymbol<'a> {
     pub name: &'a [u8],
-    /// Its address in the kernel. One that is made up has none.
+    /// Its address in the kernel. One that is made up or of a module's file has none.
     pub address: Option<u64>,
     pub is_function: bool,
 }
@@ -49,7 +49,7 @@ fn has_object(rows: &[KernelRow<'_>], object: &[u8]) -> bool
 }
 
 /// Whether a kernel has any symbol of an object.
-fn is_known(rows: &[KernelRow<'_>], object: &[u8]) -> bool
+pub(crate) fn is_known(rows: &[KernelRow<'_>], object: &[u8]) -> bool
     ensures { result ≡ is_known (map row_meaning rows.now) object.now }
 {
     has_object(rows, object)
@@ -68,7 +68,7 @@ fn add_known<'a>(
         if is_row_of(symbol, row) {
             symbols.push(CatalogSymbol {
                 name: row.name,
-                address: Some(row.address),
+                address: row.address,
                 is_function: row.is_function,
             })?;
         }

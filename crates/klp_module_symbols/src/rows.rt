@@ -3,7 +3,7 @@ ghost use Rattle.std.specs.Prelude.{◌≡◌, ◌==◌, ◌⊎◌, ◌++◌, �
 ghost use Rattle.std.specs.List.{filter_map, list_all};
 ghost use Rattle.klp_module_symbols.specs.declared.rows.KernelRow.{KernelRow};
 ghost use Rattle.std.specs.Str.Lines.{lines};
-ghost use Rattle.klp_module_symbols.specs.Kernel.{RowFacts, are_unknown, bracketed, first_bad, is_bad, is_function_letter, row_meaning, row_of_line, rows_fault, rows_of};
+ghost use Rattle.klp_module_symbols.specs.Kernel.{RowFacts, are_unknown, bracketed, first_bad, is_bad, is_function_letter, is_zero, row_meaning, row_of_line, rows_fault, rows_of};
 ghost use Rattle.klp_module_symbols.specs.declared.rows.RowsFault.TheVariants.{BadLine, NoMemory};
 
 use klp_catalog_text::{Lines, words_of};
@@ -56,8 +56,9 @@ impl<T: Drop> From<AllocFailed<T>> for RowsFault {
 /// A symbol of a kernel.
 #[derive(Clone, Copy)]
 pub struct KernelRow<'s> {
-    pub address: u64,
-    /// Whether its letter is that of a function. Data counts for positions too.
+    /// Its address. A symbol of a module's file has none.
+    pub address: Option<u64>,
+    /// Whether it is a function. Data counts for positions too.
     pub is_function: bool,
     pub name: &'s [u8],
     /// The name of its object.
@@ -65,7 +66,7 @@ pub struct KernelRow<'s> {
 }
 
 /// Returns the name between the brackets of a module's word.
-fn bracketed(word: &[u8]) -> Option<&[u8]>
+pub(crate) fn bracketed(word: &[u8]) -> Option<&[u8]>
     ensures { option_map (λ n. n.now) result ≡ bracketed word.now }
 {
     let length = word.len();
@@ -101,21 +102,30 @@ fn row_of_line(line: &[u8]) -> Option<KernelRow<'_>>
         None => IMAGE,
     };
     Some(KernelRow {
-        address,
+        address: Some(address),
         is_function: is_function_letter(letter),
         name,
         object,
     })
 }
 
-fn are_zero(rows: &[KernelRow<'_>]) -> bool
-    ensures { result ≡ list_all (λ (r : KernelRow). r.address == 0) rows.now }
+fn is_zero(address: Option<u64>) -> bool
+    ensures { result ≡ is_zero address }
 {
-    rows.iter().all(|row| row.address == 0)
+    match address {
+        Some(address) => address == 0,
+        None => false,
+    }
+}
+
+fn are_zero(rows: &[KernelRow<'_>]) -> bool
+    ensures { result ≡ list_all (λ (r : KernelRow). is_zero r.address) rows.now }
+{
+    rows.iter().all(|row| is_zero(row.address))
 }
 
 fn have_zero(rows: &[KernelRow<'_>]) -> bool
-    ensures { result ≡ list_all (λ (r : RowFacts). r.address == 0) (map row_meaning rows.now) }
+    ensures { result ≡ list_all (λ (r : RowFacts). is_zero r.address) (map row_meaning rows.now) }
 {
     are_zero(rows)
 }
@@ -146,8 +156,8 @@ fn add_row<'s>(rows: &mut Vec<KernelRow<'s>>, line: &'s [u8], number: u64) -> Re
 /// Reads all lines, without a look at the addresses.
 fn rows_in(alloc: Global, text: &[u8]) -> Result<Vec<KernelRow<'_>>, RowsFault>
     ensures { MatchResult result
-        (λ rows. (map row_meaning rows.items ≡ rows_of text.now) × (first_bad 1 (lines text.now) ≡ None))
-        (λ fault. (fault ≡ NoMemory) ⊎ (first_bad 1 (lines text.now) ≡ Some fault)) }
+        (λ rows. (map row_meaning rows.items ≡ rows_of text.now) × (first_bad is_bad 1 (lines text.now) ≡ None))
+        (λ fault. (fault ≡ NoMemory) ⊎ (option_map BadLine (first_bad is_bad 1 (lines text.now)) ≡ Some fault)) }
 {
     let mut rows = Vec::new(alloc);
     let mut number: u64 = 1;

@@ -3,103 +3,26 @@
 //! Or it writes a catalog that says what the tables say.
 #![tactic(auto)]
 
+mod files;
+mod kernel;
+
+use crate::files::{FAULT, File, Files, NAME, files_in, out_of_memory};
+use crate::kernel::{can_patch, kernel_in, targets_in};
 use klp_arguments::{ModuleQuestion, ModuleWords, Program, given_words, module_words};
-use klp_diagnostics::{STANDARD_INPUT, file_in, only_one_input};
 use klp_messages::Escaped;
 use klp_module_answer::{Form, Livepatch, compare, list, read_livepatch};
 use klp_module_catalog::{
     CatalogFault, Draft, FaultWords, NamedPatch, Unknown, draft_of, is_catalog_of,
 };
-use klp_module_symbols::{KernelRow, RowsFault, read_rows};
-use klp_tables::MAX_PATCHES;
+use klp_module_symbols::KernelRow;
 use std::alloc::{AllocError, Global};
 use std::io;
 use std::io::Write;
 
-const NAME: &str = "klpko";
-
-/// The exit status without findings, of a fault, and with findings.
+/// The exit status without findings, and with findings.
 const CLEAN: u8 = 0;
 
-const FAULT: u8 = 1;
-
 const FINDINGS: u8 = 3;
-
-/// A file, with what it has.
-#[derive(Drop)]
-struct File<'w> {
-    path: &'w str,
-    bytes: Vec<u8>,
-}
-
-/// Reads all files. Returns the exit status as `Err` if one can't be read, or if there are too many.
-fn files_in<'w, E: Write>(
-    rt: &HostRuntime,
-    paths: &[&'w str],
-    err: &mut E,
-) -> Result<Vec<File<'w>>, u8> {
-    if MAX_PATCHES < paths.len() {
-        let count = paths.len();
-        let _ = writeln!(
-            err,
-            "{NAME}: {count} files are given, and {MAX_PATCHES} are the most"
-        );
-        return Err(FAULT);
-    }
-    if 1 < paths.iter().filter(|path| **path == STANDARD_INPUT).count() {
-        only_one_input(NAME, STANDARD_INPUT, STANDARD_INPUT, err)?;
-    }
-    let mut files = Vec::new(rt.alloc());
-    for path in paths {
-        let bytes = file_in(rt, NAME, path, err)?;
-        if files.push(File { path: *path, bytes }).is_err() {
-            return Err(out_of_memory(err));
-        }
-    }
-    Ok(files)
-}
-
-/// Reads the file of the kernel's symbols, if it is given. Returns the exit status as `Err` if it can't be read.
-fn symbols_in<'w, E: Write>(
-    rt: &HostRuntime,
-    words: &ModuleWords<'w>,
-    err: &mut E,
-) -> Result<Option<File<'w>>, u8> {
-    let Some(path) = words.symbols else {
-        return Ok(None);
-    };
-    if words.modules.contains(&STANDARD_INPUT) {
-        only_one_input(NAME, path, STANDARD_INPUT, err)?;
-    }
-    let bytes = file_in(rt, NAME, path, err)?;
-    Ok(Some(File { path, bytes }))
-}
-
-/// Returns the symbols of a kernel, none if none are given. Returns the exit status as `Err` if they are faulty.
-fn rows_in<'s, E: Write>(
-    alloc: Global,
-    symbols: Option<&'s File<'_>>,
-    err: &mut E,
-) -> Result<Vec<KernelRow<'s>>, u8> {
-    let Some(file) = symbols else {
-        return Ok(Vec::new(alloc));
-    };
-    match read_rows(alloc, &file.bytes) {
-        Ok(rows) => Ok(rows),
-        Err(RowsFault::NoMemory) => Err(out_of_memory(err)),
-        Err(fault) => {
-            let path = Escaped(file.path.as_bytes());
-            let _ = writeln!(err, "{NAME}: {path}: {fault}");
-            Err(FAULT)
-        }
-    }
-}
-
-/// Writes that memory ran out, and returns the exit status.
-fn out_of_memory<E: Write>(err: &mut E) -> u8 {
-    let _ = writeln!(err, "{NAME}: memory ran out");
-    FAULT
-}
 
 /// Returns the livepatch of the same name, if one was read before.
 fn same_named<'l, 'a>(livepatches: &'l [Livepatch<'a>], name: &[u8]) -> Option<&'l Livepatch<'a>> {
@@ -113,7 +36,7 @@ struct Livepatches<'a> {
     are_all: bool,
 }
 
-/// Reads the livepatches of all files. Writes to `err` what is wrong with each other file.
+/// Reads the livepatches of their files. Writes to `err` what is wrong with each other file.
 fn livepatches_in<'f, E: Write>(
     alloc: Global,
     files: &'f [File<'_>],
@@ -214,23 +137,30 @@ fn catalog_of<E: Write>(
     }
 }
 
-/// Writes a catalog of the livepatches. Returns whether all of it is known, or the exit status as `Err`.
+/// Writes a catalog of the livepatches. Returns whether all of it is known and the kernel can patch all functions, or the
+/// exit status as `Err`.
 fn write_catalog<W: Write, E: Write>(
     alloc: Global,
     livepatches: &[Livepatch<'_>],
-    symbols: Option<&File<'_>>,
+    files: &Files<'_>,
     out: &mut W,
     err: &mut E,
 ) -> io::Result<Result<bool, u8>> {
-    let rows = match rows_in(alloc, symbols, err) {
-        Ok(rows) => rows,
+    let targets = match targets_in(alloc, files, err) {
+        Ok(targets) => targets,
         Err(status) => return Ok(Err(status)),
     };
-    match catalog_of(alloc, livepatches, &rows, err) {
+    let kernel = match kernel_in(alloc, files, &targets, err) {
+        Ok(kernel) => kernel,
+        Err(status) => return Ok(Err(status)),
+    };
+    match catalog_of(alloc, livepatches, &kernel.rows, err) {
         Ok(draft) => {
             out.write_all(draft.text.as_bytes())?;
             out.flush()?;
-            Ok(Ok(tell_unknown(draft.unknown, err)))
+            let is_known = tell_unknown(draft.unknown, err);
+            let can_all = can_patch(alloc, &kernel, livepatches, err)?;
+            Ok(Ok(is_known && can_all))
         }
         Err(status) => Ok(Err(status)),
     }
@@ -241,7 +171,7 @@ fn answer<W: Write, E: Write>(
     alloc: Global,
     words: &ModuleWords<'_>,
     read: &Livepatches<'_>,
-    symbols: Option<&File<'_>>,
+    files: &Files<'_>,
     out: &mut W,
     err: &mut E,
 ) -> u8 {
@@ -255,7 +185,7 @@ fn answer<W: Write, E: Write>(
         ModuleQuestion::List => list(alloc, livepatches, form, out).map(Ok),
         _ if !read.are_all => return FAULT,
         ModuleQuestion::Matrix => compare(alloc, livepatches, form, out).map(Ok),
-        ModuleQuestion::Catalog => write_catalog(alloc, livepatches, symbols, out, err),
+        ModuleQuestion::Catalog => write_catalog(alloc, livepatches, files, out, err),
     };
     match written {
         Ok(Err(status)) => status,
@@ -275,13 +205,9 @@ fn status_in(rt: &HostRuntime) -> Result<u8, u8> {
     let (mut out, mut err) = (io::writer(rt), rt.stderr());
     let given = given_words(rt, Program::Klpko, &mut out, &mut err)?;
     let words = module_words(rt.alloc(), &given, &mut out, &mut err)?;
-    let files = files_in(rt, &words.modules, &mut err)?;
-    let symbols = symbols_in(rt, &words, &mut err)?;
-    match livepatches_in(rt.alloc(), &files, &mut err) {
-        Ok(read) => {
-            let symbols = symbols.as_ref();
-            Ok(answer(rt.alloc(), &words, &read, symbols, &mut out, &mut err))
-        }
+    let files = files_in(rt, &words, &mut err)?;
+    match livepatches_in(rt.alloc(), &files.livepatches, &mut err) {
+        Ok(read) => Ok(answer(rt.alloc(), &words, &read, &files, &mut out, &mut err)),
         Err(_) => Err(out_of_memory(&mut err)),
     }
 }

@@ -1,0 +1,178 @@
+//! What is known of the kernel for which a catalog is.
+use crate::files::{FAULT, File, Files, NAME, out_of_memory, tell_fault};
+use klp_messages::Escaped;
+use klp_module_answer::{Livepatch, TargetModule, read_target};
+use klp_module_matrix::{name_of_row, object_name};
+use klp_module_symbols::{
+    KernelRow, RowsFault, TraceableFault, TraceableRow, add_file, is_judged, read_rows,
+    read_traceable, untraceable,
+};
+use std::alloc::{AllocError, Global};
+use std::io::Write;
+
+/// What is known of a kernel.
+#[derive(Drop)]
+pub(crate) struct Kernel<'k> {
+    /// Its symbols, and those of modules that aren't loaded.
+    pub(crate) rows: Vec<KernelRow<'k>>,
+    /// The path of the list of functions that it can trace, with these functions.
+    traceable: Option<Traceable<'k>>,
+}
+
+#[derive(Drop)]
+struct Traceable<'k> {
+    path: &'k str,
+    rows: Vec<TraceableRow<'k>>,
+}
+
+/// Reads the modules that livepatches may change. Returns the exit status as `Err` if one is faulty.
+pub(crate) fn targets_in<'f, E: Write>(
+    alloc: Global,
+    files: &'f Files<'_>,
+    err: &mut E,
+) -> Result<Vec<TargetModule<'f>>, u8> {
+    let mut targets = Vec::new(alloc);
+    for file in &files.targets {
+        let Some(target) = read_target(alloc, NAME, file.path, &file.bytes, err) else {
+            return Err(FAULT);
+        };
+        if targets.push(target).is_err() {
+            return Err(out_of_memory(err));
+        }
+    }
+    Ok(targets)
+}
+
+/// Returns the symbols of a kernel, none if none are given. Returns the exit status as `Err` if they are faulty.
+fn rows_in<'f, E: Write>(
+    alloc: Global,
+    symbols: Option<&'f File<'_>>,
+    err: &mut E,
+) -> Result<Vec<KernelRow<'f>>, u8> {
+    let Some(file) = symbols else {
+        return Ok(Vec::new(alloc));
+    };
+    match read_rows(alloc, &file.bytes) {
+        Ok(rows) => Ok(rows),
+        Err(RowsFault::NoMemory) => Err(out_of_memory(err)),
+        Err(fault) => Err(tell_fault(file.path, fault, err)),
+    }
+}
+
+/// Adds the symbols of modules to those of a kernel. Writes of which modules there are symbols already. Returns the exit
+/// status as `Err` if memory runs out.
+fn add_targets<'k, E: Write>(
+    rows: &mut Vec<KernelRow<'k>>,
+    targets: &[TargetModule<'k>],
+    err: &mut E,
+) -> Result<(), u8> {
+    for target in targets {
+        match add_file(rows, &target.elf, target.name) {
+            Ok(true) => {}
+            Ok(false) => {
+                let name = Escaped(target.name);
+                let _ = writeln!(
+                    err,
+                    "{NAME}: the symbols of {name} are there already, so its file isn't used"
+                );
+            }
+            Err(_) => return Err(out_of_memory(err)),
+        }
+    }
+    Ok(())
+}
+
+/// Returns the functions that a kernel can trace, if they are given. Returns the exit status as `Err` if they are faulty.
+fn traceable_in<'f, E: Write>(
+    alloc: Global,
+    traceable: Option<&'f File<'_>>,
+    err: &mut E,
+) -> Result<Option<Traceable<'f>>, u8> {
+    let Some(file) = traceable else {
+        return Ok(None);
+    };
+    match read_traceable(alloc, &file.bytes) {
+        Ok(rows) => Ok(Some(Traceable {
+            path: file.path,
+            rows,
+        })),
+        Err(TraceableFault::NoMemory) => Err(out_of_memory(err)),
+        Err(fault) => Err(tell_fault(file.path, fault, err)),
+    }
+}
+
+/// Reads what is known of a kernel. Returns the exit status as `Err` if a file is faulty, or if memory runs out.
+pub(crate) fn kernel_in<'k, E: Write>(
+    alloc: Global,
+    files: &'k Files<'_>,
+    targets: &[TargetModule<'k>],
+    err: &mut E,
+) -> Result<Kernel<'k>, u8> {
+    let mut rows = rows_in(alloc, files.symbols.as_ref(), err)?;
+    add_targets(&mut rows, targets, err)?;
+    let traceable = traceable_in(alloc, files.traceable.as_ref(), err)?;
+    Ok(Kernel { rows, traceable })
+}
+
+/// Writes of which objects of a livepatch the list has no function. Returns whether there are any.
+fn tell_unlisted<E: Write>(list: &Traceable<'_>, livepatch: &Livepatch<'_>, err: &mut E) -> bool {
+    let (path, file) = (
+        Escaped(list.path.as_bytes()),
+        Escaped(livepatch.file.as_bytes()),
+    );
+    let mut is_any = false;
+    for object in &livepatch.patch.objects {
+        let name = name_of_row(&object.row);
+        if !object.functions.is_empty() && !is_judged(&list.rows, name) {
+            is_any = true;
+            let name = Escaped(name);
+            let _ = writeln!(
+                err,
+                "{NAME}: {file}: {path} lists no function of {name}, so it isn't known which of them the kernel can patch"
+            );
+        }
+    }
+    is_any
+}
+
+/// Writes which functions of a livepatch a kernel can't patch. Returns whether there are any.
+fn tell_untraceable<E: Write>(
+    alloc: Global,
+    list: &Traceable<'_>,
+    livepatch: &Livepatch<'_>,
+    err: &mut E,
+) -> Result<bool, AllocError> {
+    let (path, file) = (
+        Escaped(list.path.as_bytes()),
+        Escaped(livepatch.file.as_bytes()),
+    );
+    let refused = untraceable(alloc, &list.rows, &livepatch.changed)?;
+    for change in &refused {
+        let (name, object) = (Escaped(change.name), Escaped(object_name(change.object)));
+        let _ = writeln!(
+            err,
+            "{NAME}: {file}: the kernel refuses the patch: {path} doesn't list {name} of {object}, so it can't be patched"
+        );
+    }
+    Ok(!refused.is_empty())
+}
+
+/// Writes what stands against the livepatches by the list of functions that the kernel can trace, if it is given. Returns
+/// whether nothing does.
+pub(crate) fn can_patch<E: Write>(
+    alloc: Global,
+    kernel: &Kernel<'_>,
+    livepatches: &[Livepatch<'_>],
+    err: &mut E,
+) -> Result<bool, AllocError> {
+    let Some(list) = &kernel.traceable else {
+        return Ok(true);
+    };
+    let mut can_all = true;
+    for livepatch in livepatches {
+        let is_refused = tell_untraceable(alloc, list, livepatch, err)?;
+        let is_unlisted = tell_unlisted(list, livepatch, err);
+        can_all = can_all && !is_refused && !is_unlisted;
+    }
+    Ok(can_all)
+}
