@@ -1,6 +1,6 @@
-//! The functions that the patches of a log change, and which patches are cumulative.
-use crate::named::{files_in, index_of, new_symbol_of};
-use klp_capture::{Capture, PatchRow};
+//! The functions that the patches of a log change.
+use crate::named::index_of;
+use klp_capture::PatchRow;
 use klp_types::{MAX_FUNCTIONS, MAX_OBJECTS, MAX_SITES, MAX_TARGETS};
 use std::alloc::{AllocError, Global};
 
@@ -100,42 +100,6 @@ pub(crate) fn found_in<'a>(
     Ok(found)
 }
 
-/// Whether older patches were gone when the transition of this patch completed. With `guesses`, it is enough that they
-/// were gone in the first sample that shows the patch enabled. They may have been disabled before, too.
-pub(crate) fn has_replaced(capture: &Capture<'_>, patch: &[u8], guesses: bool) -> bool {
-    let mut last: Option<usize> = None;
-    for (number, sample) in capture.samples.iter().enumerate() {
-        let after = sample.patches.of(&capture.rows);
-        if !sample.is_settled() {
-            continue;
-        }
-        if let Some(sample) = last.and_then(|last| capture.samples.get(last)) {
-            let before = sample.patches.of(&capture.rows);
-            let was_moving = files_in(before, patch) == Some((true, true))
-                || (guesses && files_in(before, patch) != Some((true, false)));
-            let completes = was_moving && files_in(after, patch) == Some((true, false));
-            if completes && has_lost_another(before, after, patch) {
-                return true;
-            }
-        }
-        last = Some(number);
-    }
-    false
-}
-
-fn has_lost_another(before: &[PatchRow<'_>], after: &[PatchRow<'_>], patch: &[u8]) -> bool {
-    for row in before {
-        if let PatchRow::Patch { name, .. } = row
-            && *name != patch
-            && files_in(before, name) == Some((true, false))
-            && files_in(after, name).is_none()
-        {
-            return true;
-        }
-    }
-    false
-}
-
 /// Whether another patch changes this function too.
 pub(crate) fn is_shared(found: &[FoundFunction<'_>], function: &FoundFunction<'_>) -> bool {
     found.iter().any(|other| {
@@ -143,35 +107,4 @@ pub(crate) fn is_shared(found: &[FoundFunction<'_>], function: &FoundFunction<'_
             && other.object == function.object
             && other.name == function.name
     })
-}
-
-/// Whether a patch has new functions, but has none for a function in its list that another patch changes too. A
-/// cumulative patch gives such a function back, and no other patch is like this. So the patch is known to be cumulative
-/// before its transition completes.
-fn gives_back(
-    capture: &Capture<'_>,
-    found: &[FoundFunction<'_>],
-    patch: usize,
-    name: &[u8],
-) -> bool {
-    let mut has_new = false;
-    let mut has_nop = false;
-    for function in found {
-        if function.patch == patch {
-            let is_new = new_symbol_of(&capture.symbols, name, function.name).is_some();
-            has_new = has_new || is_new;
-            has_nop = has_nop || (!is_new && is_shared(found, function));
-        }
-    }
-    has_new && has_nop
-}
-
-/// Whether the log shows that a patch is cumulative.
-pub(crate) fn is_cumulative(
-    capture: &Capture<'_>,
-    found: &[FoundFunction<'_>],
-    patch: usize,
-    name: &[u8],
-) -> bool {
-    has_replaced(capture, name, false) || gives_back(capture, found, patch, name)
 }

@@ -7,15 +7,17 @@
 //!
 //! `klp_capture_run` checks the trace against the rules, and compares the trace's task states and patch files with the
 //! log. The names, the functions that tasks are inside of, and the time of a force aren't compared. They come from this
-//! crate, which has no contracts.
+//! crate, which promises only what the files of patches read.
 #![tactic(auto)]
 
 mod catalog;
 mod changed_functions;
+mod cumulative;
 mod kernel_holders;
 mod kernel_log;
 mod named;
 mod sites;
+mod stack_order;
 mod transition;
 
 pub use kernel_holders::{KernelHolder, first_named, kernel_holders_in};

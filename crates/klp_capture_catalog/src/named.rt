@@ -1,6 +1,13 @@
 //! The names in a log: its patches, the functions that they change, and the versions of these functions that tasks are
 //! inside of.
-use crate::changed_functions::{FoundFunction, found_in, has_replaced, is_cumulative, is_shared};
+ghost use Rattle.std.specs.Prelude.{◌≡◌, ◌||◌, not, option_map};
+ghost use Rattle.std.specs.List.{find};
+ghost use Rattle.klp_capture.specs.Shown.{is_there_as};
+ghost use Rattle.klp_capture_catalog.specs.Rows.{files_of, is_moving, target_of};
+
+use crate::changed_functions::{FoundFunction, found_in, is_shared};
+use crate::cumulative::{is_cumulative, is_read_cumulative};
+use crate::stack_order::in_stack_order;
 use klp_capture::{Capture, FrameLine, PatchName, PatchRow, Span, SymbolLine, patch_in};
 use klp_types::{MAX_PATCHES, MAX_SITES, MAX_SYMBOL_NAME};
 use klp_words::is_name;
@@ -37,6 +44,17 @@ pub struct SeenPatch<'a> {
     pub name: &'a [u8],
     /// Whether the patch is cumulative. If the log doesn't show whether it is, the value is a guess.
     pub is_cumulative: bool,
+    /// Whether the log says itself whether it is, by the patch's file `replace`.
+    pub is_read: bool,
+}
+
+impl SeenPatch<'_> {
+    /// Whether the log doesn't deny that the patch is cumulative.
+    pub fn may_be_cumulative(&self) -> bool
+        ensures { result ≡ (self.now.is_cumulative || not self.now.is_read) }
+    {
+        self.is_cumulative || !self.is_read
+    }
 }
 
 /// A function that a patch changes, or that `klpcap` was asked to look for.
@@ -98,7 +116,9 @@ pub struct Functions<'a> {
 }
 
 /// Returns what the files of a patch read, by these rows. Returns `None` if the rows don't have the patch.
-pub fn files_in(rows: &[PatchRow<'_>], name: &[u8]) -> Files {
+pub fn files_in(rows: &[PatchRow<'_>], name: &[u8]) -> Files
+    ensures { result ≡ files_of (find (is_there_as name.now) rows.now) }
+{
     match patch_in(rows, name) {
         Some(
             PatchRow::Patch {
@@ -112,7 +132,9 @@ pub fn files_in(rows: &[PatchRow<'_>], name: &[u8]) -> Files {
 }
 
 /// Returns the patch that is in transition by these rows, with its target.
-pub fn moving_in<'a>(rows: &[PatchRow<'a>]) -> Option<(&'a [u8], bool)> {
+pub fn moving_in<'a>(rows: &[PatchRow<'a>]) -> Option<(&'a [u8], bool)>
+    ensures { option_map (λ moving. moving.1) result ≡ target_of (find is_moving rows.now) }
+{
     for row in rows {
         if let PatchRow::Patch {
             name,
@@ -177,7 +199,7 @@ fn first_rows<'c, 'a>(capture: &'c Capture<'a>) -> &'c [PatchRow<'a>] {
 }
 
 /// Returns the names of the patches, the oldest first. The patches of the first sample are ordered by the age of their
-/// modules.
+/// modules, and all by what the file `stack_order` reads, if the log has it.
 fn patches_of<'a>(alloc: Global, capture: &Capture<'a>) -> Result<Vec<&'a [u8]>, AllocError> {
     let mut names: Vec<&'a [u8]> = Vec::new(alloc);
     for row in first_rows(capture) {
@@ -197,17 +219,7 @@ fn patches_of<'a>(alloc: Global, capture: &Capture<'a>) -> Result<Vec<&'a [u8]>,
             let _ = index_of(&mut names, *name, MAX_PATCHES)?;
         }
     }
-    Ok(names)
-}
-
-/// Whether a patch may be cumulative, though the log doesn't show it: it is in transition in the last sample, or older
-/// patches went before it was first seen enabled.
-fn may_be_cumulative(capture: &Capture<'_>, patch: &[u8]) -> bool {
-    let last = capture.samples.last();
-    let is_last_moving = last
-        .and_then(|last| moving_in(last.patches.of(&capture.rows)))
-        .is_some_and(|(name, _target)| name == patch);
-    is_last_moving || has_replaced(capture, patch, true)
+    in_stack_order(alloc, capture, &names)
 }
 
 /// Returns the symbol of this name in the kernel itself, if there is exactly one.
@@ -276,11 +288,10 @@ impl<'a> Functions<'a> {
         };
         for name in &names {
             let patch = functions.patches.len();
-            let is_cumulative = is_cumulative(capture, &found.functions, patch, name)
-                || (guesses && may_be_cumulative(capture, *name));
             functions.patches.push(SeenPatch {
                 name: *name,
-                is_cumulative,
+                is_cumulative: is_cumulative(capture, &found.functions, patch, name, guesses),
+                is_read: is_read_cumulative(&capture.rows, name).is_some(),
             })?;
         }
         functions.add_all(capture, &found.functions)?;

@@ -1,0 +1,2 @@
+pub mod Newer
+pub mod Rows
