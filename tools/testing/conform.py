@@ -1,7 +1,9 @@
 """The comparer of tools/kernel/conform, over what one boot of a kernel answered, as it was and edited by the rules of
 wrong kernels. No kernel is booted."""
+import copy
 import functools
 import os
+import re
 import sys
 import tempfile
 
@@ -44,6 +46,18 @@ def right():
     if wrong_rows or lines["same"] < 300:
         return f"{lines}, {wrong_rows[:2]}"
     return None if len(names) >= 6 else f"announced are only {names}"
+
+
+def warned(place, is_announced):
+    """A warning at this place, in place of that of a duplicate of a shadow variable, is one of a duplicate, or a difference."""
+    cases, rules, log = recorded()
+    log = copy.deepcopy(log)
+    seen = [it for own in log.values() for it in own.values() if any("shadow.c:" in row for row in it.log)]
+    for it in seen:
+        it.log[:] = [re.sub(r"\bat kernel/livepatch/shadow.c:\d+ ", f"at {place} ", row) for row in it.log]
+    rows = [compared(case, number, own, log) for number, (case, own) in enumerate(zip(cases, rules))]
+    wrong_rows = [it for it in map(first_unannounced, rows) if it]
+    return None if seen and bool(wrong_rows) != is_announced else f"{len(seen)} warnings, {wrong_rows[:2]}"
 
 
 def unanswered():
@@ -114,7 +128,8 @@ def refused(words, status, told):
 
 
 def cases():
-    own = [("conform: a right kernel", right), ("conform: no answers", unanswered), ("conform: a seed", same_scripts),
+    own = [("conform: a duplicate by its function", lambda: warned("__klp_shadow_get_or_alloc+0x19d/0x210", True)),
+           ("conform: another warning", lambda: warned("kernel/livepatch/core.c:9", False)), ("conform: a right kernel", right), ("conform: no answers", unanswered), ("conform: a seed", same_scripts),
            ("conform: the table", table), ("conform: another word", lambda: refused(("--no-such-word",), 2, "usage: ")),
            ("conform: a script that isn't survived", not_survived),
            ("conform: no livepatch", lambda: ended("LACKS livepatch", "BEGUN", "LACKS livepatch (there is none)")),

@@ -1,5 +1,6 @@
 """Holds what a kernel answered against what the rules say, line by line."""
 import collections
+import re
 
 from conforming.answers import Answers, of_rules, read_log
 from conforming.differences import Sides, announced
@@ -10,6 +11,8 @@ Line = collections.namedtuple("Line", "number line what name rules kernel log")
 # Commands that bring the stepper's tasks to their place: what they answer is the stepper's, not the kernel's.
 PLACED = ("task",)
 ALARMS = ("WARNING", "BUG", "Oops")
+# klp_shadow_alloc() warns of a duplicate. A kernel without CONFIG_DEBUG_BUGVERBOSE names the function in place of the file.
+OF_DUPLICATE = re.compile(r"\bat (\S*shadow\.c:|__klp_shadow_get_or_alloc\+)")
 
 
 def same(rules, kernel):
@@ -29,7 +32,7 @@ def judged(answers, number, line, rule, seen):
     rules, kernel = of_rules(line, rule.answer) or [""], answers.of(line, seen) or [""]
     alarms = [it for it in seen.log if any(word in it for word in ALARMS)]
     if rules == ["error 22 Exists"]:
-        alarms = [it for it in alarms if "shadow.c" not in it]  # klp_shadow_alloc() warns of a duplicate.
+        alarms = [it for it in alarms if not OF_DUPLICATE.search(it)]
     ran = answers.callbacks(seen)
     is_same = same(rules, kernel)
     is_order = is_same and None not in (ran, rule.ran) and ran != rule.ran

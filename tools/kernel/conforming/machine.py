@@ -26,7 +26,9 @@ def pack(archive, modules):
     it = Archive()
     for name in ("proc", "sys", "dev"):
         it.add(name, 0o040755)
-    it.add("dev/console", 0o020600, device=(5, 1))
+    # A kernel without CONFIG_DEVTMPFS makes no files there itself.
+    for name, device in (("console", (5, 1)), ("kmsg", (1, 11))):
+        it.add(f"dev/{name}", 0o020600, device=device)
     it.file("init", os.path.join(modules, "player"))
     for name in ("klp_stepper", "klp_any_patch", "klp_any_object"):
         it.file(f"{name}.ko", glob.glob(os.path.join(modules, f"{name}*.ko"))[0])

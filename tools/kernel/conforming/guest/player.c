@@ -510,6 +510,10 @@ int main(void)
 	char *bytes;
 
 	set_up();
+	if (log_of_kernel < 0) {
+		printf("LACKS /dev/kmsg (%s)\n", strerror(errno));
+		end_machine();
+	}
 	if (!is_there("%s", PARENT)) {
 		printf("LACKS livepatch (there is no " PARENT ")\n");
 		end_machine();
