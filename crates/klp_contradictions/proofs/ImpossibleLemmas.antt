@@ -17,7 +17,7 @@ use Rattle.klp_model.specs.Entries.{entries_of, is_site_loaded}
 use Rattle.klp_model.specs.Pick.{pick_by}
 use Rattle.klp_model.specs.Blocked.{is_version}
 use Rattle.klp_model.specs.Refusals.{enabled_value}
-use Rattle.klp_model.specs.Allowed.{Allowed, is_one_of, is_right_state, are_right_frames, is_right_task}
+use Rattle.klp_model.specs.Allowed.{Allowed, AreAbove, AreStacked, is_one_of, is_right_state, are_right_frames, is_right_task}
 use Rattle.klp_model.specs.Refusals.{accepts}
 use Rattle.klp_model.specs.declared.event.Event.{Event}
 use Rattle.klp_model.specs.declared.event.Event.TheVariants.{NewTask, Fork}
@@ -34,7 +34,7 @@ use Rattle.klp_model.proofs.LeftLemmas.{none_left, is_version-true}
 use Rattle.klp_model.proofs.MixedLemmas.{none_mixed, versions_named}
 use Rattle.klp_capture.specs.declared.line.PatchedState.{PatchedState}
 use Rattle.klp_capture.specs.declared.line.PatchedState.TheVariants.{Undefined, Unpatched, Patched}
-use Rattle.klp_contradictions.specs.Impossible.{files_of, number_of, IsMoment, HasTask, IsInside, GivesNoneBack, NeverInNew, NeverInOriginal, NeverWhile, is_by}
+use Rattle.klp_contradictions.specs.Impossible.{files_of, number_of, IsMoment, HasTask, IsInside, GivesNoneBack, NeverInNew, NeverInOriginal, NeverWhile, NeverAboveOlder, is_by}
 
 -- what the files of a patch say of the state
 absent : (there : Bool) (read : Bool × Bool) → there ≡ true → (if there then Some read else None) ≡ None → ⊥
@@ -57,6 +57,10 @@ any_of patch (i ∷ installed) = ap (λ b. (i.patch == patch) || b) (any_of patc
 installed_by : (state : State) (patch : ℕ) (files : Bool × Bool) → files_of state patch ≡ Some files → is_one_of patch (installed_patches state) ≡ true
 installed_by state patch files e =
     sym (any_of patch state.world.installed) ∙ (read_is (is_installed state patch) (enabled_value state patch, moves state.moving patch) files e).0
+
+pub not_true : (b : Bool) → not b ≡ true → b ≡ false
+not_true true e = cc
+not_true false e = refl
 
 or_right : (a b : Bool) → b ≡ true → (a || b) ≡ true
 or_right true b e = refl
@@ -200,6 +204,23 @@ inside_original setting state own site (frame ∷ frames) are named e =
         subst (λ s. (is_site_loaded setting state s ≡ true) × (version_for setting state.moving (installed_patches state) own s ≡ Original site)) (sym at) (found.0, found.1 ∙ sym version)
     by false is e rest = rest e
 
+-- of patches that have older ones, a cumulative one is in transition
+moves_above : (setting : Setting) (moving : Option Transition) (patch : ℕ) (between newest : List ℕ) → AreAbove setting moving (between ++ patch ∷ newest)
+    → replaces setting patch ≡ true → moves moving patch ≡ true
+moves_above setting moving patch [] newest above replaces_all = (above.0 replaces_all).1
+moves_above setting moving patch (other ∷ between) newest above replaces_all = moves_above setting moving patch between newest above.1 replaces_all
+
+behind_above : (setting : Setting) (moving : Option Transition) (older : ℕ) (below rest : List ℕ) → AreAbove setting moving (below ++ older ∷ rest)
+    → AreAbove setting moving rest
+behind_above setting moving older [] rest above = above.1
+behind_above setting moving older (other ∷ below) rest above = behind_above setting moving older below rest above.1
+
+-- the patches above an older one are such patches
+above_oldest : (setting : Setting) (moving : Option Transition) (older : ℕ) (oldest rest : List ℕ) → AreStacked setting moving (oldest ++ older ∷ rest)
+    → AreAbove setting moving rest
+above_oldest setting moving older [] rest stacked = stacked
+above_oldest setting moving older (first ∷ below) rest stacked = behind_above setting moving older below rest stacked
+
 module _ (setting : Setting) (w : Watched) (moment : IsMoment setting w) where
   allowed : Allowed setting w.state
   allowed = subst (λ (v : Watched). Allowed setting v.state) moment.then_is (kept_from setting moment.start moment.before moment.after moment.in_place moment.honest).0
@@ -265,6 +286,13 @@ module _ (setting : Setting) (w : Watched) (moment : IsMoment setting w) where
       by None is e = cc
       by (Some move) is e = cc
 
+  pub never_above_older : (older patch : ℕ) (oldest between newest : List ℕ) → installed_patches w.state ≡ oldest ++ older ∷ (between ++ patch ∷ newest)
+      → replaces setting patch ≡ true → moves w.state.moving patch ≡ false → ⊥
+  never_above_older older patch oldest between newest are replaces_all settled =
+      both_ways (moves w.state.moving patch) settled
+      (moves_above setting w.state.moving patch between newest
+      (above_oldest setting w.state.moving older oldest (between ++ patch ∷ newest) (subst (AreStacked setting w.state.moving) are allowed.stacked)) replaces_all)
+
 -- the same as the contracts have it
 pub in_new_absent : (own : PatchedState) → NeverInNew None own
 in_new_absent own setting w patch function moment it inside read = never_in_absent setting w moment patch function (number_of own) it inside read
@@ -289,6 +317,10 @@ while_moving setting w moment it moving = never_undefined setting w moment it mo
 
 pub while_none_moves : (own : PatchedState) (n : ℕ) → number_of own ≡ pos n → NeverWhile false own
 while_none_moves own n is setting w moment it moving = never_at_rest setting w moment n (subst (HasTask w) is it) moving
+
+pub above_older_settled : (enabled : Bool) → NeverAboveOlder (Some (enabled, false))
+above_older_settled enabled setting w older patch oldest between newest moment are replaces_all read =
+    never_above_older setting w moment older patch oldest between newest are replaces_all (moving_by w.state patch enabled false read)
 
 -- what another task does leaves a task's frames
 others_frames : (stacks : Stacks) (number : ℕ) (frames : List Frame) (task : ℕ) → (number == task) ≡ false → with_frames stacks number frames task ≡ stacks task

@@ -1,15 +1,15 @@
 -- What a sample shows of a task, and when no honest run shows it at any moment.
-use Rattle.std.specs.Prelude.{◌≡◌, ℕ, ℤ, pos, negsuc, Bool, true, false, not, ◌==◌, List, ◌++◌, Option, Some, None, is_some, if◌then◌else◌}
+use Rattle.std.specs.Prelude.{◌≡◌, ℕ, ℤ, pos, negsuc, Bool, true, false, not, ◌==◌, List, ◌∷◌, ◌++◌, Option, Some, None, is_some, if◌then◌else◌}
 use Rattle.std.specs.List.{list_any}
 use Rattle.klp_types.specs.declared.version.Version.{Version}
 use Rattle.klp_types.specs.declared.version.Version.TheVariants.{Original, New}
 use Rattle.klp_types.specs.declared.version.Entry.{Entry}
 use Rattle.klp_types.specs.declared.task.Task.{Task}
-use Rattle.klp_types.specs.Setting.{Setting}
+use Rattle.klp_types.specs.Setting.{Setting, replaces}
 use Rattle.klp_types.specs.Entries.{patches_site}
 use Rattle.klp_types.specs.Pick.{moves}
 use Rattle.klp_model.specs.Task.{task_at}
-use Rattle.klp_model.specs.State.{State, is_installed, is_moving}
+use Rattle.klp_model.specs.State.{State, is_installed, installed_patches, is_moving}
 use Rattle.klp_model.specs.Entries.{entries_of}
 use Rattle.klp_model.specs.Blocked.{is_version}
 use Rattle.klp_model.specs.Refusals.{enabled_value}
@@ -75,6 +75,13 @@ NeverInOriginal files own =
 abbrev pub NeverWhile : Bool → PatchedState → Type 0
 NeverWhile is_under_way own =
     (setting : Setting) (w : Watched) → IsMoment setting w → HasTask w (number_of own) → is_moving w.state ≡ is_under_way → ⊥
+
+-- none shows an older patch below a cumulative one whose files read so
+abbrev pub NeverAboveOlder : Option (Bool × Bool) → Type 0
+NeverAboveOlder files =
+    (setting : Setting) (w : Watched) (older patch : ℕ) (oldest between newest : List ℕ) → IsMoment setting w
+    → installed_patches w.state ≡ oldest ++ older ∷ (between ++ patch ∷ newest)
+    → replaces setting patch ≡ true → files_of w.state patch ≡ files → ⊥
 
 -- whether by this item a task begins, calls or returns
 abbrev pub is_by : ℕ → Seen → Bool

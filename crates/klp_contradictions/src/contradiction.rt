@@ -22,6 +22,8 @@ impl fmt::Display for NamedThread<'_> {
 pub enum Contradiction<'a> {
     /// Two patches are in transition.
     TwoInTransition(&'a [u8], &'a [u8]),
+    /// The first patch is there below the second one, which is cumulative, and whose transition is complete.
+    Outlives(&'a [u8], &'a [u8]),
     /// An enabled patch hasn't patched the kernel's own functions.
     Unpatched(&'a [u8]),
     /// A patch lists other functions than in the sample before, though it is as it was then.
@@ -79,6 +81,13 @@ impl fmt::Display for Contradiction<'_> {
                 write!(
                     f,
                     "{first} and {second} are both in transition, and only one patch can be"
+                )
+            }
+            Contradiction::Outlives(older, cumulative) => {
+                let (older, cumulative) = (Escaped(older), Escaped(cumulative));
+                write!(
+                    f,
+                    "{older} is there below {cumulative}, which is cumulative, and whose transition is complete"
                 )
             }
             Contradiction::Unpatched(patch) => {

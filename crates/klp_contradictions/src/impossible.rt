@@ -6,7 +6,7 @@ ghost use Rattle.klp_types.specs.Setting.{Setting};
 ghost use Rattle.klp_model.specs.declared.seen.Seen.{Seen};
 ghost use Rattle.klp_model.specs.Observed.{Watched, seen_run};
 ghost use Rattle.klp_capture.specs.declared.line.PatchedState.TheVariants.{Undefined, Unpatched, Patched};
-ghost use Rattle.klp_contradictions.specs.Impossible.{NeverInNew, NeverInOriginal, NeverWhile, is_by};
+ghost use Rattle.klp_contradictions.specs.Impossible.{NeverInNew, NeverInOriginal, NeverWhile, NeverAboveOlder, is_by};
 
 use klp_capture::PatchedState;
 use klp_capture_catalog::Files;
@@ -53,6 +53,18 @@ pub fn is_never_while(is_under_way: bool, state: PatchedState) -> bool
     match state {
         PatchedState::Undefined => is_under_way,
         PatchedState::Unpatched | PatchedState::Patched => !is_under_way,
+    }
+}
+
+/// Whether no cumulative patch whose files read so ever lies above an older one. When its transition is complete, a
+/// cumulative patch replaces all older ones, and later ones lie above it.
+pub fn is_never_above_older(files: Files) -> bool
+    ensures never { result ≡ true → NeverAboveOlder files }
+    ensures settled { (enabled : Bool) → files ≡ Some (enabled, false) → result ≡ true }
+{
+    match files {
+        None => false,
+        Some((_, is_moving)) => !is_moving,
     }
 }
 

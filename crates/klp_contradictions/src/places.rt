@@ -3,9 +3,11 @@ ghost use Rattle.std.specs.Prelude.{◌≡◌, true, is_some};
 ghost use Rattle.klp_contradictions.specs.Impossible.{NeverInNew, NeverInOriginal};
 
 use crate::contradiction::{Contradiction, Replacement};
-use crate::impossible::{is_never_in_new, is_never_in_original, is_never_while};
+use crate::impossible::{
+    is_never_above_older, is_never_in_new, is_never_in_original, is_never_while,
+};
 use crate::tasks::{is_asleep, name_of};
-use klp_capture::{Capture, PatchRow, SeenTask, Span, TaskLine};
+use klp_capture::{Capture, NewerFiles, PatchRow, SeenTask, Span, TaskLine};
 use klp_capture_catalog::{Files, Functions, SeenFunction, files_in, moving_in};
 
 /// The patches of a sample.
@@ -187,6 +189,47 @@ impl<'c, 'a> Patches<'c, 'a> {
             == 1
     }
 
+    /// Returns the name of an installed patch below this place.
+    fn below(&self, place: u32) -> Option<&'a [u8]> {
+        for row in self.rows {
+            if let PatchRow::Patch { name, newer, .. } = row
+                && newer.order.is_some_and(|order| order < place)
+                && files_in(self.rows, name).is_some()
+            {
+                return Some(*name);
+            }
+        }
+        None
+    }
+
+    /// Returns a patch that is there below a cumulative one whose transition is complete.
+    pub(crate) fn outlives(&self) -> Option<Contradiction<'a>> {
+        for row in self.rows {
+            if let PatchRow::Patch {
+                name,
+                newer: NewerFiles {
+                    is_cumulative: Some(true),
+                    order: Some(place),
+                },
+                ..
+            } = row
+                && is_never_above_older(files_in(self.rows, name))
+                && let Some(older) = self.below(*place)
+            {
+                return Some(Contradiction::Outlives(older, *name));
+            }
+        }
+        None
+    }
+
+    /// Whether the log doesn't deny that a patch is cumulative.
+    fn may_be_cumulative(&self, patch: Option<usize>) -> bool {
+        match patch.and_then(|number| self.functions.patches.get(number)) {
+            Some(patch) => patch.may_be_cumulative(),
+            None => true,
+        }
+    }
+
     /// Whether an installed patch may give the original of a function back.
     fn may_be_given_back(&self, function: &SeenFunction<'a>) -> bool {
         self.functions.functions.iter().any(|other| {
@@ -194,6 +237,7 @@ impl<'c, 'a> Patches<'c, 'a> {
                 && other.name == function.name
                 && other.new_name.is_none()
                 && self.files_of(other.patch).is_some()
+                && self.may_be_cumulative(other.patch)
         })
     }
 

@@ -53,6 +53,12 @@ impl<'c, 'a> Scan<'c, 'a> {
         if found.is_some() {
             return found;
         }
+        // The places of patches are those of the sample that lists them.
+        if sample.tells_patches
+            && let Some(found) = patches.outlives()
+        {
+            return Some(found);
+        }
         let moving = moving_in(patches.rows);
         let has_moved_before = has_last && moving.is_some() && moving_in(last) == moving;
         let has_just_begun = moving.is_some() && !has_moved_before;
