@@ -181,7 +181,7 @@ def catalog(kernel, *patches):
 TARGET = [
     (b"f", elf.CODE, ".init.text", False), (b"f", elf.CODE, ".text", True), (b"", 3, ".text", False), (b"f", elf.VARIABLE, ".data", True),
     (b"f", elf.NO_KIND, 0, False), (b"g", elf.CODE, ".text", True), (b"f", elf.NO_KIND, 0xFFF1, False), (b"f", elf.VARIABLE, ".comment", False),
-    (b"f", elf.CODE, ".text", True), (b"f", elf.CODE, 0xFF20, False), (b"f", elf.CODE, 200, False),
+    (b"f", elf.CODE, ".text", True), (b"f", elf.CODE, 0xFF20, False),
 ]
 
 
@@ -198,8 +198,7 @@ def over_target(name, kernel, *patches):
                 it.write(elf.target(name.encode(), [it[:3] for it in TARGET]))
         words = ["--symbols", f"{room}/symbols", "--module", f"{room}/one.ko", "--module", f"{room}/two.ko"]
         status, out, err = run(["klpko", *words, *(it["file"] for it in patches)])
-        twice = f"klpko: the symbols of {name} are there already, so its file isn't used
-" * (2 if known else 1)
+        twice = f"klpko: the symbols of {name} are there already, so its file isn't used\n" * (2 if known else 1)
         code, told = told_marks(patches, rows)
         return fault((status, err), (code, twice + told)) or wrong_catalog(out.decode(), patches, rows)
 

@@ -3,6 +3,7 @@ use klp_arguments::ModuleWords;
 use klp_diagnostics::{STANDARD_INPUT, file_in, only_one_input};
 use klp_messages::Escaped;
 use klp_tables::MAX_PATCHES;
+use std::fmt;
 use std::io::Write;
 
 pub(crate) const NAME: &str = "klpko";
@@ -36,7 +37,7 @@ pub(crate) fn out_of_memory<E: Write>(err: &mut E) -> u8 {
 }
 
 /// Writes what is wrong with a file, and returns the exit status.
-pub(crate) fn tell_fault<E: Write>(path: &str, fault: impl std::fmt::Display, err: &mut E) -> u8 {
+pub(crate) fn tell_fault<E: Write>(path: &str, fault: impl fmt::Display + Drop, err: &mut E) -> u8 {
     let path = Escaped(path.as_bytes());
     let _ = writeln!(err, "{NAME}: {path}: {fault}");
     FAULT
