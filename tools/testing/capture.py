@@ -747,7 +747,12 @@ def looked_up_again(shell):
         whole = finish(it.begin(shell, "--once"))
         it.put("bin/grep", f'#!/bin/sh\nmkdir {it.root}/tried 2>/dev/null && kill -9 $$\nexec {shutil.which("grep")} "$@"\n')
         os.chmod(f"{it.root}/bin/grep", 0o755)
-        return differs((finish(it.begin(["env", f"PATH={it.root}/bin:{os.environ['PATH']}", *shell], "--once")), whole), (os.path.exists(f"{it.root}/tried"), True))
+        shell = ["env", f"PATH={it.root}/bin:{os.environ['PATH']}", *shell]
+        subprocess.run([*shell, "-c", "grep x /dev/null"], stderr=subprocess.DEVNULL, check=False)
+        if not os.path.exists(f"{it.root}/tried"):
+            return None  # busybox may be built so that it runs a grep of its own
+        os.rmdir(f"{it.root}/tried")
+        return differs((finish(it.begin(shell, "--once")), whole), (os.path.exists(f"{it.root}/tried"), True))
 
 
 def lacking(shell):
