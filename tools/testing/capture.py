@@ -577,13 +577,23 @@ def unwritten(shell):
         return "; ".join([*wrong, *it.left_behind()]) or differs((heard[0], b"klpcap 2\n"))
 
 
+def with_own(it, shell, name, script):
+    """The shell, which finds this script in place of a program. None where it runs a program of this name that is its own, as
+    busybox may be built to do."""
+    put(f"{it.root}/bin/{name}", f"#!/bin/sh\n: >{it.root}/ran\n{script}")
+    os.chmod(f"{it.root}/bin/{name}", 0o755)
+    shell = ["env", f"PATH={it.root}/bin:{os.environ['PATH']}", *shell]
+    subprocess.run([*shell, "-c", f"{name} 0"], stdin=subprocess.DEVNULL, stdout=subprocess.DEVNULL, stderr=subprocess.DEVNULL, check=False)
+    return shell if os.path.exists(f"{it.root}/ran") else None
+
+
 def sleepless(shell):
     """It says so where this machine's sleep can't wait so long, and doesn't take samples without end."""
     with machine() as it:
-        put(f"{it.root}/bin/sleep", "#!/bin/sh\necho sleep: no fractions >&2; exit 1\n")
-        os.chmod(f"{it.root}/bin/sleep", 0o755)
-        path = f"{it.root}/bin:{os.environ['PATH']}"
-        status, out, err = finish(it.begin(["env", f"PATH={path}", *shell], "-i", "0.5"))
+        shell = with_own(it, shell, "sleep", "echo sleep: no fractions >&2; exit 1\n")
+        if not shell:
+            return None
+        status, out, err = finish(it.begin(shell, "-i", "0.5"))
         return differs(((status, err, len(of(out.decode().splitlines(), "sample"))), (1, "klpcap: sleep can't wait 0.5 s: try -i 1\n", 1)))
 
 
@@ -745,12 +755,9 @@ def looked_up_again(shell):
     with machine() as it:
         it.task(91)
         whole = finish(it.begin(shell, "--once"))
-        it.put("bin/grep", f'#!/bin/sh\nmkdir {it.root}/tried 2>/dev/null && kill -9 $$\nexec {shutil.which("grep")} "$@"\n')
-        os.chmod(f"{it.root}/bin/grep", 0o755)
-        shell = ["env", f"PATH={it.root}/bin:{os.environ['PATH']}", *shell]
-        subprocess.run([*shell, "-c", "grep x /dev/null"], stderr=subprocess.DEVNULL, check=False)
-        if not os.path.exists(f"{it.root}/tried"):
-            return None  # busybox may be built so that it runs a grep of its own
+        shell = with_own(it, shell, "grep", f'mkdir {it.root}/tried 2>/dev/null && kill -9 $$\nexec {shutil.which("grep")} "$@"\n')
+        if not shell:
+            return None
         os.rmdir(f"{it.root}/tried")
         return differs((finish(it.begin(shell, "--once")), whole), (os.path.exists(f"{it.root}/tried"), True))
 
