@@ -22,7 +22,7 @@ impl fmt::Display for NamedThread<'_> {
 pub enum Contradiction<'a> {
     /// Two patches are in transition.
     TwoInTransition(&'a [u8], &'a [u8]),
-    /// The first patch is enabled below the second one, which is cumulative, and whose transition is complete.
+    /// The first patch is installed below the second one, which is cumulative, and whose transition is complete.
     Outlives(&'a [u8], &'a [u8]),
     /// An enabled patch hasn't patched the kernel's own functions.
     Unpatched(&'a [u8]),
@@ -87,7 +87,7 @@ impl fmt::Display for Contradiction<'_> {
                 let (older, cumulative) = (Escaped(older), Escaped(cumulative));
                 write!(
                     f,
-                    "{older} is enabled below {cumulative}, which is cumulative, and whose transition is complete"
+                    "{older} is installed below {cumulative}, which is cumulative, and whose transition is complete"
                 )
             }
             Contradiction::Unpatched(patch) => {

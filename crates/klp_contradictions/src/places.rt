@@ -189,13 +189,13 @@ impl<'c, 'a> Patches<'c, 'a> {
             == 1
     }
 
-    /// Returns the name of an enabled patch below this place. A replaced one reads 0, and the kernel removes its
-    /// directory a moment later.
-    fn enabled_below(&self, place: u32) -> Option<&'a [u8]> {
+    /// Returns the name of an installed patch below this place. A replaced one whose directory the kernel hasn't removed
+    /// yet isn't installed: both of its files read 0.
+    fn installed_below(&self, place: u32) -> Option<&'a [u8]> {
         for row in self.rows {
             if let PatchRow::Patch { name, newer, .. } = row
                 && newer.order.is_some_and(|order| order < place)
-                && matches!(files_in(self.rows, name), Some((true, _)))
+                && files_in(self.rows, name).is_some()
             {
                 return Some(*name);
             }
@@ -203,7 +203,7 @@ impl<'c, 'a> Patches<'c, 'a> {
         None
     }
 
-    /// Returns an enabled patch below a cumulative one whose transition is complete.
+    /// Returns an installed patch below a cumulative one whose transition is complete.
     pub(crate) fn outlives(&self) -> Option<Contradiction<'a>> {
         for row in self.rows {
             if let PatchRow::Patch {
@@ -215,7 +215,7 @@ impl<'c, 'a> Patches<'c, 'a> {
                 ..
             } = row
                 && is_never_above_older(files_in(self.rows, name))
-                && let Some(older) = self.enabled_below(*place)
+                && let Some(older) = self.installed_below(*place)
             {
                 return Some(Contradiction::Outlives(older, *name));
             }
