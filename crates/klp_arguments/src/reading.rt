@@ -71,7 +71,8 @@ fn matches_in<'a>(command: Command<'a>, given: &'a [String]) -> Result<ArgMatche
     }
 }
 
-/// Returns the value that was given for the argument of this name. Returns `None` if the argument has no value.
+/// Returns the value that was given for the argument of this name, the first one if several were given. Returns `None`
+/// if the argument has no value.
 fn value_of<'a>(matches: &ArgMatches<'a>, name: &str) -> Option<&'a str>
     ensures { option_map (λ value. value.now) result ≡ first_of name.now (rows_of (found_of matches.now)) }
 {

@@ -301,7 +301,7 @@ fn transitions_of(
     found: &Explained<'_>,
     holding: &[Holder],
 ) -> Result<Vec<TransitionReport>, AllocError> {
-    let sleeps = found.sleeps(alloc)?;
+    let sleeps = found.holding_sleeps(alloc)?;
     let mut transitions = Vec::new(alloc);
     for (number, moved) in found.run.transitions.iter().enumerate() {
         transitions.push(transition_of(alloc, capture, found, number, moved, &sleeps, holding)?)?;

@@ -80,8 +80,8 @@ fn add_sleeps(
 
 impl Explained<'_> {
     /// Returns the sleeps in which tasks held a transition up, in the order in which they began. They are the stays that
-    /// the run's page tells of, as far as samples show them.
-    pub fn sleeps(&self, alloc: Global) -> Result<Vec<HoldingSleep>, AllocError> {
+    /// the run's page tells of. Leaves out a stay that no sample shows. Returns `Err` if memory runs out.
+    pub fn holding_sleeps(&self, alloc: Global) -> Result<Vec<HoldingSleep>, AllocError> {
         let mut sleeps = Vec::new(alloc);
         for sentence in &self.sentences {
             add_sleeps(&mut sleeps, &self.run, sentence)?;

@@ -280,9 +280,10 @@ pub(crate) fn versions_after(
     over_text(alloc, catalog, &mut FirstLines { trace, lines }).ok()?
 }
 
-/// Returns what the kernel and the rules have at the line of a trace with this number, counted from 1, at which the
-/// kernel differs from the rules. A manager must have been booted with the catalog's text before, so that it has no
-/// fault. Then `None` only means that memory ran out.
+/// Returns what the kernel and the rules have at line `line` of a trace, counted from 1. Returns `None` if the line has
+/// neither an answer nor a sight, if the catalog's text has a fault, or if memory runs out. So `None` only means that
+/// memory ran out if a manager was booted with the text before, and the kernel differs at the line. Boots a manager, and
+/// does the events of all earlier lines.
 pub fn sides_in(alloc: Global, catalog: &[u8], trace: &[u8], line: u64) -> Option<Sides> {
     over_text(alloc, catalog, &mut LineInTrace { trace, line }).ok()?
 }

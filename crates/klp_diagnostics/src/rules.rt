@@ -322,15 +322,15 @@ fn hooks_of(alloc: Global, manager: &Manager, site: Site) -> Result<Vec<String>,
     Ok(patches)
 }
 
-/// Returns whether a site is hooked or plain by the rules, and which patches hook it. If the site has no text, since
-/// its object isn't loaded or there is no such site, returns that.
+/// Returns whether a site is plain or hooked by the rules, and which patches hook it. Returns `NotLoaded` if the site's
+/// object isn't loaded, and `NoText` if there is no such site.
 fn text_of(alloc: Global, manager: &Manager, site: Site) -> Result<RulesHave, AllocError> {
     let modules = manager.modules();
     let Some((object, _, _)) = modules.symbol(site) else {
         return Ok(RulesHave::NoText);
     };
     if !modules.is_loaded(object) {
-        // The name table has the names of all objects, so no other words are written.
+        // The fallback isn't reached, since the name table has the names of all objects.
         let name = modules.object_name(object).unwrap_or("its object");
         return Ok(RulesHave::NotLoaded(String::from_str(alloc, name)?));
     }

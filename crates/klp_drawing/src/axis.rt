@@ -36,15 +36,16 @@ impl<'a> Axis<'a> {
         })
     }
 
-    /// Returns the width in points of what a line has on the axis: its number, or in a drawing to scale by time the
-    /// seconds since the first time.
+    /// Returns the width in points of what stands on the axis for a line: the seconds since the first known time if the
+    /// drawing is to scale by time and the line has a time, otherwise the number of the line.
     fn width_at(&self, scale: &Scale, line: u64) -> u64 {
-        if !scale.is_timed() {
-            return number_width(line);
+        match self.names.since_start(line) {
+            // A point and the tenths follow the seconds.
+            Some(time) if scale.is_timed() => {
+                number_width(time / 1_000_000).saturating_add(2 * LETTER)
+            }
+            _ => number_width(line),
         }
-        let seconds = self.names.since_start(line).unwrap_or(0) / 1_000_000;
-        // A point and the tenths follow the seconds.
-        number_width(seconds).saturating_add(2 * LETTER)
     }
 
     /// Puts a line on the axis, unless another number is in the way or there is no room up to the right end. `Err` if
@@ -75,9 +76,9 @@ impl<'a> Axis<'a> {
         }
     }
 
-    /// Adds what a line has on the axis: its number, or in a drawing to scale by time the seconds since the first time,
-    /// if the line has a time.
-    fn add_number(&self, sheet: &mut Sheet, scale: &Scale, line: u64) {
+    /// Adds what stands on the axis for a line: the seconds since the first known time if the drawing is to scale by
+    /// time and the line has a time, otherwise the number of the line.
+    fn add_number_or_time(&self, sheet: &mut Sheet, scale: &Scale, line: u64) {
         match self.names.since_start(line) {
             Some(time) if scale.is_timed() => add_plain_seconds(sheet, time),
             _ => sheet.number(line),
@@ -88,7 +89,7 @@ impl<'a> Axis<'a> {
     pub(crate) fn add_numbers(&self, sheet: &mut Sheet, scale: &Scale, y: u64) {
         for line in &self.lines {
             add_text_start(sheet, "soft", scale.left_of(*line), y);
-            self.add_number(sheet, scale, *line);
+            self.add_number_or_time(sheet, scale, *line);
             sheet.markup("</text>");
         }
     }

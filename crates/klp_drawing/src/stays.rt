@@ -209,18 +209,22 @@ fn short_name(manager: &Manager, version: Version) -> &[u8] {
     }
 }
 
-/// Adds a version as `NAME of the object OBJECT` or `NAME of the patch PATCH`, without markup, since a tooltip can have
-/// none. Adds nothing if there is no such site.
+/// Adds a version as words alone, since a tooltip can't have markup: `NAME of the object OBJECT`, or `NAME of the patch
+/// PATCH`. Adds nothing for the original of a site that doesn't exist.
 fn add_plain_version(sheet: &mut Sheet, manager: &Manager, version: Version) {
-    let (owner, kind) = match version {
-        Version::Original(site) => match manager.modules().symbol(site) {
-            Some((object, _, _)) => (object_name(manager.modules(), object), "object"),
-            None => return,
-        },
-        Version::New(patch, _) => (patch_name(manager.catalog(), patch), "patch"),
-    };
-    let name = short_name(manager, version);
-    sheet.fill("{} of the {} {}", &[Text(name), Markup(kind), Text(owner)]);
+    let name = Text(short_name(manager, version));
+    match version {
+        Version::Original(site) => {
+            if let Some((object, _, _)) = manager.modules().symbol(site) {
+                let object = Text(object_name(manager.modules(), object));
+                sheet.fill("{} of the object {}", &[name, object]);
+            }
+        }
+        Version::New(patch, _) => {
+            let patch = Text(patch_name(manager.catalog(), patch));
+            sheet.fill("{} of the patch {}", &[name, patch]);
+        }
+    }
 }
 
 /// Adds the tooltip of a stay: the task, whether it holds the transition up or sleeps in code that isn't called now,
@@ -242,7 +246,7 @@ fn add_tooltip(sheet: &mut Sheet, names: &Names, manager: &Manager, held: &Held,
 
 /// Begins the link of a stay to its sentence, `#stay-LINE-TASK`. If the sentence isn't on the page, the link is to the
 /// row of `line`, the line with which the stay begins. The caller adds `</a>`.
-fn add_link(sheet: &mut Sheet, held: &Held, line: u64) {
+fn begin_link(sheet: &mut Sheet, held: &Held, line: u64) {
     let line = Number(line);
     if held.has_sentence {
         let task = Number(u64::from(held.task.0));
@@ -325,7 +329,7 @@ pub(crate) fn add_labels(
             continue;
         }
         if let Some(label) = label_of(sentences, held) {
-            add_link(sheet, held, label.line);
+            begin_link(sheet, held, label.line);
             add_tooltip(sheet, names, manager, held, &label);
             // Transparent, so that the whole stay is part of the link.
             add_rect(sheet, "clear", area_of(held));

@@ -192,7 +192,7 @@ impl Sheet {
         match *value {
             Value::Markup(markup) => self.markup(markup),
             Value::Number(number) => self.number(number),
-            Value::Integer(value) => self.integer(value),
+            Value::Integer(integer) => self.integer(integer),
             Value::Text(text) => self.text(text),
             Value::Words(name) => self.words(name),
             Value::Name(name) => self.name(name),

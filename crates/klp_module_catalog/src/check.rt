@@ -7,7 +7,7 @@ ghost use Rattle.klp_module_catalog.specs.Said.{are_objects, are_symbols, has_ki
 ghost use Rattle.klp_module_catalog.specs.Said.{said_function, said_patch, said_target, IsCatalogOf};
 
 use crate::marks::are_marked;
-use crate::names::is_new_name;
+use crate::names::spells_new_name;
 use klp_catalog_text::{
     PlanCallback, PlanFunction, PlanPatch, PlanTarget, SystemState, TextFault, TextFaultKind,
 };
@@ -18,13 +18,14 @@ use klp_tables::{Function, Object, Replaces, State};
 use klp_types::{ObjId, ObjectText, SymbolText, Which};
 use std::alloc::{AllocError, Global};
 
-/// Whether a function of a catalog is that of a row.
+/// Whether a function of a catalog is that of a row of the patch's tables: by its symbol, its position, and its new name
+/// as a catalog spells it. The tables have no address, so none is compared.
 fn is_function(plan: &PlanFunction, function: &Function<'_>) -> bool
     ensures { Decides result (said_function plan.now ≡ row_function function.now) }
 {
     plan.symbol.as_bytes() == function.old_name
         && u64::from(plan.sympos) == function.position
-        && is_new_name(plan.new_name.as_bytes(), function.new_name)
+        && spells_new_name(plan.new_name.as_bytes(), function.new_name)
 }
 
 /// Whether the functions of a target are those of the rows, in order.

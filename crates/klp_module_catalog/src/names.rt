@@ -39,7 +39,7 @@ pub(crate) fn new_name_of(alloc: Global, name: &[u8]) -> Result<Vec<u8>, AllocEr
 }
 
 /// Whether this is the name of a new function as a catalog can have it.
-pub(crate) fn is_new_name(spelled: &[u8], name: &[u8]) -> bool
+pub(crate) fn spells_new_name(spelled: &[u8], name: &[u8]) -> bool
     ensures { Decides result (spelled.now ≡ spelled_name name.now) }
 {
     if name.is_empty() {

@@ -48,8 +48,8 @@ has_bad_name object = not (is_name (name_of object))
 abbrev pub is_bad_function : Function → Bool
 is_bad_function function = not (is_symbol_name function.old_name.now)
 
-abbrev pub is_far : Function → Bool
-is_far function = nat_lt MAX_SITES function.position
+abbrev pub has_far_position : Function → Bool
+has_far_position function = nat_lt MAX_SITES function.position
 
 -- how many functions these objects have together
 abbrev pub function_count : List Object → ℕ
@@ -60,7 +60,7 @@ abbrev pub has_bad_function : Object → Bool
 has_bad_function object = list_any is_bad_function object.functions.items
 
 abbrev pub has_far_function : Object → Bool
-has_far_function object = list_any is_far object.functions.items
+has_far_function object = list_any has_far_position object.functions.items
 
 -- a patch has too many of something
 abbrev pub count_fault : List Object → List State → Option PatchFault

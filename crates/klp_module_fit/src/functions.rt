@@ -1,21 +1,24 @@
 //! The functions of a patch that a catalog can't have.
 ghost use Rattle.std.specs.Prelude.{◌≡◌, nat_lt, position};
 ghost use Rattle.klp_types.specs.declared.limits.TheConstants.{MAX_FUNCTIONS};
-ghost use Rattle.klp_module_fit.specs.Fit.{function_count, function_fault, has_bad_function, has_far_function, is_bad_function, is_far};
+ghost use Rattle.klp_module_fit.specs.Fit.{function_count, function_fault, has_bad_function, has_far_function, is_bad_function, has_far_position};
 
 use crate::fault::PatchFault;
 use klp_tables::{Function, Object};
 use klp_types::{MAX_FUNCTIONS, MAX_SITES};
 use klp_words::is_symbol_name;
 
+/// Whether no symbol of a catalog can have the name of the function that this one replaces.
 fn is_bad_function(function: &Function<'_>) -> bool
     ensures { result ≡ is_bad_function function.now }
 {
     !is_symbol_name(function.old_name)
 }
 
-fn is_far(function: &Function<'_>) -> bool
-    ensures { result ≡ is_far function.now }
+/// Whether no symbol of a catalog can have the position of this function: it is above [`MAX_SITES`], the most symbols
+/// that all objects together may have.
+fn has_far_position(function: &Function<'_>) -> bool
+    ensures { result ≡ has_far_position function.now }
 {
     (MAX_SITES as u64) < function.position
 }
@@ -32,7 +35,10 @@ fn has_bad_function(object: &Object<'_>) -> bool
 fn has_far_function(object: &Object<'_>) -> bool
     ensures { result ≡ has_far_function object.now }
 {
-    object.functions.iter().any(|function| is_far(function))
+    object
+        .functions
+        .iter()
+        .any(|function| has_far_position(function))
 }
 
 /// Whether some objects have more functions together than a patch of a catalog.

@@ -71,7 +71,8 @@ fn append_functions<'a>(
     Ok(())
 }
 
-/// Adds all functions that a patch changes, in the order of its tables.
+/// Adds all functions that a patch changes, in the order of its tables. `objects` are the patch's tables. Returns `Err`
+/// if memory runs out; then some functions may have been added.
 pub fn append_changed<'a>(
     changed: &mut Vec<Changed<'a>>,
     objects: &[Object<'a>],

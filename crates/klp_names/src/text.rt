@@ -52,7 +52,7 @@ pub(crate) fn line_of(word: &[u8]) -> Option<u64>
 impl Names {
     /// Adds the name of a task from a line `task NUMBER NAME`, of which `rest` is `NUMBER NAME`. Returns `Err` and adds
     /// nothing if a part is misspelled, if the task has a name already, or if memory runs out.
-    fn add_named(&mut self, rest: &[u8]) -> Result<(), NamesFaultKind>
+    fn add_task_name(&mut self, rest: &[u8]) -> Result<(), NamesFaultKind>
         ensures { IsOutcome self.old (with_named self.old rest.now) self.new result }
     {
         let (number, name) = cut(rest, b' ');
@@ -67,7 +67,7 @@ impl Names {
 
     /// Adds the time of a line of the run from a line `line NUMBER SECONDS`, of which `rest` is `NUMBER SECONDS`.
     /// Returns `Err` and adds nothing if a part is misspelled, or if [`Names::add_time`] adds nothing.
-    fn add_timed(&mut self, rest: &[u8]) -> Result<(), NamesFaultKind>
+    fn add_line_time(&mut self, rest: &[u8]) -> Result<(), NamesFaultKind>
         ensures { IsOutcome self.old (with_timed self.old rest.now) self.new result }
     {
         let (number, seconds) = cut(rest, b' ');
@@ -87,9 +87,9 @@ impl Names {
     {
         let (word, rest) = cut(line, b' ');
         if word == b"task".as_slice() {
-            self.add_named(rest)
+            self.add_task_name(rest)
         } else if word == b"line".as_slice() {
-            self.add_timed(rest)
+            self.add_line_time(rest)
         } else {
             Err(NamesFaultKind::UnknownWord)
         }

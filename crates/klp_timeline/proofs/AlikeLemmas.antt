@@ -8,7 +8,7 @@ use Rattle.std.proofs.lemmas.List.Folds.{list_any-append}
 use Rattle.klp_timeline.specs.declared.moment.Stay.{Stay}
 use Rattle.klp_timeline.specs.declared.moment.Sleep.{Sleep}
 use Rattle.klp_timeline.specs.declared.moment.Sentence.{Sentence}
-use Rattle.klp_timeline.specs.Stays.{is_stay}
+use Rattle.klp_timeline.specs.Stays.{is_same_stay_as}
 use Rattle.klp_timeline.specs.Sentences.{is_end, is_alike, tasks_alike, slept, slept_from}
 use Rattle.klp_timeline.proofs.AmongLemmas.{none_among, first_among, later_among, first_or_later}
 use Rattle.klp_timeline.proofs.StayLemmas.{same_stay, is_own_stay}
@@ -24,15 +24,15 @@ is_own_end None = refl
 is_own_end (Some to) = eq-eqb to to refl
 
 alike_are : (a b : Sleep) → is_alike a b ≡ true → (a.stay ≡ b.stay) × (a.to ≡ b.to)
-alike_are a b e = by (is_stay a.stay b.stay) refl e
+alike_are a b e = by (is_same_stay_as a.stay b.stay) refl e
   where
-    by : (t : Bool) → is_stay a.stay b.stay ≡ t → (t && is_end a.to b.to) ≡ true → (a.stay ≡ b.stay) × (a.to ≡ b.to)
+    by : (t : Bool) → is_same_stay_as a.stay b.stay ≡ t → (t && is_end a.to b.to) ≡ true → (a.stay ≡ b.stay) × (a.to ≡ b.to)
     by true is e = (same_stay a.stay b.stay is, same_end a.to b.to e)
     by false is e = cc
 
 are_alike : (a b : Sleep) → a.stay ≡ b.stay → a.to ≡ b.to → is_alike a b ≡ true
 are_alike a b stay to =
-    ap (λ s. is_stay a.stay s && is_end a.to b.to) (sym stay) ∙ ap (λ t. is_stay a.stay a.stay && is_end a.to t) (sym to)
+    ap (λ s. is_same_stay_as a.stay s && is_end a.to b.to) (sym stay) ∙ ap (λ t. is_same_stay_as a.stay a.stay && is_end a.to t) (sym to)
     ∙ ap (λ t. t && is_end a.to a.to) (is_own_stay a.stay) ∙ is_own_end a.to
 
 -- the tasks of those that are alike to one
@@ -102,7 +102,7 @@ pub record IsSlept (line : ℕ) (sleeps : List Sleep) (said : List Sentence) (sl
 
 -- whether a stay like this is among these
 abbrev has_like : List Sleep → Stay → Option ℕ → Bool
-has_like sleeps stay to = list_any (λ (other : Sleep). is_stay stay other.stay && is_end to other.to) sleeps
+has_like sleeps stay to = list_any (λ (other : Sleep). is_same_stay_as stay other.stay && is_end to other.to) sleeps
 
 own_slept : (line : ℕ) (sleeps before : List Sleep) (own : Sleep) (rest : List Sleep) (sleep : Sleep) → Contains sleeps sleep
     → own.stay ≡ sleep.stay → own.to ≡ sleep.to

@@ -11,7 +11,7 @@ use Rattle.klp_timeline.specs.declared.moment.Fact.{Fact}
 use Rattle.klp_timeline.specs.declared.moment.Fact.TheVariants.{Forces, PreFailed, Comes, Goes, Undoes, Starts, Reverses, Completes, Leaves}
 use Rattle.klp_timeline.specs.declared.moment.Sleep.{Sleep}
 use Rattle.klp_timeline.specs.declared.moment.Sentence.{Sentence}
-use Rattle.klp_timeline.specs.Stays.{is_transition, sleeps_begun}
+use Rattle.klp_timeline.specs.Stays.{is_same_transition_as, sleeps_begun}
 use Rattle.klp_timeline.specs.Facts.{is_undone, turn, leave_of, facts}
 use Rattle.klp_timeline.specs.Sentences.{did, is_alike, slept, slept_from, said_of, sentences_from}
 use Rattle.klp_timeline.specs.Course.{after_fact, after_said, course_from}
@@ -104,9 +104,9 @@ by_lines course before line (moment ∷ rest) =
 turn_going : (course : Course) (line : ℕ) (moved : Option Transition) (move : Transition) (stays : List (Option Stay)) (left : List Fact)
     → (moved ≡ Some move) ⊎ (first_line (course_by course line (option_to_list (turn moved (Some move) stays) ++ left)).since ≡ line)
 turn_going course line None move stays left = inr (still_this (after_fact course line (Starts move)) line left refl)
-turn_going course line (Some own) move stays left = by (is_transition own move) refl
+turn_going course line (Some own) move stays left = by (is_same_transition_as own move) refl
   where
-    by : (b : Bool) → is_transition own move ≡ b
+    by : (b : Bool) → is_same_transition_as own move ≡ b
         → (Some own ≡ Some move) ⊎ (first_line (course_by course line (option_to_list (cond b None (Some (Reverses move))) ++ left)).since ≡ line)
     by true is = inl (ap Some (same_transition own move is))
     by false is = inr (still_this (after_fact course line (Reverses move)) line left refl)

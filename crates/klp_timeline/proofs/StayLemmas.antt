@@ -9,7 +9,7 @@ use Rattle.klp_model.specs.Blocked.{is_version}
 use Rattle.klp_timeline.specs.declared.moment.Moment.{Moment}
 use Rattle.klp_timeline.specs.declared.moment.Stay.{Stay}
 use Rattle.klp_timeline.specs.declared.moment.Stay.TheVariants.{Holds, Outdated}
-use Rattle.klp_timeline.specs.Stays.{is_way, is_transition, is_stay, is_seen, stay_at, until}
+use Rattle.klp_timeline.specs.Stays.{is_way, is_same_transition_as, is_same_stay_as, is_in_stay, stay_at, until}
 use Rattle.klp_timeline.specs.Telling.{seen_after}
 
 -- what is the same
@@ -29,17 +29,17 @@ same_way true false e = cc
 same_way false true e = cc
 same_way false false e = refl
 
-pub same_transition : (a b : Transition) → is_transition a b ≡ true → a ≡ b
+pub same_transition : (a b : Transition) → is_same_transition_as a b ≡ true → a ≡ b
 same_transition a b e = by (a.patch == b.patch) refl e
   where
     by : (t : Bool) → (a.patch == b.patch) ≡ t → (t && is_way a.target b.target) ≡ true → a ≡ b
     by true is e = ap (λ p. record a { patch = p }) (eqb-true a.patch b.patch is) ∙ ap (λ t. record b { target = t }) (same_way a.target b.target e)
     by false is e = cc
 
-pub same_stay : (a b : Stay) → is_stay a b ≡ true → a ≡ b
-same_stay (Holds move version) (Holds other frame) e = by (is_transition move other) refl e
+pub same_stay : (a b : Stay) → is_same_stay_as a b ≡ true → a ≡ b
+same_stay (Holds move version) (Holds other frame) e = by (is_same_transition_as move other) refl e
   where
-    by : (t : Bool) → is_transition move other ≡ t → (t && is_version version frame) ≡ true → Holds move version ≡ Holds other frame
+    by : (t : Bool) → is_same_transition_as move other ≡ t → (t && is_version version frame) ≡ true → Holds move version ≡ Holds other frame
     by true is e = ap (λ m. Holds m version) (same_transition move other is) ∙ ap (λ v. Holds other v) (same_version version frame e)
     by false is e = cc
 same_stay (Holds move version) (Outdated frame) e = cc
@@ -54,29 +54,29 @@ is_own_way : (a : Bool) → is_way a a ≡ true
 is_own_way true = refl
 is_own_way false = refl
 
-is_own_transition : (a : Transition) → is_transition a a ≡ true
+is_own_transition : (a : Transition) → is_same_transition_as a a ≡ true
 is_own_transition a = ap (λ b. b && is_way a.target a.target) (eq-eqb a.patch a.patch refl) ∙ is_own_way a.target
 
-pub is_own_stay : (a : Stay) → is_stay a a ≡ true
+pub is_own_stay : (a : Stay) → is_same_stay_as a a ≡ true
 is_own_stay (Holds move version) = ap (λ b. b && is_version version version) (is_own_transition move) ∙ is_own_version version
 is_own_stay (Outdated version) = is_own_version version
 
-pub seen_is : (stay : Stay) (seen : Option Stay) → is_seen stay seen ≡ true → seen ≡ Some stay
+pub seen_is : (stay : Stay) (seen : Option Stay) → is_in_stay stay seen ≡ true → seen ≡ Some stay
 seen_is stay None e = cc
 seen_is stay (Some other) e = ap Some (sym (same_stay stay other e))
 
-pub is_seen_of : (stay : Stay) (seen : Option Stay) → seen ≡ Some stay → is_seen stay seen ≡ true
-is_seen_of stay seen e = ap (is_seen stay) e ∙ is_own_stay stay
+pub is_seen_of : (stay : Stay) (seen : Option Stay) → seen ≡ Some stay → is_in_stay stay seen ≡ true
+is_seen_of stay seen e = ap (is_in_stay stay) e ∙ is_own_stay stay
 
 -- a stay is seen after each of the first lines of these
 abbrev pub Lasts : ℕ → Stay → List Moment → ℕ → Type 0
 Lasts task stay rest zero = Unit {0}
 Lasts task stay [] (suc count) = ⊥
-Lasts task stay (moment ∷ rest) (suc count) = (is_seen stay (stay_at moment.view.stays task) ≡ true) × Lasts task stay rest count
+Lasts task stay (moment ∷ rest) (suc count) = (is_in_stay stay (stay_at moment.view.stays task) ≡ true) × Lasts task stay rest count
 
 pub until_lasts : (task : ℕ) (stay : Stay) (line : ℕ) (rest : List Moment) (count : ℕ) → Lasts task stay rest count → IfSome (until task stay line rest) (λ to. line + count ≤ to)
 until_lasts task stay line [] count lasts = tt
-until_lasts task stay line (moment ∷ rest) zero lasts = by (is_seen stay (stay_at moment.view.stays task)) (until_lasts task stay (suc line) rest zero tt)
+until_lasts task stay line (moment ∷ rest) zero lasts = by (is_in_stay stay (stay_at moment.view.stays task)) (until_lasts task stay (suc line) rest zero tt)
   where
     weaker : (to : Option ℕ) → IfSome to (λ to. suc line + zero ≤ to) → IfSome to (λ to. line + zero ≤ to)
     weaker None le = tt
@@ -102,9 +102,9 @@ until_true task stay line [] index short within = absurd (none short)
     none : index < 0 → ⊥
     none lt = omega arith
 until_true task stay line (moment ∷ rest) zero short within =
-    by (is_seen stay (stay_at moment.view.stays task)) refl within
+    by (is_in_stay stay (stay_at moment.view.stays task)) refl within
   where
-    by : (b : Bool) → is_seen stay (stay_at moment.view.stays task) ≡ b
+    by : (b : Bool) → is_in_stay stay (stay_at moment.view.stays task) ≡ b
         → IfSome (cond b (until task stay (suc line) rest) (Some line)) (λ to. line + suc zero ≤ to) → stay_at moment.view.stays task ≡ Some stay
     by true is within = seen_is stay (stay_at moment.view.stays task) is
     by false is within = absurd (beyond within)
@@ -112,7 +112,7 @@ until_true task stay line (moment ∷ rest) zero short within =
         beyond : line + suc zero ≤ line → ⊥
         beyond le = omega arith
 until_true task stay line (moment ∷ rest) (suc index) short within =
-    by (is_seen stay (stay_at moment.view.stays task)) (until_true task stay (suc line) rest index (shorter short)) within
+    by (is_in_stay stay (stay_at moment.view.stays task)) (until_true task stay (suc line) rest index (shorter short)) within
   where
     weaker : (to : Option ℕ) → IfSome to (λ to. line + suc (suc index) ≤ to) → IfSome to (λ to. suc line + suc index ≤ to)
     weaker None le = tt

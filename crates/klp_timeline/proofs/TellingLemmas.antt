@@ -12,7 +12,7 @@ use Rattle.klp_timeline.specs.declared.moment.Sleepers.{Sleepers}
 use Rattle.klp_timeline.specs.declared.moment.Said.{Said}
 use Rattle.klp_timeline.specs.declared.moment.Said.TheVariants.{Did, Slept}
 use Rattle.klp_timeline.specs.declared.moment.Sentence.{Sentence}
-use Rattle.klp_timeline.specs.Stays.{is_seen, stay_at, until, sleep_of, sleeps_begun}
+use Rattle.klp_timeline.specs.Stays.{is_in_stay, stay_at, until, sleep_of, sleeps_begun}
 use Rattle.klp_timeline.specs.Facts.{facts}
 use Rattle.klp_timeline.specs.Sentences.{did, tasks_alike, slept, slept_of, said_of, sentences_from, sentences_of}
 use Rattle.klp_timeline.specs.Telling.{seen_after, facts_at, Spans, IsShown, IsQuiet, IsAllShown, IsEachFactShown, AreSeen, IsTrueOf, IsAllTrue}
@@ -48,13 +48,13 @@ first_of_all stay others sleep true e = absurd (not_both (sym e))
 first_of_all stay others sleep false e = first_among sleep others
 
 begins_here : (first task at : ℕ) (before stays : List (Option Stay)) (line : ℕ) (rest : List Moment) (stay : Stay) → at ≡ first + task
-    → slice_index_or stays task None ≡ Some stay → is_seen stay (stay_at before at) ≡ false
+    → slice_index_or stays task None ≡ Some stay → is_in_stay stay (stay_at before at) ≡ false
     → Contains (sleeps_begun first before stays line rest) (sleep_from at stay line rest)
 begins_here first task at before [] line rest stay same e new = absurd (none-some stay e)
 begins_here first zero at before (own ∷ stays) line rest stay same e new =
     subst (λ o. Contains (sleep_of first (stay_at before first) o line rest ++ sleeps_begun (suc first) before stays line rest) (sleep_from at stay line rest)) (sym e)
-    (subst (λ n. Contains (cond (is_seen stay (stay_at before n)) [] (sleep_from n stay line rest ∷ []) ++ sleeps_begun (suc first) before stays line rest) (sleep_from at stay line rest)) here
-    (first_of_all stay (sleeps_begun (suc first) before stays line rest) (sleep_from at stay line rest) (is_seen stay (stay_at before at)) new))
+    (subst (λ n. Contains (cond (is_in_stay stay (stay_at before n)) [] (sleep_from n stay line rest ∷ []) ++ sleeps_begun (suc first) before stays line rest) (sleep_from at stay line rest)) here
+    (first_of_all stay (sleeps_begun (suc first) before stays line rest) (sleep_from at stay line rest) (is_in_stay stay (stay_at before at)) new))
   where
     here : at ≡ first
     here = omega arith
@@ -66,7 +66,7 @@ begins_here first (suc task) at before (own ∷ stays) line rest stay same e new
     next = omega arith
 
 begins_shown : (before : View) (line : ℕ) (moment : Moment) (rest : List Moment) (index task : ℕ) (stay : Stay) → stay_at moment.view.stays task ≡ Some stay
-    → is_seen stay (stay_at before.stays task) ≡ false → Lasts task stay rest index → IsShown (sentences_from before line (moment ∷ rest)) task stay (line + index)
+    → is_in_stay stay (stay_at before.stays task) ≡ false → Lasts task stay rest index → IsShown (sentences_from before line (moment ∷ rest)) task stay (line + index)
 begins_shown before line moment rest index task stay e new lasts = by (all_slept line (begun_with before line moment rest) (sleep_from task stay line rest) (begins_here 0 task task before.stays moment.view.stays line rest stay own e new))
   where
     own : task ≡ 0 + task
@@ -103,26 +103,26 @@ later_shown before line moment rest index task stay shown = record {
 -- a task's stay is told, or it is an earlier one
 abbrev IsShownOr : View → ℕ → List Moment → ℕ → ℕ → Stay → Type 0
 IsShownOr before line run index task stay =
-    IsShown (sentences_from before line run) task stay (line + index) ⊎ ((is_seen stay (stay_at before.stays task) ≡ true) × Lasts task stay run (suc index))
+    IsShown (sentences_from before line run) task stay (line + index) ⊎ ((is_in_stay stay (stay_at before.stays task) ≡ true) × Lasts task stay run (suc index))
 
 all_shown : (before : View) (line : ℕ) (run : List Moment) (index task : ℕ) (stay : Stay) → seen_after run index task ≡ Some stay
     → IsShownOr before line run index task stay
 all_shown before line [] index task stay e = absurd (none-some stay e)
-all_shown before line (moment ∷ rest) zero task stay e = by (is_seen stay (stay_at before.stays task)) refl
+all_shown before line (moment ∷ rest) zero task stay e = by (is_in_stay stay (stay_at before.stays task)) refl
   where
-    by : (b : Bool) → is_seen stay (stay_at before.stays task) ≡ b → IsShownOr before line (moment ∷ rest) zero task stay
+    by : (b : Bool) → is_in_stay stay (stay_at before.stays task) ≡ b → IsShownOr before line (moment ∷ rest) zero task stay
     by true is = inr (is, (is_seen_of stay (stay_at moment.view.stays task) e, tt))
     by false is = inl (begins_shown before line moment rest zero task stay e is tt)
 all_shown before line (moment ∷ rest) (suc index) task stay e = by (all_shown moment.view (suc line) rest index task stay e)
   where
-    held : (b : Bool) → is_seen stay (stay_at before.stays task) ≡ b → is_seen stay (stay_at moment.view.stays task) ≡ true → Lasts task stay rest (suc index)
+    held : (b : Bool) → is_in_stay stay (stay_at before.stays task) ≡ b → is_in_stay stay (stay_at moment.view.stays task) ≡ true → Lasts task stay rest (suc index)
         → IsShownOr before line (moment ∷ rest) (suc index) task stay
     held true is seen lasts = inr (is, (seen, lasts))
     held false is seen lasts = inl (begins_shown before line moment rest (suc index) task stay (seen_is stay (stay_at moment.view.stays task) seen) is lasts)
 
     by : IsShownOr moment.view (suc line) rest index task stay → IsShownOr before line (moment ∷ rest) (suc index) task stay
     by (inl shown) = inl (later_shown before line moment rest index task stay shown)
-    by (inr seen) = held (is_seen stay (stay_at before.stays task)) refl seen.0 seen.1
+    by (inr seen) = held (is_in_stay stay (stay_at before.stays task)) refl seen.0 seen.1
 
 pub no_sleeper_left_out : (opening : View) (run : List Moment) → IsQuiet opening → IsAllShown opening run
 no_sleeper_left_out opening run quiet index task stay e = by (all_shown opening 1 run index task stay e)
@@ -132,7 +132,7 @@ no_sleeper_left_out opening run quiet index task stay e = by (all_shown opening 
 
     by : IsShownOr opening 1 run index task stay → IsShown (sentences_of opening run) task stay (suc index)
     by (inl shown) = subst (IsShown (sentences_of opening run) task stay) same shown
-    by (inr seen) = absurd (not_both (subst (λ o. is_seen stay o ≡ true) (quiet task) seen.0))
+    by (inr seen) = absurd (not_both (subst (λ o. is_in_stay stay o ≡ true) (quiet task) seen.0))
 
 fact_shown : (before : View) (line : ℕ) (run : List Moment) (index : ℕ) (fact : Fact) → Contains (facts_at before run index) fact
     → Contains (sentences_from before line run) (did (line + index) fact)
@@ -188,7 +188,7 @@ begun_of : (first : ℕ) (before stays : List (Option Stay)) (line : ℕ) (rest 
 begun_of first before [] line rest sleep among = absurd (none_among sleep among)
 begun_of first before (None ∷ stays) line rest sleep among = next_begun first None stays line rest sleep (begun_of (suc first) before stays line rest sleep among)
 begun_of first before (Some stay ∷ stays) line rest sleep among =
-    own_or_later first stay stays line rest sleep (sleeps_begun (suc first) before stays line rest) (is_seen stay (stay_at before first))
+    own_or_later first stay stays line rest sleep (sleeps_begun (suc first) before stays line rest) (is_in_stay stay (stay_at before first))
     (begun_of (suc first) before stays line rest sleep) among
 
 -- what a sentence says of these lines, of which the first has this number

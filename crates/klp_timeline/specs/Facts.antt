@@ -9,7 +9,7 @@ use Rattle.klp_timeline.specs.declared.moment.Stay.TheVariants.{Outdated}
 use Rattle.klp_timeline.specs.declared.moment.View.{View}
 use Rattle.klp_timeline.specs.declared.moment.Fact.{Fact}
 use Rattle.klp_timeline.specs.declared.moment.Fact.TheVariants.{Undoes, Starts, Reverses, Completes, Leaves}
-use Rattle.klp_timeline.specs.Stays.{is_transition}
+use Rattle.klp_timeline.specs.Stays.{is_same_transition_as}
 
 -- whether the line undid events
 abbrev pub is_undone : Option Fact → Bool
@@ -26,7 +26,7 @@ abbrev pub turn : Option Transition → Option Transition → List (Option Stay)
 turn None None stays = None
 turn None (Some move) stays = Some (Starts move)
 turn (Some move) None stays = Some (Completes move (count_by is_outdated stays))
-turn (Some move) (Some other) stays = if is_transition move other then None else Some (Reverses other)
+turn (Some move) (Some other) stays = if is_same_transition_as move other then None else Some (Reverses other)
 
 -- whether the patch is the one in transition
 abbrev pub is_moving_patch : Option Transition → ℕ → Bool

@@ -7,7 +7,7 @@ use Rattle.klp_timeline.specs.declared.moment.Fact.{Fact}
 use Rattle.klp_timeline.specs.declared.moment.Sleep.{Sleep}
 use Rattle.klp_timeline.specs.declared.moment.Said.TheVariants.{Did, Slept}
 use Rattle.klp_timeline.specs.declared.moment.Sentence.{Sentence}
-use Rattle.klp_timeline.specs.Stays.{is_stay, sleeps_begun}
+use Rattle.klp_timeline.specs.Stays.{is_same_stay_as, sleeps_begun}
 use Rattle.klp_timeline.specs.Facts.{facts}
 
 -- the sentence that a line did this
@@ -22,7 +22,7 @@ is_end to last = false
 
 -- stays that begin with the same line are alike if they are the same and end with the same line
 abbrev pub is_alike : Sleep → Sleep → Bool
-is_alike own other = is_stay own.stay other.stay && is_end own.to other.to
+is_alike own other = is_same_stay_as own.stay other.stay && is_end own.to other.to
 
 -- the tasks of all stays in the list that are alike to this one
 abbrev pub tasks_alike : Sleep → List Sleep → List ℕ

@@ -13,19 +13,19 @@ is_way true other = other
 is_way false other = not other
 
 -- whether two transitions have the same patch and target
-abbrev pub is_transition : Transition → Transition → Bool
-is_transition own other = own.patch == other.patch && is_way own.target other.target
+abbrev pub is_same_transition_as : Transition → Transition → Bool
+is_same_transition_as own other = own.patch == other.patch && is_way own.target other.target
 
 -- whether two stays are the same
-abbrev pub is_stay : Stay → Stay → Bool
-is_stay (Holds move version) (Holds other frame) = is_transition move other && is_version version frame
-is_stay (Outdated version) (Outdated frame) = is_version version frame
-is_stay own other = false
+abbrev pub is_same_stay_as : Stay → Stay → Bool
+is_same_stay_as (Holds move version) (Holds other frame) = is_same_transition_as move other && is_version version frame
+is_same_stay_as (Outdated version) (Outdated frame) = is_version version frame
+is_same_stay_as own other = false
 
 -- whether a task is in this stay, if it is in one
-abbrev pub is_seen : Stay → Option Stay → Bool
-is_seen stay None = false
-is_seen stay (Some other) = is_stay stay other
+abbrev pub is_in_stay : Stay → Option Stay → Bool
+is_in_stay stay None = false
+is_in_stay stay (Some other) = is_same_stay_as stay other
 
 -- the stay of a task, if it is in one
 abbrev pub stay_at : List (Option Stay) → ℕ → Option Stay
@@ -35,13 +35,13 @@ stay_at stays task = slice_index_or stays task None
 -- until the end.
 abbrev pub until : ℕ → Stay → ℕ → List Moment → Option ℕ
 until task stay line [] = None
-until task stay line (moment ∷ rest) = if is_seen stay (stay_at moment.view.stays task) then until task stay (suc line) rest else Some line
+until task stay line (moment ∷ rest) = if is_in_stay stay (stay_at moment.view.stays task) then until task stay (suc line) rest else Some line
 
 -- a stay begins with a line if the task isn't in it after the line before
 abbrev pub sleep_of : ℕ → Option Stay → Option Stay → ℕ → List Moment → List Sleep
 sleep_of task before None line rest = []
 sleep_of task before (Some stay) line rest =
-    if is_seen stay before then [] else record { task = task; stay = stay; to = until task stay line rest } ∷ []
+    if is_in_stay stay before then [] else record { task = task; stay = stay; to = until task stay line rest } ∷ []
 
 -- the stays that begin with a line, by the numbers of their tasks; the first of `stays` is of the task with this number
 abbrev pub sleeps_begun : ℕ → List (Option Stay) → List (Option Stay) → ℕ → List Moment → List Sleep

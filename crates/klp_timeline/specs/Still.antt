@@ -4,18 +4,18 @@ use Rattle.klp_types.specs.declared.version.Transition.{Transition}
 use Rattle.klp_timeline.specs.declared.moment.Moment.{Moment}
 use Rattle.klp_timeline.specs.declared.moment.Stay.{Stay}
 use Rattle.klp_timeline.specs.declared.moment.View.{View}
-use Rattle.klp_timeline.specs.Stays.{is_transition, is_seen}
+use Rattle.klp_timeline.specs.Stays.{is_same_transition_as, is_in_stay}
 
 -- whether both views show the same transition, or both none
 abbrev pub is_same_move : Option Transition → Option Transition → Bool
 is_same_move None None = true
-is_same_move (Some move) (Some other) = is_transition move other
+is_same_move (Some move) (Some other) = is_same_transition_as move other
 is_same_move before after = false
 
 -- whether a task is in the same stay before and after, or in none both times
 abbrev pub is_same_stay : Option Stay → Option Stay → Bool
 is_same_stay None None = true
-is_same_stay (Some stay) after = is_seen stay after
+is_same_stay (Some stay) after = is_in_stay stay after
 is_same_stay None (Some stay) = false
 
 -- whether each task is in the same stay as before, or in none

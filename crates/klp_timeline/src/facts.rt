@@ -6,7 +6,7 @@ ghost use Rattle.klp_timeline.specs.Facts.{is_outdated, turn, is_moving_patch, l
 ghost use Rattle.klp_timeline.specs.Sentences.{did};
 
 use crate::moment::{Fact, Moment, Said, Sentence, Stay, View};
-use crate::stays::is_transition;
+use crate::stays::is_same_transition_as;
 use klp_types::{PatchId, Transition};
 use std::alloc::AllocError;
 
@@ -33,7 +33,7 @@ fn turn(before: &View, after: &View) -> Option<Fact>
         (None, None) => None,
         (None, Some(moving)) => Some(Fact::Starts(*moving)),
         (Some(moved), None) => Some(Fact::Completes(*moved, outdated(&after.stays))),
-        (Some(moved), Some(moving)) if is_transition(moved, moving) => None,
+        (Some(moved), Some(moving)) if is_same_transition_as(moved, moving) => None,
         (Some(_), Some(moving)) => Some(Fact::Reverses(*moving)),
     }
 }

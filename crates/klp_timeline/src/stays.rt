@@ -1,40 +1,39 @@
 //! The stays that begin with a line.
 ghost use Rattle.std.specs.Prelude.{◌≡◌, ◌++◌, ◌∷◌, [], ◌≤◌, ◌<◌, ◌+◌, ◌^◌, length, IfOk, OnOk};
 ghost use Rattle.klp_types.specs.declared.limits.TheConstants.{MAX_TASKS};
-ghost use Rattle.klp_timeline.specs.Stays.{is_transition, is_stay, is_seen, until, sleep_of, sleeps_begun};
+ghost use Rattle.klp_timeline.specs.Stays.{is_same_transition_as, is_same_stay_as, is_in_stay, until, sleep_of, sleeps_begun};
 
 use crate::moment::{Moment, Sleep, Stay};
 use klp_types::{MAX_TASKS, TaskId, Transition};
 use std::alloc::{AllocError, Global};
 
 /// Whether two transitions have the same patch and target.
-pub(crate) fn is_transition(own: &Transition, other: &Transition) -> bool
-    ensures { result ≡ is_transition own.now other.now }
+pub(crate) fn is_same_transition_as(own: &Transition, other: &Transition) -> bool
+    ensures { result ≡ is_same_transition_as own.now other.now }
 {
     own.patch == other.patch && own.target == other.target
 }
 
 /// Whether two stays are the same. They must be of one kind and in one version. If they hold a transition up, its patch
 /// and target must be the same, too.
-pub(crate) fn is_stay(own: &Stay, other: &Stay) -> bool
-    ensures { result ≡ is_stay own.now other.now }
+pub(crate) fn is_same_stay_as(own: &Stay, other: &Stay) -> bool
+    ensures { result ≡ is_same_stay_as own.now other.now }
 {
     match (own, other) {
         (Stay::Holds(moving, version), Stay::Holds(other, frame)) => {
-            is_transition(moving, other) && version == frame
+            is_same_transition_as(moving, other) && version == frame
         }
         (Stay::Outdated(version), Stay::Outdated(frame)) => version == frame,
         _ => false,
     }
 }
 
-/// Whether a task is in the stay `stay`. `other` is the stay that a view shows for the task. False if it is `None`:
-/// then the task is in no stay.
-pub(crate) fn is_seen(stay: &Stay, other: &Option<Stay>) -> bool
-    ensures { result ≡ is_seen stay.now other.now }
+/// Whether a task is in `stay`. `shown` is the stay that a view shows for the task, or `None` if it is in none.
+pub(crate) fn is_in_stay(stay: &Stay, shown: &Option<Stay>) -> bool
+    ensures { result ≡ is_in_stay stay.now shown.now }
 {
-    match other {
-        Some(other) => is_stay(stay, other),
+    match shown {
+        Some(shown) => is_same_stay_as(stay, shown),
         None => false,
     }
 }
@@ -49,7 +48,7 @@ fn until(task: usize, stay: &Stay, line: u64, rest: &[Moment]) -> Option<u64>
 {
     let mut last = line;
     for moment in rest {
-        if !is_seen(stay, &moment.view.stays[task]) {
+        if !is_in_stay(stay, &moment.view.stays[task]) {
             return Some(last);
         }
         last += 1;
@@ -75,7 +74,7 @@ fn add_sleep(
     let Some(stay) = stay else {
         return Ok(());
     };
-    if is_seen(stay, before) {
+    if is_in_stay(stay, before) {
         return Ok(());
     }
     sleeps.push(Sleep {

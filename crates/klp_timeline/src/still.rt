@@ -3,7 +3,7 @@ ghost use Rattle.std.specs.Prelude.{◌≡◌, ◌<◌};
 ghost use Rattle.klp_timeline.specs.Still.{is_same_move, is_same_stay, are_same, are_equal, is_still};
 
 use crate::moment::{Moment, Stay, View};
-use crate::stays::{is_seen, is_transition};
+use crate::stays::{is_in_stay, is_same_transition_as};
 use klp_types::{PatchId, Transition};
 
 /// Whether both views show a transition with the same patch and target, or both show none.
@@ -12,7 +12,7 @@ fn is_same_move(before: &Option<Transition>, after: &Option<Transition>) -> bool
 {
     match (before, after) {
         (None, None) => true,
-        (Some(moving), Some(other)) => is_transition(moving, other),
+        (Some(moving), Some(other)) => is_same_transition_as(moving, other),
         _ => false,
     }
 }
@@ -22,7 +22,7 @@ fn is_same_stay(before: &Option<Stay>, after: &Option<Stay>) -> bool
     ensures { result ≡ is_same_stay before.now after.now }
 {
     match before {
-        Some(stay) => is_seen(stay, after),
+        Some(stay) => is_in_stay(stay, after),
         None => after.is_none(),
     }
 }

@@ -5,7 +5,7 @@ ghost use Rattle.klp_timeline.specs.Sentences.{is_end, is_alike, tasks_alike, sl
 
 use crate::facts::add_facts;
 use crate::moment::{Moment, Said, Sentence, Sleep, Sleepers, View};
-use crate::stays::{is_stay, sleeps_begun};
+use crate::stays::{is_same_stay_as, sleeps_begun};
 use crate::task_list::TaskList;
 use std::alloc::{AllocError, Global};
 
@@ -25,7 +25,7 @@ fn is_end(own: &Option<u64>, other: &Option<u64>) -> bool
 fn is_alike(own: &Sleep, other: &Sleep) -> bool
     ensures { result ≡ is_alike own.now other.now }
 {
-    is_stay(&own.stay, &other.stay) && is_end(&own.to, &other.to)
+    is_same_stay_as(&own.stay, &other.stay) && is_end(&own.to, &other.to)
 }
 
 /// Whether a stay in `sleeps` is alike to `own`.

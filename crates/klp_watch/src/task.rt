@@ -27,8 +27,8 @@ fn is_in_kernel(manager: &Manager, task: TaskId) -> bool
 }
 
 /// Stores in `inside` that a task calls a site's function. Afterwards the task is inside of the version that the
-/// manager picks for the call. Returns `Err` and stores nothing if the task can't call: it isn't in the kernel, the
-/// site isn't in a loaded object, or there is no room for one more version.
+/// manager picks for the call. Stores nothing if the task can't call: returns [`Cause::NoCall`] if it isn't in the kernel
+/// or the site isn't in a loaded object, and [`Cause::Deep`] if there is no room for one more version.
 pub(crate) fn call(
     manager: &Manager,
     inside: &mut Inside,
@@ -57,8 +57,8 @@ pub(crate) fn call(
     Ok(())
 }
 
-/// Stores in `inside` that a task returns from the function that it called last. Returns `Err` and stores nothing if
-/// the task isn't in the kernel, or if it is inside of no function.
+/// Stores in `inside` that a task returns from the function that it called last. Stores nothing and returns
+/// [`Cause::NoReturn`] if the task isn't in the kernel, or if it is inside of no function.
 pub(crate) fn come_back(manager: &Manager, inside: &mut Inside, task: TaskId) -> Result<(), Cause>
     ensures returned { IfOk result (λ _. (stacks : Stacks) → AreInside inside.old.rows stacks
         → (may_return (moment_of manager.now stacks) task ≡ true)

@@ -3,7 +3,7 @@ use Rattle.std.proofs.lemmas.List.{map-id}
 use Rattle.std.proofs.lemmas.Iterator.{YieldsList-from_slice, YieldsList-from_zip, cases_from_all}
 use Rattle.klp_module_catalog.specs.Said.{spelled_byte}
 use Rattle.klp_module_catalog.proofs.SameLemmas.{alike, AreAlike, Differ, spelled_cut}
-use Rattle.klp_module_catalog.proofs.names.is_new_name.Goals as goal
+use Rattle.klp_module_catalog.proofs.names.spells_new_name.Goals as goal
 
 pub returns-then-spelled-cut : goal.returns-then-spelled-cut
 returns-then-spelled-cut c =
