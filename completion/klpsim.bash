@@ -104,7 +104,7 @@ _klpko() {
   elif [ "$klp_option" = --symbols ] || [ "$klp_option" = --traceable ]; then
     compopt -o filenames 2>/dev/null
     mapfile -t COMPREPLY < <(compgen -f -- "$klp_word")
-  else _klp_offer '--list --matrix --json --symbols --module --traceable --help --version'; fi
+  else _klp_offer '--list --matrix --json --symbols --module --traceable --cut --help --version'; fi
 }
 
 complete -F _klpsim klpsim

@@ -78,9 +78,10 @@ def spelled(name):
 
 def wanted_patch(patch):
     """What a catalog has to say of a patch, by what its source says."""
-    is_unknown = patch["replaces"] == "unknown"
+    marks = [UNKNOWN_REPLACE] if patch["replaces"] == "unknown" else []
+    marks += [patch["left_out"]] if "left_out" in patch else []
     return {
-        "patch": patch["patch"], "replaces": patch["replaces"] == "yes", "marks": [UNKNOWN_REPLACE] if is_unknown else [], "states": patch["states"],
+        "patch": patch["patch"], "replaces": patch["replaces"] == "yes", "marks": marks, "states": patch["states"],
         "objects": [{
             "name": it["name"], "callbacks": [(name, [UNKNOWN_CODE]) for name in it["callbacks"]],
             "functions": [{**row, "new_name": spelled(row["new_name"])} for row in it["functions"]],
@@ -147,6 +148,7 @@ def told_marks(patches, kernel):
     told = {
         "callbacks whose code isn't read": callbacks, "objects with made-up symbols": objects,
         "patches whose code sets whether they replace others": replacing,
+        "patches of which something is left out": sum("left_out" in it for it in patches),
     }
     told = "".join(f"klpko: marked in the catalog: {what}: {count}\n" for what, count in told.items() if count)
     return (FINDINGS if told else CLEAN), told
@@ -157,13 +159,13 @@ def rows_text(kernel):
     return "".join(f"{address:016x} {letter} {name}" + ("\n" if object == "vmlinux" else f"\t[{object}]\n") for address, letter, name, object in kernel) + "\n"
 
 
-def catalog(kernel, *patches):
+def catalog(kernel, *patches, options=()):
     """A catalog of these patches says what their sources say, and each program takes it."""
     with tempfile.TemporaryDirectory(prefix="catalogs-") as room:
-        words = []
+        words = [*options]
         if kernel:
-            words = ["--symbols", f"{room}/symbols"]
-            with open(words[1], "w") as it:
+            words += ["--symbols", f"{room}/symbols"]
+            with open(words[-1], "w") as it:
                 it.write(rows_text(kernel))
         status, out, err = run(["klpko", *words, *(it["file"] for it in patches)])
         wrong = fault((status, err), told_marks(patches, kernel)) or wrong_catalog(out.decode(), patches, kernel)
@@ -174,6 +176,19 @@ def catalog(kernel, *patches):
         # a judge that finds the catalog faulty has the status 1
         status, _, err = run(["klplint", f"{room}/a.catalog"])
         return None if status in (CLEAN, FINDINGS) and not err else f"klplint: status {status}, {err}"
+
+
+def parts(patch, left_out, kept):
+    """What a cut leaves of a patch: its objects by name, each with the numbers of the functions that stay."""
+    of = {it["name"]: it for it in patch["objects"]}
+    objects = [{**of[name], "functions": [of[name]["functions"][at] for at in numbers]} for name, numbers in kept.items()]
+    return {**patch, "objects": objects, "left_out": left_out}
+
+
+def cut(cuts, *patches):
+    """With --cut, a catalog of these patches says what is left of them, and how much isn't. `cuts` has the mark and the parts that stay
+    of each patch that is cut, by its number."""
+    return catalog(None, *(parts(it, *cuts[at]) if at in cuts else it for at, it in enumerate(patches)), options=["--cut"])
 
 
 # A module that isn't loaded, as its file has it, each symbol with its kind and section, and whether a kernel lists it: one that is
@@ -234,13 +249,13 @@ def bad_list(text, wanted, *patches):
         return fault(came, (FAULTY, b"", f"klpko: {room}/list: {wanted}\n"))
 
 
-def refused_catalog(wanted, symbols, *patches):
+def refused_catalog(wanted, symbols, *patches, options=()):
     """No catalog is made, for this reason."""
     with tempfile.TemporaryDirectory(prefix="catalogs-") as room:
         with open(f"{room}/symbols", "w") as it:
             it.write(symbols)
         files = [it["file"] for it in patches]
-        came = run(["klpko", "--symbols", f"{room}/symbols", *files])
+        came = run(["klpko", *options, "--symbols", f"{room}/symbols", *files])
         return fault(came, (FAULTY, b"", f"klpko: {wanted.format(*files, s=f'{room}/symbols')}\n"))
 
 
@@ -291,12 +306,14 @@ LISTS = {
 }
 NO_FUNCTION = "it isn't one of available_filter_functions: wanted is NAME [MODULE]"
 WHOLE, FEWER = "--list and --matrix take it whole", "give fewer patches; --matrix takes all"
+OR_CUT = "--cut leaves out the rest, and --list and --matrix take it whole"
+FEWER_OR_CUT = "give fewer patches, or --cut, which leaves out the rest; --matrix takes all"
 NAME, SYMBOL = "1 to 55 letters, digits, _ and -", "1 to 127 letters, digits, _, . and $"
 
 
-def of_patch(name, number, reason):
+def of_patch(name, number, reason, advice=WHOLE):
     """A refusal that is about one patch: it names the file, the patch and what to do."""
-    return f"{{{number}}}: patch {name}: {reason}: {WHOLE}"
+    return f"{{{number}}}: patch {name}: {reason}: {advice}"
 
 
 def too_many(count, what, most):
@@ -310,19 +327,53 @@ def no_name(part, wanted):
 # Livepatches of which no catalog is made, each with the reason. The number in braces stands for the file of that patch.
 TOO_MANY = {
     "17 patches": (f"17 patches are given, and a catalog has room for 16: {FEWER}", [Livepatch(b"p%d" % it, []) for it in range(17)]),
-    "65 functions": (of_patch("a", 0, too_many(65, "functions", 64)), [Livepatch(b"a", [Object(None, FUNCTIONS[:65])])]),
-    "65 functions of two objects, in the second patch": (of_patch("b", 1, too_many(65, "functions", 64)), [
+    "65 functions": (of_patch("a", 0, too_many(65, "functions", 64), OR_CUT), [Livepatch(b"a", [Object(None, FUNCTIONS[:65])])]),
+    "65 functions of two objects, in the second patch": (of_patch("b", 1, too_many(65, "functions", 64), OR_CUT), [
         Livepatch(b"a", [Object(None, FUNCTIONS[:64])]), Livepatch(b"b", [Object(None, FUNCTIONS[:64]), Object(b"m", FUNCTIONS[:1])])]),
-    "9 objects": (of_patch("a", 0, too_many(9, "objects", 8)), [Livepatch(b"a", [Object(b"m%d" % it, []) for it in range(9)])]),
+    "9 objects": (of_patch("a", 0, too_many(9, "objects", 8), OR_CUT), [Livepatch(b"a", [Object(b"m%d" % it, []) for it in range(9)])]),
     "17 states": (of_patch("a", 0, too_many(17, "system states", 16)), [Livepatch(b"a", [], states=[(it, 1) for it in range(1, 18)])]),
-    "18 objects in all": (f"the patches change more than 17 objects with vmlinux, and a catalog has room for so many: {FEWER}", [
+    "18 objects in all": (f"the patches change more than 17 objects with vmlinux, and a catalog has room for so many: {FEWER_OR_CUT}", [
         Livepatch(b"p%d" % it, [Object(b"m%d_%d" % (it, at), []) for at in range(count)]) for it, count in enumerate((6, 6, 5))]),
-    "257 symbols": (f"there are more than 256 symbols that the patches name, and a catalog has room for so many: {FEWER}", [
+    "257 symbols": (f"there are more than 256 symbols that the patches name, and a catalog has room for so many: {FEWER_OR_CUT}", [
         Livepatch(b"p%d" % it, [Object(b"n", FUNCTIONS[64 * it : min(64 * it + 64, 257)])]) for it in range(5)]),
     "a position without end": (of_patch("a", 0, "function f of n: its position is above 256, and a catalog has room for so many symbols"), [
         Livepatch(b"a", [Object(b"n", [Function(b"f", b"g", 2**64 - 1)])])]),
     "the position 257": (of_patch("a", 0, "function f of vmlinux: its position is above 256, and a catalog has room for so many symbols"), [
         Livepatch(b"a", [Object(None, [Function(b"g", b"g"), Function(b"f", b"g", 257)])])]),
+}
+# Livepatches that are cut down for a catalog, each with what is left of those that are cut: the mark, and the parts.
+def modules_of(count, callbacks=()):
+    """So many modules without functions, of which these have callbacks."""
+    return [Object(b"m%d" % it, [], CALLBACKS[:1] if it in callbacks else ()) for it in range(count)]
+
+
+def no_functions(*names):
+    return {name: () for name in names}
+
+
+CUT = {
+    "65 functions": ({0: ("left out 1 functions, 0 targets", {"vmlinux": range(64)})}, TOO_MANY["65 functions"][1]),
+    "65 functions of two objects": ({1: ("left out 1 functions, 0 targets", {"vmlinux": range(64), "m": ()})},
+                                    TOO_MANY["65 functions of two objects, in the second patch"][1]),
+    "9 objects": ({0: ("left out 0 functions, 1 targets", no_functions(*(f"m{it}" for it in range(8))))}, TOO_MANY["9 objects"][1]),
+    "9 objects, the last with a callback": ({0: ("left out 0 functions, 1 targets", no_functions(*(f"m{it}" for it in (0, 1, 2, 3, 4, 5, 6, 8))))},
+                                            [Livepatch(b"a", modules_of(9, [8]))]),
+    "9 objects, the last with a function that another patch changes": (
+        {0: ("left out 0 functions, 1 targets", {**no_functions(*(f"m{it}" for it in range(7))), "n": [0]})},
+        [Livepatch(b"a", [*modules_of(8), Object(b"n", [Function(b"f", b"g")])]), Livepatch(b"b", [Object(b"n", [Function(b"f", b"h", 1)])])]),
+    "70 functions, of which another patch changes one": ({0: ("left out 6 functions, 0 targets", {"vmlinux": [*range(63), 68]})}, [
+        Livepatch(b"a", [Object(None, FUNCTIONS[:70])]), Livepatch(b"b", [Object(None, FUNCTIONS[68:69])])]),
+    "257 symbols": ({it: ("left out 32 functions, 0 targets", {"n": range(32)}) for it in range(4)}, TOO_MANY["257 symbols"][1]),
+    "18 objects in all": ({it: ("left out 0 functions, 1 targets", no_functions(*(f"m{it}_{at}" for at in range(5)))) for it in range(2)},
+                          TOO_MANY["18 objects in all"][1]),
+    "what fits, and has room for all": ({}, [Livepatch(b"a", [Object(None, FUNCTIONS[:64], CALLBACKS), *modules_of(7)], states=[(7, 1)], replaces=True)]),
+    "replace set by code, and 65 functions": ({0: ("left out 1 functions, 0 targets", {"vmlinux": range(64)})},
+                                              [Livepatch(b"a", [Object(None, FUNCTIONS[:65])], sets_replace=True)]),
+}
+# Livepatches of which too much must stay.
+UNCUT = {
+    "9 objects with callbacks": (of_patch("a", 0, too_many(9, "objects", 8)), [Livepatch(b"a", modules_of(9, range(9)))]),
+    "17 states": TOO_MANY["17 states"], "17 patches": TOO_MANY["17 patches"],
 }
 # Names that no catalog can have, and symbols that aren't a kernel's, each with the reason. `s` stands for the file of symbols.
 NO_ROW = "it isn't one of /proc/kallsyms: wanted is ADDRESS LETTER NAME [MODULE]"
@@ -358,6 +409,10 @@ def cases(source_of, names, written):
         made[f"the catalog of {name}, over a kernel"] = (written, functools.partial(catalog, KERNEL), *patches)
     for name, (reason, patches) in TOO_MANY.items():
         made[f"no catalog of {name}"] = (written, functools.partial(refused_catalog, reason, ""), *patches)
+    for name, (cuts, patches) in CUT.items():
+        made[f"the catalog, cut down, of {name}"] = (written, functools.partial(cut, cuts), *patches)
+    for name, (reason, patches) in UNCUT.items():
+        made[f"no catalog, cut down, of {name}"] = (written, functools.partial(refused_catalog, reason, "", options=["--cut"]), *patches)
     for name, (reason, symbols, patches) in ODD.items():
         made[f"no catalog of {name}"] = (written, functools.partial(refused_catalog, reason, symbols), *patches)
     made["the catalog over a module's file"] = (written, functools.partial(over_target, "n", KERNEL), *OVER_TARGET)

@@ -12,7 +12,7 @@ USAGE = {
     "klppage": "klppage CATALOG SCRIPT|--trace TRACE [NAMES]",
     "klplint": "klplint [--json] CATALOG [SCRIPT]",
     "klpsee": "klpsee [-o FOLDER] [--json|--follow] LOG|[--metrics] LOG..",
-    "klpko": "klpko [--symbols FILE] [--module FILE].. [--traceable FILE] PATCH..|--list|--matrix [--json] PATCH..",
+    "klpko": "klpko [--symbols FILE] [--module FILE].. [--traceable FILE] [--cut] PATCH..|--list|--matrix [--json] PATCH..",
 }
 REFUSED = {
     "klpsim": [
@@ -36,7 +36,8 @@ REFUSED = {
         ("--list", "x", "-o", "y"), ("--list", b"\xff"), ("--symbols", "x"), ("x", "--symbols"), ("--symbols", "y", "--list", "x"),
         ("--matrix", "x", "--symbols", "y"), ("--symbols", "y", "--json", "x"), ("--symbols", "y", "--symbols", "y", "x"),
         ("--module", "y", "--list", "x"), ("--matrix", "x", "--traceable", "y"), ("--module", "y"), ("x", "--module"), ("x", "--traceable"),
-        ("--traceable", "y", "--traceable", "y", "x"), ("--module", "y", "--json", "x"),
+        ("--traceable", "y", "--traceable", "y", "x"), ("--module", "y", "--json", "x"), ("--cut",), ("--cut", "--list", "x"),
+        ("--matrix", "--cut", "x"), ("--cut", "--json", "x"), ("--cut", "x", "--cut"),
     ],
 }
 # Words that mean the same, in each line those in front.

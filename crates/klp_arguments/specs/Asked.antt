@@ -42,6 +42,7 @@ pub record Modules : Type 0 where
   pub symbols : Option Text
   pub objects : List Text
   pub traceable : Option Text
+  pub is_cut : Bool
 
 -- an option without a value is given
 abbrev pub is_given : Option Text → Bool
@@ -85,21 +86,33 @@ seen_by logs folder json follow metrics =
     let seen : Seen = record { logs = logs; folder = folder; is_json = is_given json; follows = is_given follow; is_metrics = is_given metrics } in
     seen_if (go_together (length logs) seen) seen
 
--- One of --list and --matrix, or a catalog. An answer for programs is of the first two, and what is known of the kernel is for a catalog
+-- One of --list and --matrix, or a catalog. An answer for programs is of the first two, and some options are for a catalog alone
 abbrev pub question_of : Bool → Bool → Bool → Bool → Option ModuleQuestion
 question_of true false json false = Some Listed
 question_of false true json false = Some Matrix
-question_of false false false kernel = Some Catalog
-question_of list matrix json kernel = None
+question_of false false false for_catalog = Some Catalog
+question_of list matrix json for_catalog = None
 
 -- files say something of the kernel: its symbols, modules of it, or which functions can be traced
 abbrev pub has_kernel : Option Text → List Text → Option Text → Bool
 has_kernel symbols objects traceable = is_some symbols || nat_lt 0 (length objects) || is_some traceable
 
-abbrev pub modules_by : List Text → Option Text → Option Text → Option Text → Option Text → List Text → Option Text → Option Modules
-modules_by patches list matrix json symbols objects traceable =
-    option_map (λ question. record { patches = patches; question = question; is_json = is_given json; symbols = symbols; objects = objects; traceable = traceable })
-    (question_of (is_given list) (is_given matrix) (is_given json) (has_kernel symbols objects traceable))
+-- an option is given that is for a catalog alone: what is known of the kernel, or that the catalog may be cut
+abbrev pub is_for_catalog : Bool → Bool → Bool
+is_for_catalog kernel cut = kernel || cut
+
+abbrev pub modules_by : List Text → Option Text → Option Text → Option Text → Option Text → List Text → Option Text → Option Text → Option Modules
+modules_by patches list matrix json symbols objects traceable cut =
+    option_map (λ question. record {
+      patches = patches;
+      question = question;
+      is_json = is_given json;
+      symbols = symbols;
+      objects = objects;
+      traceable = traceable;
+      is_cut = is_given cut;
+    })
+    (question_of (is_given list) (is_given matrix) (is_given json) (is_for_catalog (has_kernel symbols objects traceable) (is_given cut)))
 
 -- what the values ask for, unless the words are at fault
 abbrev pub unless : {Z : Type 0} → Kinds → Option Z → Option Z
@@ -123,7 +136,7 @@ seen_in rows =
 abbrev pub modules_in : List Row → Option Modules
 modules_in rows =
     modules_by (values_in (all_of (codes "PATCH") rows)) (first_of (codes "LIST") rows) (first_of (codes "MATRIX") rows) (first_of (codes "JSON") rows)
-    (first_of (codes "SYMBOLS") rows) (values_in (all_of (codes "MODULE") rows)) (first_of (codes "TRACEABLE") rows)
+    (first_of (codes "SYMBOLS") rows) (values_in (all_of (codes "MODULE") rows)) (first_of (codes "TRACEABLE") rows) (first_of (codes "CUT") rows)
 
 abbrev pub watch_asked : List Text → Option Watched
 watch_asked words = unless (fault_of watch_app words) (watched_in (matches_of watch_app words))
@@ -166,6 +179,7 @@ module_meaning words = record {
   symbols = option_map (λ symbols. symbols.now) words.symbols;
   objects = map (λ object. object.now) words.objects.items;
   traceable = option_map (λ traceable. traceable.now) words.traceable;
+  is_cut = words.is_cut;
 }
 
 -- the words ask for help, or for the version

@@ -88,7 +88,7 @@ table_app =
     with_rule (with_rule listed (flag (codes "MATRIX") (codes "matrix"))) json
 
 abbrev pub module_app : App
-module_app = with_rule (with_rule (with_rule table_app symbols) objects) traceable
+module_app = with_rule (with_rule (with_rule (with_rule table_app symbols) objects) traceable) (flag (codes "CUT") (codes "cut"))
 
 -- the command is this one
 abbrev pub IsCommand : Command → App → Type 0

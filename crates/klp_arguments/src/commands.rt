@@ -41,6 +41,8 @@ pub(crate) const MODULE: &str = "MODULE";
 
 pub(crate) const TRACEABLE: &str = "TRACEABLE";
 
+pub(crate) const CUT: &str = "CUT";
+
 /// Returns the command of a program with its version and the texts of its help, but without arguments. The words that it
 /// matches begin after the program's name.
 fn command_of<'a>(alloc: Global, program: Program) -> Command<'a>
@@ -273,12 +275,18 @@ fn table_command<'a>(alloc: Global) -> Result<Command<'a>, AllocError>
 }
 
 /// Returns the command of klpko: it takes modules, and the options `--list`, `--matrix`, `--json`, `--symbols`,
-/// `--module` and `--traceable`.
+/// `--module`, `--traceable` and `--cut`.
 pub(crate) fn module_command<'a>(alloc: Global) -> Result<Command<'a>, AllocError>
     ensures { IfOk result (λ command. IsCommand command module_app) }
 {
     table_command(alloc)?
         .arg(symbols(alloc))?
         .arg(objects(alloc))?
-        .arg(traceable(alloc))
+        .arg(traceable(alloc))?
+        .arg(flag(
+            alloc,
+            CUT,
+            "cut",
+            "Leave out functions for which a catalog has no room",
+        ))
 }

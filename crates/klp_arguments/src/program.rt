@@ -98,7 +98,7 @@ impl Program {
             Program::Klplint => "klplint [--json] CATALOG [SCRIPT]",
             Program::Klpsee => "klpsee [-o FOLDER] [--json|--follow] LOG|[--metrics] LOG..",
             Program::Klpko =>
-                "klpko [--symbols FILE] [--module FILE].. [--traceable FILE] PATCH..|--list|--matrix [--json] PATCH..",
+                "klpko [--symbols FILE] [--module FILE].. [--traceable FILE] [--cut] PATCH..|--list|--matrix [--json] PATCH..",
         }
     }
 

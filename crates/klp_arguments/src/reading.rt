@@ -3,12 +3,12 @@ ghost use Rattle.std.specs.Prelude.{◌≡◌, ◌⊎◌, [], true, length, map,
 ghost use Rattle.clap.specs.Words.{all_of, app_of, fault_of, first_of, found_of, is_simple, is_simple_and_free, matches_of, rows_of};
 ghost use Rattle.klp_arguments.specs.Asked.{is_given, lint_asked, module_asked, page_asked, see_asked, watch_asked, Ends, EndsBy, EndsWith};
 ghost use Rattle.klp_arguments.specs.Asked.{lint_meaning, module_meaning, page_meaning, see_meaning, watch_meaning};
-ghost use Rattle.klp_arguments.specs.Asked.{go_together, has_kernel, linted_in, modules_in, paged_in, question_of, seen_in, values_in, watched_in};
+ghost use Rattle.klp_arguments.specs.Asked.{go_together, has_kernel, is_for_catalog, linted_in, modules_in, paged_in, question_of, seen_in, values_in, watched_in};
 ghost use Rattle.klp_arguments.specs.Commands.{lint_app, module_app, page_app, see_app, watch_app};
 
 use crate::asked::{LintWords, ModuleQuestion, ModuleWords, PageWords, SeeWords, WatchWords};
 use crate::commands::{
-    CATALOG, FOLDER, FOLLOW, JSON, LIST, LOG, MATRIX, METRICS, MODULE, NAMES, PATCH, SCRIPT,
+    CATALOG, CUT, FOLDER, FOLLOW, JSON, LIST, LOG, MATRIX, METRICS, MODULE, NAMES, PATCH, SCRIPT,
     SYMBOLS, TRACE, TRACEABLE, lint_command, module_command, page_command, see_command,
     watch_command,
 };
@@ -262,11 +262,11 @@ fn question_of(
     lists: bool,
     compares: bool,
     is_json: bool,
-    has_kernel: bool,
+    is_for_catalog: bool,
 ) -> Option<ModuleQuestion>
-    ensures { result ≡ question_of lists compares is_json has_kernel }
+    ensures { result ≡ question_of lists compares is_json is_for_catalog }
 {
-    match (lists, compares, is_json, has_kernel) {
+    match (lists, compares, is_json, is_for_catalog) {
         (true, false, _, false) => Some(ModuleQuestion::List),
         (false, true, _, false) => Some(ModuleQuestion::Matrix),
         (false, false, false, _) => Some(ModuleQuestion::Catalog),
@@ -279,6 +279,13 @@ fn has_kernel(symbols: Option<&str>, objects: &[&str], traceable: Option<&str>) 
     ensures { result ≡ has_kernel (option_map (λ s. s.now) symbols.entry) (map (λ o. o.now) objects.now) (option_map (λ t. t.now) traceable.entry) }
 {
     symbols.is_some() || !objects.is_empty() || traceable.is_some()
+}
+
+/// Whether an option is given that is for a catalog alone.
+fn is_for_catalog(has_kernel: bool, is_cut: bool) -> bool
+    ensures { result ≡ is_for_catalog has_kernel is_cut }
+{
+    has_kernel || is_cut
 }
 
 /// Returns from the matched arguments of klpko which modules it is to read, what it is to say of them, and the form of
@@ -295,8 +302,9 @@ fn modules<'a>(
         values_of(alloc, matches, MODULE)?,
         value_of(matches, TRACEABLE),
     );
-    let has_kernel = has_kernel(symbols, &objects, traceable);
-    let Some(question) = question_of(lists, compares, is_json, has_kernel) else {
+    let is_cut = is_given(matches, CUT);
+    let is_for_catalog = is_for_catalog(has_kernel(symbols, &objects, traceable), is_cut);
+    let Some(question) = question_of(lists, compares, is_json, is_for_catalog) else {
         return Ok(None);
     };
     Ok(Some(ModuleWords {
@@ -306,6 +314,7 @@ fn modules<'a>(
         symbols,
         objects,
         traceable,
+        is_cut,
     }))
 }
 

@@ -10,7 +10,7 @@ use Rattle.klp_tables.specs.declared.patch.Replaces.TheVariants.{No, Yes, Unknow
 use Rattle.klp_module_fit.specs.declared.NamedPatch.{NamedPatch}
 use Rattle.klp_module_symbols.specs.Symbols.{ObjectFacts}
 use Rattle.klp_module_catalog.specs.declared.marks.Marked.{Marked}
-use Rattle.klp_module_catalog.specs.declared.marks.Marked.TheVariants.{Callback, Patch, ObjectLine}
+use Rattle.klp_module_catalog.specs.declared.marks.Marked.TheVariants.{Callback, Patch, ObjectLine, CutPatch}
 
 -- the first of these words is this one
 abbrev pub begins : List ℕ → List (List ℕ) → Bool
@@ -23,12 +23,14 @@ is_line_of Callback line =
     begins (codes "pre") (words_of line) || begins (codes "post") (words_of line)
     || begins (codes "preun") (words_of line) || begins (codes "postun") (words_of line)
 is_line_of Patch line = begins (codes "patch") (words_of line)
+is_line_of CutPatch line = begins (codes "patch") (words_of line)
 is_line_of ObjectLine line = begins (codes "object") (words_of line)
 
--- what a line of this kind is marked by: an object's symbols are assumed, all else isn't known
+-- what a line of this kind is marked by: an object's symbols are assumed, something of a patch is left out, all else isn't known
 abbrev pub mark_of : Marked → List ℕ
 mark_of Callback = codes "unknown"
 mark_of Patch = codes "unknown"
+mark_of CutPatch = codes "left"
 mark_of ObjectLine = codes "assumed"
 
 -- the line is the mark, which begins with `#? `
@@ -39,6 +41,11 @@ is_mark kind line = starts_with nat_eq line (codes "#? ") && begins (mark_of kin
 abbrev pub is_marked_by : Marked → List (List ℕ) → Bool
 is_marked_by kind [] = false
 is_marked_by kind (line ∷ lines) = is_mark kind line
+
+-- the lines but for those marks: a line may have several
+abbrev pub without : Marked → List (List ℕ) → List (List ℕ)
+without other [] = []
+without other (line ∷ lines) = if is_mark other line then without other lines else line ∷ without other lines
 
 -- of each line of this kind, in order, whether the mark stands right behind it
 abbrev pub marks_of : Marked → List (List ℕ) → List Bool
@@ -66,13 +73,19 @@ is_unknown No = false
 abbrev pub replace_mark : NamedPatch → Bool
 replace_mark p = is_unknown p.patch.now.replaces
 
+-- something of the patch is left out
+abbrev pub cut_mark : NamedPatch → Bool
+cut_mark p = nat_lt 0 p.left_out.functions || nat_lt 0 p.left_out.objects
+
 -- an object is marked if it has symbols that are made up
 abbrev pub symbols_mark : ObjectFacts → Bool
 symbols_mark object = object.is_made_up && nat_lt 0 (length object.symbols)
 
 -- Each callback of the patches is marked as unknown, each patch exactly if it isn't known whether it replaces others, and
--- each object exactly if its symbols are made up. No other line of these kinds is there.
+-- exactly if something of it is left out, and each object exactly if its symbols are made up. No other line of these kinds is
+-- there.
 pub record AreMarked (text : List ℕ) (objects : List ObjectFacts) (patches : List NamedPatch) : Type 0 where
-  pub callbacks : marks_of Callback (lines text) ≡ flat_map patch_marks patches
-  pub replaces : marks_of Patch (lines text) ≡ map replace_mark patches
-  pub symbols : marks_of ObjectLine (lines text) ≡ map symbols_mark objects
+  pub callbacks : marks_of Callback (without CutPatch (lines text)) ≡ flat_map patch_marks patches
+  pub replaces : marks_of Patch (without CutPatch (lines text)) ≡ map replace_mark patches
+  pub cuts : marks_of CutPatch (without Patch (lines text)) ≡ map cut_mark patches
+  pub symbols : marks_of ObjectLine (without CutPatch (lines text)) ≡ map symbols_mark objects

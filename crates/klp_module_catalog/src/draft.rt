@@ -7,13 +7,14 @@ ghost use Rattle.klp_module_catalog.specs.Refusals.{refusal_of, room_fault, symb
 ghost use Rattle.klp_module_catalog.specs.declared.fault.CatalogFault.TheVariants.{NoMemory};
 
 use crate::fault::CatalogFault;
+use crate::marks::is_cut;
 use crate::names::new_name_of;
 use crate::objects::write_objects;
 use klp_messages::Escaped;
-use klp_module_fit::{NamedPatch, fit_fault};
+use klp_module_fit::{LeftOut, NamedPatch, fit_fault};
 use klp_module_matrix::name_of_row;
 use klp_module_symbols::{KernelRow, ObjectSymbols, objects_of};
-use klp_tables::{Callbacks, Object, Patch, Replaces};
+use klp_tables::{Callbacks, Object, Replaces};
 use klp_types::{MAX_OBJECTS, MAX_SITES};
 use std::alloc::{AllocError, Global};
 
@@ -32,6 +33,8 @@ pub struct Unknown {
     pub replacing: usize,
     /// Of how many objects the symbols are made up.
     pub objects: usize,
+    /// Of how many patches something is left out.
+    pub cut: usize,
 }
 
 /// A catalog's text before it is read back, and how much of it isn't known.
@@ -81,9 +84,16 @@ fn write_target(
     Ok(count)
 }
 
-/// Writes the line of a patch, and its system states. Returns whether it is known whether it replaces others.
-fn write_head(text: &mut String, name: &[u8], patch: &Patch<'_>) -> Result<bool, AllocError> {
-    let name = Escaped(name);
+/// Writes the mark that says how much of a patch is left out, behind the patch's line.
+fn write_left_out(text: &mut String, left_out: LeftOut) -> Result<(), AllocError> {
+    let LeftOut { functions, objects } = left_out;
+    writeln!(text, "#? left out {functions} functions, {objects} targets")?;
+    Ok(())
+}
+
+/// Writes the line of a patch, its marks, and its system states. Returns whether it is known whether it replaces others.
+fn write_head(text: &mut String, named: &NamedPatch<'_, '_>) -> Result<bool, AllocError> {
+    let (name, patch) = (Escaped(named.name), named.patch);
     let is_known = match patch.replaces {
         Replaces::Yes => {
             writeln!(text, "patch {name} replace")?;
@@ -99,6 +109,9 @@ fn write_head(text: &mut String, name: &[u8], patch: &Patch<'_>) -> Result<bool,
             false
         }
     };
+    if is_cut(named) {
+        write_left_out(text, named.left_out)?;
+    }
     for state in &patch.states {
         let (id, version) = (state.id, state.version);
         writeln!(text, "state {id} {version}")?;
@@ -115,8 +128,11 @@ fn write_patches(
 ) -> Result<(), AllocError> {
     let mut next = NEW_FUNCTIONS;
     for named in patches {
-        if !write_head(text, named.name, named.patch)? {
+        if !write_head(text, named)? {
             unknown.replacing = unknown.replacing.saturating_add(1);
+        }
+        if is_cut(named) {
+            unknown.cut = unknown.cut.saturating_add(1);
         }
         for object in &named.patch.objects {
             let callbacks = write_target(alloc, text, object, &mut next)?;
@@ -138,6 +154,7 @@ fn text_of(
         callbacks: 0,
         replacing: 0,
         objects: write_objects(&mut text, rows, objects)?,
+        cut: 0,
     };
     write_patches(alloc, &mut text, patches, &mut unknown)?;
     Ok(Draft { text, unknown })
@@ -173,7 +190,7 @@ fn room_fault(objects: &[ObjectSymbols<'_>]) -> Option<CatalogFault>
 }
 
 /// Writes a catalog of some patches, in their order, over a kernel with these symbols. Of an object of which there are
-/// none the symbols are made up, and marked so. [`is_catalog_of`](crate::is_catalog_of) reads it back.
+/// none the symbols are made up, and marked so; what is left out of a patch is counted by a mark. [`is_catalog_of`](crate::is_catalog_of) reads it back.
 ///
 /// Returns `Err` with the first reason why a catalog can't have the patches, or if memory runs out.
 pub fn draft_of(

@@ -14,7 +14,14 @@ use std::fmt;
 /// What to do where a catalog has no room.
 const COMPARE: &str = "--list and --matrix take it whole";
 
+/// What to do where a catalog has no room for a patch, but may have some for a part of it.
+const CUT: &str = "--cut leaves out the rest, and --list and --matrix take it whole";
+
 const FEWER: &str = "give fewer patches; --matrix takes all";
+
+/// What to do where a catalog has no room for the patches together.
+const FEWER_OR_CUT: &str =
+    "give fewer patches, or --cut, which leaves out the rest; --matrix takes all";
 
 /// Why no catalog is written of these patches. A fault of one patch begins with its name, and each has the limit and
 /// what to do.
@@ -22,6 +29,8 @@ const FEWER: &str = "give fewer patches; --matrix takes all";
 pub struct FaultWords<'f, 'p, 'a> {
     pub fault: CatalogFault,
     pub patches: &'f [NamedPatch<'p, 'a>],
+    /// Whether `--cut` may help: it wasn't given.
+    pub may_cut: bool,
 }
 
 /// An object of a patch, or one of its functions.
@@ -75,16 +84,17 @@ fn function_count(objects: &[Object<'_>]) -> usize {
     count
 }
 
-/// Writes which of the limits of a patch it exceeds.
+/// Writes which of the limits of a patch it exceeds, and what to do.
 fn write_count<W: fmt::Write>(
     f: &mut fmt::Formatter<W>,
     count: usize,
     what: &str,
     most: usize,
+    advice: &str,
 ) -> fmt::Result {
     write!(
         f,
-        "it has {count} {what}, and a catalog has room for {most} of a patch: {COMPARE}"
+        "it has {count} {what}, and a catalog has room for {most} of a patch: {advice}"
     )
 }
 
@@ -105,8 +115,10 @@ fn write_patch_fault<W: fmt::Write>(
     f: &mut fmt::Formatter<W>,
     named: &NamedPatch<'_, '_>,
     fault: PatchFault,
+    may_cut: bool,
 ) -> fmt::Result {
     let patch = named.patch;
+    let cut_or_compare = if may_cut { CUT } else { COMPARE };
     let part = |object: usize, function: Option<usize>| Part {
         object: patch.objects.get(object),
         function,
@@ -116,17 +128,21 @@ fn write_patch_fault<W: fmt::Write>(
             f,
             "a catalog can't have this name: wanted are 1 to {MAX_NAME} letters, digits, _ and -: {COMPARE}"
         ),
-        PatchFault::TooManyObjects => write_count(f, patch.objects.len(), "objects", MAX_TARGETS),
+        PatchFault::TooManyObjects => {
+            let count = patch.objects.len();
+            write_count(f, count, "objects", MAX_TARGETS, cut_or_compare)
+        }
         PatchFault::TooManyFunctions => {
             write_count(
                 f,
                 function_count(&patch.objects),
                 "functions",
                 MAX_FUNCTIONS,
+                cut_or_compare,
             )
         }
         PatchFault::TooManyStates => {
-            write_count(f, patch.states.len(), "system states", MAX_STATES)
+            write_count(f, patch.states.len(), "system states", MAX_STATES, COMPARE)
         }
         PatchFault::BadObject(object) => write_name(f, part(object, None), MAX_NAME, "_ and -"),
         PatchFault::BadFunction(object) => {
@@ -174,7 +190,7 @@ impl FaultWords<'_, '_, '_> {
         };
         write!(f, "patch {}: ", Escaped(named.name))?;
         match fault {
-            FitFault::Patch { fault, .. } => write_patch_fault(f, named, fault),
+            FitFault::Patch { fault, .. } => write_patch_fault(f, named, fault, self.may_cut),
             _ => f.write_str("another one has its name"),
         }
     }
@@ -182,15 +198,16 @@ impl FaultWords<'_, '_, '_> {
 
 impl fmt::Display for FaultWords<'_, '_, '_> {
     fn fmt<W: fmt::Write>(&self, f: &mut fmt::Formatter<W>) -> fmt::Result {
+        let fewer = if self.may_cut { FEWER_OR_CUT } else { FEWER };
         match self.fault {
             CatalogFault::Unfit(fault) => self.write_unfit(f, fault),
             CatalogFault::TooManyObjects => write!(
                 f,
-                "the patches change more than {MAX_OBJECTS} objects with vmlinux, and a catalog has room for so many: {FEWER}"
+                "the patches change more than {MAX_OBJECTS} objects with vmlinux, and a catalog has room for so many: {fewer}"
             ),
             CatalogFault::TooManySymbols => write!(
                 f,
-                "there are more than {MAX_SITES} symbols that the patches name, and a catalog has room for so many: {FEWER}"
+                "there are more than {MAX_SITES} symbols that the patches name, and a catalog has room for so many: {fewer}"
             ),
             CatalogFault::NoMemory => f.write_str("memory ran out"),
         }

@@ -4,7 +4,7 @@ ghost use Rattle.std.specs.List.{flat_map, starts_with};
 ghost use Rattle.std.specs.Str.Lines.{lines};
 ghost use Rattle.klp_catalog_text.specs.Lines.{words_of};
 ghost use Rattle.klp_module_symbols.specs.Symbols.{object_meaning};
-ghost use Rattle.klp_module_catalog.specs.Marks.{begins, callback_marks, is_line_of, is_mark, mark_of, marks_of, object_marks, patch_marks, replace_mark, symbols_mark, AreMarked};
+ghost use Rattle.klp_module_catalog.specs.Marks.{begins, callback_marks, cut_mark, without, is_line_of, is_mark, mark_of, marks_of, object_marks, patch_marks, replace_mark, symbols_mark, AreMarked};
 
 use klp_catalog_text::{Lines, words_of};
 use klp_module_fit::NamedPatch;
@@ -15,11 +15,13 @@ use std::alloc::{AllocError, Global};
 /// The bytes with which a mark begins.
 const MARK_PREFIX: &[u8] = b"#? ";
 
-/// The lines behind which a mark may stand that something isn't known.
+/// The lines behind which a mark may stand that something isn't known, or is left out.
 #[derive(Clone, Copy)]
 pub(crate) enum Marked {
     Callback,
     Patch,
+    /// A patch of which something is left out.
+    CutPatch,
     ObjectLine,
 }
 
@@ -43,7 +45,7 @@ fn is_line_of(kind: Marked, line: &[u8]) -> bool
                 || begins(line, b"preun")
                 || begins(line, b"postun")
         }
-        Marked::Patch => begins(line, b"patch"),
+        Marked::Patch | Marked::CutPatch => begins(line, b"patch"),
         Marked::ObjectLine => begins(line, b"object"),
     }
 }
@@ -54,6 +56,7 @@ fn mark_of(kind: Marked) -> &'static [u8]
 {
     match kind {
         Marked::Callback | Marked::Patch => b"unknown",
+        Marked::CutPatch => b"left",
         Marked::ObjectLine => b"assumed",
     }
 }
@@ -85,16 +88,23 @@ fn push_if(values: &mut Vec<bool>, is_there: bool, value: bool) -> Result<(), Al
     Ok(())
 }
 
-/// Returns of each line of a kind whether its mark stands right behind it.
-fn marks_of(alloc: Global, kind: Marked, text: &[u8]) -> Result<Vec<bool>, AllocError>
-    ensures { IfOk result (λ marks. marks.items ≡ marks_of kind (lines text.now)) }
+/// Returns of each line of a kind whether its mark stands right behind it, or behind a mark of another kind there.
+fn marks_of(
+    alloc: Global,
+    kind: Marked,
+    other: Marked,
+    text: &[u8],
+) -> Result<Vec<bool>, AllocError>
+    ensures { IfOk result (λ marks. marks.items ≡ marks_of kind (without other (lines text.now))) }
 {
     let mut marks = Vec::new(alloc);
     let mut is_wanted = false;
     let mut rest = Lines::new(text);
     while let Some(line) = rest.next() {
-        push_if(&mut marks, is_wanted, is_mark(kind, line))?;
-        is_wanted = is_line_of(kind, line);
+        if !is_mark(other, line) {
+            push_if(&mut marks, is_wanted, is_mark(kind, line))?;
+            is_wanted = is_line_of(kind, line);
+        }
     }
     push_if(&mut marks, is_wanted, false)?;
     Ok(marks)
@@ -148,6 +158,24 @@ fn patch_marks(alloc: Global, patches: &[NamedPatch<'_, '_>]) -> Result<Vec<bool
     Ok(marks)
 }
 
+/// Whether something of a patch is left out.
+pub(crate) fn is_cut(named: &NamedPatch<'_, '_>) -> bool
+    ensures { result ≡ cut_mark named.now }
+{
+    named.left_out.functions > 0 || named.left_out.objects > 0
+}
+
+/// Returns the marks that the lines of some patches should have, if something of them is left out.
+fn cut_marks(alloc: Global, patches: &[NamedPatch<'_, '_>]) -> Result<Vec<bool>, AllocError>
+    ensures { IfOk result (λ marks. marks.items ≡ map cut_mark patches.now) }
+{
+    let mut marks = Vec::new(alloc);
+    for named in patches {
+        marks.push(is_cut(named))?;
+    }
+    Ok(marks)
+}
+
 /// Whether an object has symbols that are made up.
 fn symbols_mark(object: &ObjectSymbols<'_>) -> bool
     ensures { result ≡ symbols_mark (object_meaning object.now) }
@@ -181,15 +209,18 @@ pub(crate) fn are_marked(
 ) -> Result<bool, AllocError>
     ensures { IfOk result (λ r. Decides r (AreMarked text.now (map object_meaning objects.now) patches.now)) }
 {
-    let callbacks = marks_of(alloc, Marked::Callback, text)?;
+    let callbacks = marks_of(alloc, Marked::Callback, Marked::CutPatch, text)?;
     let wanted_callbacks = callback_marks(alloc, patches)?;
-    let heads = marks_of(alloc, Marked::Patch, text)?;
+    let heads = marks_of(alloc, Marked::Patch, Marked::CutPatch, text)?;
     let wanted_heads = patch_marks(alloc, patches)?;
-    let assumed = marks_of(alloc, Marked::ObjectLine, text)?;
+    let cuts = marks_of(alloc, Marked::CutPatch, Marked::Patch, text)?;
+    let wanted_cuts = cut_marks(alloc, patches)?;
+    let assumed = marks_of(alloc, Marked::ObjectLine, Marked::CutPatch, text)?;
     let wanted_assumed = object_marks(alloc, objects)?;
     Ok(
         are_same(&callbacks, &wanted_callbacks)
             && are_same(&heads, &wanted_heads)
+            && are_same(&cuts, &wanted_cuts)
             && are_same(&assumed, &wanted_assumed),
     )
 }

@@ -14,9 +14,17 @@ pub use fault::{FitFault, PatchFault};
 use klp_tables::Patch;
 pub use patches::fit_fault;
 
+/// How much of a livepatch is left out, since a catalog has no room for it.
+#[derive(Clone, Copy)]
+pub struct LeftOut {
+    pub functions: usize,
+    pub objects: usize,
+}
+
 /// A livepatch with the name under which a kernel lists it.
 #[derive(Clone, Copy)]
 pub struct NamedPatch<'p, 'a> {
     pub name: &'p [u8],
     pub patch: &'p Patch<'a>,
+    pub left_out: LeftOut,
 }

@@ -42,7 +42,7 @@ fn is_alike(one: &Changed<'_>, other: &Changed<'_>) -> bool
 }
 
 /// Whether one of these functions is this one.
-fn is_changed_too(changed: &[Changed<'_>], function: &Changed<'_>) -> bool
+pub fn is_changed_too(changed: &[Changed<'_>], function: &Changed<'_>) -> bool
     ensures { result ≡ is_changed_too changed.now function.now }
 {
     changed.iter().any(|other| is_alike(function, other))

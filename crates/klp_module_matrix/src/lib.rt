@@ -12,7 +12,7 @@ mod names;
 mod outcome;
 mod states;
 
-pub use functions::{Changed, append_changed, changed_by};
+pub use functions::{Changed, append_changed, changed_by, is_changed_too};
 pub use names::{IMAGE, name_of_row, object_name};
 pub use outcome::{Judgement, Outcome, Side, judge};
 pub use states::Refusal;

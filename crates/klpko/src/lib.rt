@@ -3,16 +3,18 @@
 //! Or it writes a catalog that says what the tables say.
 #![tactic(auto)]
 
+mod cutting;
 mod files;
 mod kernel;
 
+use crate::cutting::cut_draft;
 use crate::files::{FAULT, File, Files, NAME, files_in, out_of_memory};
 use crate::kernel::{can_patch, kernel_in, targets_in};
 use klp_arguments::{ModuleQuestion, ModuleWords, Program, given_words, module_words};
 use klp_messages::Escaped;
 use klp_module_answer::{Form, Livepatch, compare, list, read_livepatch};
 use klp_module_catalog::{
-    CatalogFault, Draft, FaultWords, NamedPatch, Unknown, draft_of, is_catalog_of,
+    CatalogFault, Draft, FaultWords, LeftOut, NamedPatch, Unknown, draft_of, is_catalog_of,
 };
 use klp_module_symbols::KernelRow;
 use std::alloc::{AllocError, Global};
@@ -72,6 +74,7 @@ fn tell_unknown<E: Write>(unknown: Unknown, err: &mut E) -> bool {
             unknown.replacing,
             "patches whose code sets whether they replace others",
         ),
+        (unknown.cut, "patches of which something is left out"),
     ];
     let mut is_all_known = true;
     for (count, what) in counted {
@@ -88,9 +91,14 @@ fn tell_refusal<E: Write>(
     fault: CatalogFault,
     patches: &[NamedPatch<'_, '_>],
     livepatches: &[Livepatch<'_>],
+    may_cut: bool,
     err: &mut E,
 ) -> u8 {
-    let words = FaultWords { fault, patches };
+    let words = FaultWords {
+        fault,
+        patches,
+        may_cut,
+    };
     let file = match fault.patch() {
         Some(number) => livepatches.get(number).map(|livepatch| livepatch.file),
         None => None,
@@ -102,47 +110,100 @@ fn tell_refusal<E: Write>(
     FAULT
 }
 
-/// Returns a catalog of the livepatches, once it was read back. Returns the exit status as `Err` if there is none.
+/// Why there is no catalog.
+#[derive(Clone, Copy)]
+pub(crate) enum NoCatalog {
+    Refused(CatalogFault),
+    /// What was made says something else than the tables.
+    Otherwise,
+}
+
+impl From<AllocError> for NoCatalog {
+    fn from(_: AllocError) -> NoCatalog {
+        NoCatalog::Refused(CatalogFault::NoMemory)
+    }
+}
+
+/// Returns a catalog of some patches, once it was read back.
+pub(crate) fn whole_draft(
+    alloc: Global,
+    rows: &[KernelRow<'_>],
+    patches: &[NamedPatch<'_, '_>],
+) -> Result<Draft, NoCatalog> {
+    let draft = match draft_of(alloc, rows, patches) {
+        Ok(draft) => draft,
+        Err(fault) => return Err(NoCatalog::Refused(fault)),
+    };
+    if is_catalog_of(alloc, draft.text.as_bytes(), rows, patches)? {
+        Ok(draft)
+    } else {
+        Err(NoCatalog::Otherwise)
+    }
+}
+
+/// Returns the livepatches whole, with their names.
+fn named_patches<'p, 'a>(
+    alloc: Global,
+    livepatches: &'p [Livepatch<'a>],
+) -> Result<Vec<NamedPatch<'p, 'a>>, AllocError> {
+    let mut patches = Vec::new(alloc);
+    for livepatch in livepatches {
+        patches.push(NamedPatch {
+            name: livepatch.name,
+            patch: &livepatch.patch,
+            left_out: LeftOut {
+                functions: 0,
+                objects: 0,
+            },
+        })?;
+    }
+    Ok(patches)
+}
+
+/// Returns a catalog of the livepatches, once it was read back, with what it has no room for left out if `is_cut`.
+/// Returns the exit status as `Err` if there is none.
 fn catalog_of<E: Write>(
     alloc: Global,
     livepatches: &[Livepatch<'_>],
     rows: &[KernelRow<'_>],
+    is_cut: bool,
     err: &mut E,
 ) -> Result<Draft, u8> {
-    let mut patches = Vec::new(alloc);
-    for livepatch in livepatches {
-        let named = NamedPatch {
-            name: livepatch.name,
-            patch: &livepatch.patch,
-        };
-        if patches.push(named).is_err() {
-            return Err(out_of_memory(err));
-        }
-    }
-    let draft = match draft_of(alloc, rows, &patches) {
-        Ok(draft) => draft,
-        Err(CatalogFault::NoMemory) => return Err(out_of_memory(err)),
-        Err(fault) => return Err(tell_refusal(fault, &patches, livepatches, err)),
+    let Ok(patches) = named_patches(alloc, livepatches) else {
+        return Err(out_of_memory(err));
     };
-    match is_catalog_of(alloc, draft.text.as_bytes(), rows, &patches) {
-        Ok(true) => Ok(draft),
-        Ok(false) => {
+    let draft = if is_cut {
+        cut_draft(alloc, rows, &patches)
+    } else {
+        whole_draft(alloc, rows, &patches)
+    };
+    match draft {
+        Ok(draft) => Ok(draft),
+        Err(NoCatalog::Refused(CatalogFault::NoMemory)) => Err(out_of_memory(err)),
+        Err(NoCatalog::Refused(fault)) => Err(tell_refusal(
+            fault,
+            &patches,
+            livepatches,
+            !is_cut,
+            err,
+        )),
+        Err(NoCatalog::Otherwise) => {
             let _ = writeln!(
                 err,
                 "{NAME}: the catalog says something else than the tables, so none is written: it is a fault of {NAME}"
             );
             Err(FAULT)
         }
-        Err(_) => Err(out_of_memory(err)),
     }
 }
 
-/// Writes a catalog of the livepatches. Returns whether all of it is known and the kernel can patch all functions, or the
+/// Writes a catalog of the livepatches, with what it has no room for left out if `is_cut`. Returns whether all of it is known and the kernel can patch all functions, or the
 /// exit status as `Err`.
 fn write_catalog<W: Write, E: Write>(
     alloc: Global,
     livepatches: &[Livepatch<'_>],
     files: &Files<'_>,
+    is_cut: bool,
     out: &mut W,
     err: &mut E,
 ) -> io::Result<Result<bool, u8>> {
@@ -154,7 +215,7 @@ fn write_catalog<W: Write, E: Write>(
         Ok(kernel) => kernel,
         Err(status) => return Ok(Err(status)),
     };
-    match catalog_of(alloc, livepatches, &kernel.rows, err) {
+    match catalog_of(alloc, livepatches, &kernel.rows, is_cut, err) {
         Ok(draft) => {
             out.write_all(draft.text.as_bytes())?;
             out.flush()?;
@@ -185,7 +246,9 @@ fn answer<W: Write, E: Write>(
         ModuleQuestion::List => list(alloc, livepatches, form, out).map(Ok),
         _ if !read.are_all => return FAULT,
         ModuleQuestion::Matrix => compare(alloc, livepatches, form, out).map(Ok),
-        ModuleQuestion::Catalog => write_catalog(alloc, livepatches, files, out, err),
+        ModuleQuestion::Catalog => {
+            write_catalog(alloc, livepatches, files, words.is_cut, out, err)
+        }
     };
     match written {
         Ok(Err(status)) => status,

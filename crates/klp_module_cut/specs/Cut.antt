@@ -1,0 +1,78 @@
+-- What a cut leaves of a livepatch's tables.
+use Rattle.std.specs.Prelude.{◌+◌, ◌==◌, ◌&&◌, not, ◌||◌, bytes_eq, if◌then◌else◌, Bool, true, false, List, [], ◌∷◌, length}
+use Rattle.klp_tables.specs.declared.patch.Callbacks.{Callbacks}
+use Rattle.klp_tables.specs.declared.patch.Function.{Function}
+use Rattle.klp_tables.specs.declared.patch.Object.{Object}
+use Rattle.klp_tables.specs.declared.patch.Replaces.{Replaces}
+use Rattle.klp_tables.specs.declared.patch.Replaces.TheVariants.{No, Yes, Unknown}
+use Rattle.klp_tables.specs.declared.patch.State.{State}
+use Rattle.klp_module_matrix.specs.Names.{name_of_row}
+use Rattle.klp_module_fit.specs.Fit.{function_count}
+use Rattle.klp_module_fit.specs.declared.NamedPatch.{NamedPatch}
+
+abbrev pub is_same_bool : Bool → Bool → Bool
+is_same_bool true other = other
+is_same_bool false other = not other
+
+abbrev pub is_same_replacing : Replaces → Replaces → Bool
+is_same_replacing Yes Yes = true
+is_same_replacing No No = true
+is_same_replacing Unknown Unknown = true
+is_same_replacing one other = false
+
+abbrev pub is_same_state : State → State → Bool
+is_same_state one other = one.id == other.id && one.version == other.version
+
+abbrev pub are_same_states : List State → List State → Bool
+are_same_states [] [] = true
+are_same_states (one ∷ states) (other ∷ others) = is_same_state one other && are_same_states states others
+are_same_states states others = false
+
+abbrev pub is_same_function : Function → Function → Bool
+is_same_function one other =
+    bytes_eq one.old_name.now other.old_name.now && one.position == other.position && bytes_eq one.new_name.now other.new_name.now
+
+abbrev pub are_same_callbacks : Callbacks → Callbacks → Bool
+are_same_callbacks one other =
+    is_same_bool one.pre_patch other.pre_patch && is_same_bool one.post_patch other.post_patch
+    && is_same_bool one.pre_unpatch other.pre_unpatch && is_same_bool one.post_unpatch other.post_unpatch
+
+-- an object has one of the four callbacks
+abbrev pub has_callbacks : Callbacks → Bool
+has_callbacks c = c.pre_patch || c.post_patch || c.pre_unpatch || c.post_unpatch
+
+-- the first functions are some of the second ones, in their order
+abbrev pub are_among : List Function → List Function → Bool
+are_among [] all = true
+are_among (one ∷ kept) [] = false
+are_among (one ∷ kept) (other ∷ all) = if is_same_function one other then are_among kept all else are_among (one ∷ kept) all
+
+-- the object with its callbacks, and some of its functions
+abbrev pub is_part_of : Object → Object → Bool
+is_part_of part whole =
+    bytes_eq (name_of_row part.row) (name_of_row whole.row) && are_same_callbacks part.row.callbacks whole.row.callbacks
+    && are_among part.functions.items whole.functions.items
+
+-- The first objects are parts of some of the second ones, in their order. An object with callbacks isn't left out.
+abbrev pub are_parts_of : List Object → List Object → Bool
+are_parts_of [] [] = true
+are_parts_of (part ∷ parts) [] = false
+are_parts_of [] (whole ∷ wholes) = not (has_callbacks whole.row.callbacks) && are_parts_of [] wholes
+are_parts_of (part ∷ parts) (whole ∷ wholes) =
+    if is_part_of part whole then are_parts_of parts wholes
+    else not (has_callbacks whole.row.callbacks) && are_parts_of (part ∷ parts) wholes
+
+-- these objects, and what is left out, are as many as those
+abbrev pub counts_left_out : NamedPatch → List Object → Bool
+counts_left_out cut wholes =
+    let parts = cut.patch.now.objects.items in
+    length parts + cut.left_out.objects == length wholes && function_count parts + cut.left_out.functions == function_count wholes
+
+-- The first patch is the second one, without some of its functions, and without some of its objects that have no callbacks. It says
+-- how many are left out.
+abbrev pub is_cut_of : NamedPatch → NamedPatch → Bool
+is_cut_of cut whole =
+    bytes_eq cut.name.now whole.name.now && is_same_replacing cut.patch.now.replaces whole.patch.now.replaces
+    && are_same_states cut.patch.now.states.items whole.patch.now.states.items
+    && are_parts_of cut.patch.now.objects.items whole.patch.now.objects.items
+    && counts_left_out cut whole.patch.now.objects.items

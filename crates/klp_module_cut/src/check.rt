@@ -1,0 +1,141 @@
+//! Whether a patch is another one, with some of it left out.
+ghost use Rattle.std.specs.Prelude.{◌≡◌, ◌+◌, ◌==◌, ◌≤◌, ◌^◌, true, MatchOption};
+ghost use Rattle.klp_module_fit.specs.Fit.{function_count};
+ghost use Rattle.klp_module_cut.specs.Cut.{are_among, are_parts_of, are_same_callbacks, are_same_states, counts_left_out, has_callbacks};
+ghost use Rattle.klp_module_cut.specs.Cut.{is_cut_of, is_part_of, is_same_function, is_same_replacing, is_same_state};
+
+use klp_module_fit::NamedPatch;
+use klp_module_matrix::name_of_row;
+use klp_tables::{Callbacks, Function, Object, Replaces, State};
+
+fn is_same_replacing(one: Replaces, other: Replaces) -> bool
+    ensures { result ≡ is_same_replacing one other }
+{
+    match (one, other) {
+        (Replaces::Yes, Replaces::Yes) => true,
+        (Replaces::No, Replaces::No) => true,
+        (Replaces::Unknown, Replaces::Unknown) => true,
+        _ => false,
+    }
+}
+
+fn is_same_state(one: &State, other: &State) -> bool
+    ensures { result ≡ is_same_state one.now other.now }
+{
+    one.id == other.id && one.version == other.version
+}
+
+fn are_same_states(states: &[State], others: &[State]) -> bool
+    ensures { result ≡ are_same_states states.now others.now }
+{
+    match states {
+        [] => others.is_empty(),
+        [one, rest @ ..] => match others {
+            [] => false,
+            [other, behind @ ..] => is_same_state(one, other) && are_same_states(rest, behind),
+        },
+    }
+}
+
+fn is_same_function(one: &Function<'_>, other: &Function<'_>) -> bool
+    ensures { result ≡ is_same_function one.now other.now }
+{
+    one.old_name == other.old_name
+        && one.position == other.position
+        && one.new_name == other.new_name
+}
+
+fn are_same_callbacks(one: Callbacks, other: Callbacks) -> bool
+    ensures { result ≡ are_same_callbacks one other }
+{
+    one.pre_patch == other.pre_patch
+        && one.post_patch == other.post_patch
+        && one.pre_unpatch == other.pre_unpatch
+        && one.post_unpatch == other.post_unpatch
+}
+
+/// Whether an object has one of the four callbacks.
+pub(crate) fn has_callbacks(callbacks: Callbacks) -> bool
+    ensures { result ≡ has_callbacks callbacks }
+{
+    callbacks.pre_patch || callbacks.post_patch || callbacks.pre_unpatch || callbacks.post_unpatch
+}
+
+/// Whether some functions are among others, in their order.
+fn are_among(kept: &[Function<'_>], all: &[Function<'_>]) -> bool
+    ensures { result ≡ are_among kept.now all.now }
+{
+    match kept {
+        [] => true,
+        [one, rest @ ..] => match all {
+            [] => false,
+            [other, behind @ ..] if is_same_function(one, other) => are_among(rest, behind),
+            [_, behind @ ..] => are_among(kept, behind),
+        },
+    }
+}
+
+fn is_part_of(part: &Object<'_>, whole: &Object<'_>) -> bool
+    ensures { result ≡ is_part_of part.now whole.now }
+{
+    name_of_row(&part.row) == name_of_row(&whole.row)
+        && are_same_callbacks(part.row.callbacks, whole.row.callbacks)
+        && are_among(&part.functions, &whole.functions)
+}
+
+/// Whether some objects are parts of others, in their order, and each one with callbacks is there.
+fn are_parts_of(parts: &[Object<'_>], wholes: &[Object<'_>]) -> bool
+    ensures { result ≡ are_parts_of parts.now wholes.now }
+{
+    match wholes {
+        [] => match parts {
+            [] => true,
+            _ => false,
+        },
+        [whole, behind @ ..] => match parts {
+            [part, rest @ ..] if is_part_of(part, whole) => are_parts_of(rest, behind),
+            _ => !has_callbacks(whole.row.callbacks) && are_parts_of(parts, behind),
+        },
+    }
+}
+
+/// Returns how many functions some objects have together. Returns `None` if that is no `usize`.
+pub(crate) fn count_functions(objects: &[Object<'_>]) -> Option<usize>
+    ensures { MatchOption result (2 ^ 64 ≤ function_count objects.now) (λ count. count ≡ function_count objects.now) }
+{
+    match objects {
+        [] => Some(0),
+        [object, rest @ ..] => object.functions.len().checked_add(count_functions(rest)?),
+    }
+}
+
+/// Whether two numbers are as much as a third one.
+fn is_sum(one: usize, other: usize, sum: usize) -> bool
+    ensures { result ≡ (one + other == sum) }
+{
+    one <= sum && other == sum - one
+}
+
+/// Whether a patch has as many objects and functions as some objects, with those that are left out.
+fn counts_left_out(cut: &NamedPatch<'_, '_>, wholes: &[Object<'_>]) -> bool
+    ensures { result ≡ true → counts_left_out cut.now wholes.now ≡ true }
+{
+    let parts = &cut.patch.objects;
+    let (Some(kept), Some(all)) = (count_functions(parts), count_functions(wholes)) else {
+        return false;
+    };
+    is_sum(parts.len(), cut.left_out.objects, wholes.len())
+        && is_sum(kept, cut.left_out.functions, all)
+}
+
+/// Whether a patch is another one, without some of its functions and without some of its objects that have no callbacks,
+/// and says how many are left out. False also if one of them has more functions than a `usize` counts.
+pub fn is_cut_of(cut: &NamedPatch<'_, '_>, whole: &NamedPatch<'_, '_>) -> bool
+    ensures { result ≡ true → is_cut_of cut.now whole.now ≡ true }
+{
+    cut.name == whole.name
+        && is_same_replacing(cut.patch.replaces, whole.patch.replaces)
+        && are_same_states(&cut.patch.states, &whole.patch.states)
+        && are_parts_of(&cut.patch.objects, &whole.patch.objects)
+        && counts_left_out(cut, &whole.patch.objects)
+}

@@ -1,0 +1,101 @@
+//! Cuts a patch down.
+use crate::check::count_functions;
+use crate::choice::Choice;
+use klp_module_fit::{LeftOut, NamedPatch};
+use klp_tables::{Object, Patch};
+use std::alloc::{AllocError, Global};
+
+/// How much of a patch may stay.
+#[derive(Clone, Copy)]
+pub struct CutRoom {
+    /// At most so many functions stay.
+    pub functions: usize,
+    /// At most so many objects stay, or those with callbacks if there are more of them.
+    pub objects: usize,
+}
+
+/// What a cut leaves of a patch, and how much it leaves out.
+#[derive(Drop)]
+pub struct Cut<'p, 'a> {
+    pub name: &'p [u8],
+    pub patch: Patch<'a>,
+    pub left_out: LeftOut,
+}
+
+impl<'p, 'a> Cut<'p, 'a> {
+    /// Returns the patch that is left, with its name and what is left out.
+    pub fn named<'c>(&'c self) -> NamedPatch<'c, 'a> {
+        NamedPatch {
+            name: self.name,
+            patch: &self.patch,
+            left_out: self.left_out,
+        }
+    }
+}
+
+/// Returns an object with those of its functions that stay.
+fn part_of<'p, 'a>(
+    alloc: Global,
+    object: &Object<'a>,
+    choice: &mut Choice<'p, 'a>,
+) -> Result<Object<'a>, AllocError> {
+    let mut functions = Vec::new(alloc);
+    for function in &object.functions {
+        if choice.takes(object, function) {
+            functions.push(*function)?;
+        }
+    }
+    Ok(Object {
+        row: object.row,
+        functions,
+    })
+}
+
+/// Returns how many are left out.
+fn left_out(objects: &[Object<'_>], parts: &[Object<'_>]) -> LeftOut {
+    let all = count_functions(objects).unwrap_or(usize::MAX);
+    let kept = count_functions(parts).unwrap_or(usize::MAX);
+    LeftOut {
+        functions: all.saturating_sub(kept),
+        objects: objects.len().saturating_sub(parts.len()),
+    }
+}
+
+/// Returns a patch of these, by its number from 0, without what there is no room for. Objects with callbacks stay, then
+/// those with a function that another one of the patches changes too, then the others; and such functions stay before
+/// others. Each time the first ones of the tables stay. System states stay.
+///
+/// Returns `None` if there is no such patch, and `Err` if memory runs out. The cost is a step for each function of this
+/// patch with each function of the others. [`is_cut_of`](crate::is_cut_of) decides whether the result is a cut.
+pub fn cut_patch<'p, 'a>(
+    alloc: Global,
+    patches: &[NamedPatch<'p, 'a>],
+    number: usize,
+    room: CutRoom,
+) -> Result<Option<Cut<'p, 'a>>, AllocError> {
+    let Some(named) = patches.get(number) else {
+        return Ok(None);
+    };
+    let whole = named.patch;
+    let mut choice = Choice::new(alloc, patches, number, &whole.objects, room)?;
+    let mut objects = Vec::new(alloc);
+    for (place, object) in whole.objects.iter().enumerate() {
+        if choice.has_object(place) {
+            objects.push(part_of(alloc, object, &mut choice)?)?;
+        }
+    }
+    let mut states = Vec::new(alloc);
+    for state in &whole.states {
+        states.push(*state)?;
+    }
+    let left_out = left_out(&whole.objects, &objects);
+    Ok(Some(Cut {
+        name: named.name,
+        patch: Patch {
+            objects,
+            states,
+            replaces: whole.replaces,
+        },
+        left_out,
+    }))
+}
