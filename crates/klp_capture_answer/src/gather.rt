@@ -1,11 +1,16 @@
 //! Gathers a report from a log and the run that shows it.
-use crate::elsewhere::slept_elsewhere;
+ghost use Rattle.std.specs.Prelude.{◌≡◌, true, IfOk};
+ghost use Rattle.klp_capture_report.specs.declared.report.VerdictReport.TheVariants.{Explained as IsExplained};
+ghost use Rattle.klp_capture_calm.specs.Calm.{MaySayExplained, MaySayNobodyLags};
+
+use crate::elsewhere::{flags_of, is_named_elsewhere};
 use crate::groups::{groups_of, process_name};
 use crate::inside::inside_of;
-use crate::lagging::{is_calm, lagging_of};
+use crate::lagging::lagging_of;
 use crate::not_explained::not_explained_of;
 use crate::not_seen::not_seen_of;
 use klp_capture::{BootTime, Capture, Sample, Text};
+use klp_capture_calm::{is_calm, verdict_on};
 use klp_capture_catalog::{
     SeenTransition, TransitionEnding, TransitionStart, first_forced_in, first_named,
     kernel_holders_in, kernel_log_differs,
@@ -13,11 +18,11 @@ use klp_capture_catalog::{
 use klp_capture_report::{
     Becomes, BrokenReport, EndReport, HolderReport, HowEnded, KernelHolderReport, KernelLogReport,
     LeftReport, Report, SCHEMA, SampleCounts, TaskCounts, TaskReport, TransitionReport,
-    UnplacedReport, VerdictReport,
+    UnplacedReport,
 };
 use klp_capture_run::{Explained, Holder, HoldingSleep};
 use klp_capture_search::{Followed, Run};
-use klp_contradictions::{LogVerdict, contradiction_in, verdict_of};
+use klp_contradictions::contradiction_in;
 use klp_types::Version;
 use std::alloc::{AllocError, Global};
 
@@ -152,7 +157,12 @@ fn kernel_holders_of(
     transitions: &[TransitionReport],
 ) -> Result<Vec<KernelHolderReport>, AllocError> {
     let mut holders = Vec::new(alloc);
-    for holder in &kernel_holders_in(alloc, capture)? {
+    let named = kernel_holders_in(alloc, capture)?;
+    if named.is_empty() {
+        return Ok(holders);
+    }
+    let flags = flags_of(alloc, capture, run)?;
+    for holder in &named {
         let is_shown = transitions.iter().any(|transition| {
             transition
                 .holders
@@ -166,7 +176,7 @@ fn kernel_holders_of(
                 function: text_of(alloc, holder.function)?,
                 from_us: holder.from.0,
                 to_us: holder.to.0,
-                slept_elsewhere: slept_elsewhere(capture, run, holder.thread),
+                slept_elsewhere: is_named_elsewhere(alloc, capture, holder.thread, &flags)?,
             })?;
         }
     }
@@ -327,18 +337,6 @@ fn others_of(capture: &Capture<'_>, run: &Run<'_>) -> TaskCounts {
     }
 }
 
-/// Whether a transition goes on, and some task lags by the run that was found, or isn't judged.
-fn are_in_run(transitions: &[TransitionReport], run: &Run<'_>) -> bool {
-    match transitions.last() {
-        Some(last) => {
-            run.left_out > 0
-                || !last.lagging.is_empty()
-                || last.holders.iter().any(|holder| holder.holds_still)
-        }
-        None => false,
-    }
-}
-
 /// Returns the first sample that contradicts the rules. Nothing is judged that the kernel forced.
 fn broken_of(
     alloc: Global,
@@ -366,31 +364,26 @@ fn booted(capture: &Capture<'_>) -> Option<u64> {
     Some(clock.epoch.saturating_sub(clock.uptime.0 / SECOND))
 }
 
-/// Gathers the findings about a log.
+/// Gathers the findings about a log. It is explained only if a run of the rules shows each sample that counts. Nobody is
+/// said to lag only if nobody does by that run, and by what the log says of each task last.
 pub fn report_of(
     alloc: Global,
     capture: &Capture<'_>,
     found: &Explained<'_>,
-) -> Result<Report, AllocError> {
+) -> Result<Report, AllocError>
+    ensures explained { IfOk result (λ report. report.verdict ≡ IsExplained
+        → MaySayExplained found.now report.not_seen.items report.broken report.kernel_log_differs) }
+    ensures calm { IfOk result (λ report. report.nobody_lags ≡ true
+        → MaySayNobodyLags capture.now found.now report.verdict report.transitions.items) }
+{
     let run = &found.run;
     let holding = found.holders(alloc)?;
     let not_seen = not_seen_of(alloc, capture, found.forced)?;
     let broken = broken_of(alloc, capture, found)?;
     let kernel_log_differs = kernel_log_of(alloc, capture, found.forced)?;
-    let is_explained = found.is_explained() && kernel_log_differs.is_none();
-    let verdict = match verdict_of(not_seen.is_empty(), broken.is_some(), is_explained) {
-        LogVerdict::Explained => VerdictReport::Explained,
-        LogVerdict::Broken => VerdictReport::Broken,
-        LogVerdict::NotExplained => VerdictReport::NotExplained,
-        LogVerdict::NotSeen => VerdictReport::NotSeen,
-    };
+    let verdict = verdict_on(found, &not_seen, &broken, &kernel_log_differs);
     let transitions = transitions_of(alloc, capture, found, &holding)?;
-    let are_in_run = are_in_run(&transitions, run);
-    let nobody_lags = if verdict == VerdictReport::Explained && found.forced.is_none() {
-        is_calm(alloc, capture, run, are_in_run)?
-    } else {
-        false
-    };
+    let nobody_lags = is_calm(alloc, capture, found, verdict, &holding, &transitions)?;
     Ok(Report {
         schema: SCHEMA,
         kernel: text_of(alloc, capture.kernel)?,

@@ -1,7 +1,7 @@
 //! Who lags in the last sample: by the run that was found, and by what the log says of each task last.
 use crate::gather::task_of;
 use klp_capture::{Activity, Capture, Sample, SeenTask};
-use klp_capture_lagging::{lagging_in, nobody_lags};
+use klp_capture_lagging::lagging_in;
 use klp_capture_report::{LaggingReport, WhyLags};
 use klp_capture_search::{Followed, Run};
 use klp_core::Lag;
@@ -17,10 +17,12 @@ fn target_of(run: &Run<'_>) -> Option<bool> {
     }
 }
 
-/// Returns the samples from the last one that the run reached. Those behind it are torn, if the run shows the log.
-fn last_samples<'c>(capture: &'c Capture<'_>, run: &Run<'_>) -> &'c [Sample] {
-    let last = run.last.unwrap_or(0);
-    capture.samples.get(last..).unwrap_or(&[])
+/// Returns the samples up to the last one that the run reached.
+fn reached_samples<'c>(capture: &'c Capture<'_>, run: &Run<'_>) -> &'c [Sample] {
+    match run.last {
+        Some(last) => capture.samples.get(..=last).unwrap_or(&[]),
+        None => &[],
+    }
 }
 
 /// Returns which tasks lag by what the log says of them last, up to the last sample that the run reached. Returns none if no
@@ -33,30 +35,7 @@ fn lags_of<'a>(
     let Some(target) = target_of(run) else {
         return Ok(Vec::new(alloc));
     };
-    let behind = last_samples(capture, run).len().saturating_sub(1);
-    let reached = capture.samples.len().saturating_sub(behind);
-    let samples = capture.samples.get(..reached).unwrap_or(&[]);
-    lagging_in(alloc, capture, samples, target)
-}
-
-/// Whether no task is known to lag, though a transition goes on: neither one of the run, nor one by what the whole log says
-/// of it last, nor one that a sample from the last one on only counts. `are_in_run` says whether a task lags by the run.
-pub(crate) fn is_calm(
-    alloc: Global,
-    capture: &Capture<'_>,
-    run: &Run<'_>,
-    are_in_run: bool,
-) -> Result<bool, AllocError> {
-    let Some(target) = target_of(run) else {
-        return Ok(false);
-    };
-    nobody_lags(
-        alloc,
-        capture,
-        last_samples(capture, run),
-        target,
-        are_in_run,
-    )
+    lagging_in(alloc, capture, reached_samples(capture, run), target)
 }
 
 /// Returns why a task lags that was last read so.

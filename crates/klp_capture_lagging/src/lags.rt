@@ -1,10 +1,13 @@
 //! The tasks that weren't at the target when the log last said something of them.
-ghost use Rattle.std.specs.Prelude.{◌≡◌, ◌↔◌, ◌++◌, true, false, [], IfOk, OnOk};
+ghost use Rattle.std.specs.Prelude.{◌≡◌, ◌↔◌, ◌++◌, Bool, true, false, List, [], Contains, IfOk, OnOk};
 ghost use Rattle.std.specs.List.{list_any};
-ghost use Rattle.klp_capture.specs.Shown.{span_of};
-ghost use Rattle.klp_capture_lagging.specs.Lagging.{is_off, is_of, is_same, lets_go, is_about, is_last, lagging_at, lagging_of, lagging_in, counts_some};
+ghost use Rattle.klp_capture.specs.Shown.{span_of, is_settled};
+ghost use Rattle.klp_capture.specs.declared.capture.Capture.{Capture};
+ghost use Rattle.klp_capture.specs.declared.capture.Sample.{Sample};
+ghost use Rattle.klp_capture.specs.declared.capture.SeenTask.{SeenTask};
+ghost use Rattle.klp_capture_lagging.specs.Lagging.{is_off, is_of, is_same, lets_go, is_about, is_last, IsLastSaid, lagging_at, lagging_of, lagging_in, counts_some, end_of, goes_to, is_moving_to, has_moving, NobodyLags};
 
-use klp_capture::{Capture, PatchedState, Sample, SeenTask};
+use klp_capture::{Capture, PatchRow, PatchedState, Sample, SeenTask};
 use std::alloc::{AllocError, Global};
 
 /// Whether this isn't the state of the tasks at the target. A task without a state doesn't lag.
@@ -19,7 +22,7 @@ fn is_off(target: bool, state: PatchedState) -> bool
 }
 
 /// Whether one of these readings is of the thread.
-fn is_read(readings: &[SeenTask<'_>], thread: u64) -> bool
+pub(crate) fn is_read(readings: &[SeenTask<'_>], thread: u64) -> bool
     ensures { result ≡ list_any (is_of thread) readings.now }
 {
     for seen in readings {
@@ -42,11 +45,18 @@ fn is_among(threads: &[u64], thread: u64) -> bool
 }
 
 /// Whether a sample says that the thread has ended, or isn't followed any longer.
-fn lets_go(capture: &Capture<'_>, thread: u64, sample: &Sample) -> bool
+pub(crate) fn lets_go(capture: &Capture<'_>, thread: u64, sample: &Sample) -> bool
     ensures { result ≡ lets_go capture.now thread sample.now }
 {
     is_among(sample.gone.of(&capture.gone), thread)
         || is_among(sample.left.of(&capture.left), thread)
+}
+
+/// Whether a sample says something of the thread.
+pub(crate) fn is_about(capture: &Capture<'_>, thread: u64, sample: &Sample) -> bool
+    ensures { result ≡ is_about capture.now thread sample.now }
+{
+    is_read(sample.tasks.of(&capture.seen), thread) || lets_go(capture, thread, sample)
 }
 
 /// Whether one of these samples says something of the thread.
@@ -54,7 +64,7 @@ fn is_any_about(capture: &Capture<'_>, thread: u64, samples: &[Sample]) -> bool
     ensures { result ≡ list_any (is_about capture.now thread) samples.now }
 {
     for sample in samples {
-        if is_read(sample.tasks.of(&capture.seen), thread) || lets_go(capture, thread, sample) {
+        if is_about(capture, thread, sample) {
             return true;
         }
     }
@@ -162,20 +172,112 @@ fn any_counts_some(samples: &[Sample]) -> bool
     false
 }
 
-/// Whether no task is known to lag in a transition to this target: neither one of the run, nor one by what the log says of it
-/// last, nor one that these samples, the latest ones, only count. `are_in_run` says whether a task lags at the end of the run
-/// that shows the log. Returns `Err` if memory runs out. The time is that of [`lagging_in`].
+/// Whether one of these samples is whole.
+fn any_is_whole(samples: &[Sample]) -> bool
+    ensures { result ≡ list_any is_settled samples.now }
+{
+    for sample in samples {
+        if sample.is_settled() {
+            return true;
+        }
+    }
+    false
+}
+
+/// Returns the last whole sample and those behind it, which are torn: a patch changed while they were taken. Returns none if
+/// no sample is whole.
+pub fn end_of(samples: &[Sample]) -> &[Sample]
+    ensures { result.now ≡ end_of samples.now }
+{
+    for place in 0..samples.len() {
+        if samples[place].is_settled() && !any_is_whole(&samples[place + 1..]) {
+            return &samples[place..];
+        }
+    }
+    &[]
+}
+
+/// Whether a patch goes to this target if its file `enabled` reads so.
+fn goes_to(target: bool, is_enabled: bool) -> bool
+    ensures { result ≡ goes_to target is_enabled }
+{
+    if target { is_enabled } else { !is_enabled }
+}
+
+/// Whether a line has this patch in transition to this target.
+fn is_moving_to(row: &PatchRow<'_>, patch: &[u8], target: bool) -> bool
+    ensures { result ≡ is_moving_to patch.now target row.now }
+{
+    match row {
+        PatchRow::Patch {
+            name,
+            is_enabled,
+            is_moving,
+            ..
+        } => *name == patch && *is_moving && goes_to(target, *is_enabled),
+        _ => false,
+    }
+}
+
+fn any_is_moving_to(rows: &[PatchRow<'_>], patch: &[u8], target: bool) -> bool
+    ensures { result ≡ list_any (is_moving_to patch.now target) rows.now }
+{
+    for row in rows {
+        if is_moving_to(row, patch, target) {
+            return true;
+        }
+    }
+    false
+}
+
+/// Whether the first of these samples has this patch in transition to this target.
+fn has_moving(capture: &Capture<'_>, patch: &[u8], target: bool, samples: &[Sample]) -> bool
+    ensures { result ≡ has_moving capture.now patch.now target samples.now }
+{
+    match samples {
+        [sample, ..] => any_is_moving_to(sample.patches.of(&capture.rows), patch, target),
+        [] => false,
+    }
+}
+
+/// Those tasks lag, and no others, of which the last that some samples say is that they aren't at the target. This function
+/// does nothing: its contract is the law.
+pub fn who_lags_was_last_said_so()
+    ensures { (capture : Capture) (target : Bool) (samples : List Sample) (seen : SeenTask)
+        → (Contains (lagging_in capture target samples) seen
+        ↔ (IsLastSaid capture samples seen × (is_off target seen.task.state ≡ true))) }
+{}
+
+fn has_none<T>(list: &[T]) -> bool
+    ensures { (result ≡ true) ↔ (list.now ≡ []) }
+{
+    list.is_empty()
+}
+
+/// Whether the first three are so, and the last isn't.
+fn are_so(is_all_read: bool, is_moving: bool, is_none_named: bool, are_counted: bool) -> bool
+    ensures { (result ≡ true)
+        ↔ ((is_all_read ≡ true) × (is_moving ≡ true) × (is_none_named ≡ true) × (are_counted ≡ false)) }
+{
+    is_all_read && is_moving && is_none_named && !are_counted
+}
+
+/// Whether nobody is known to lag, by a whole log, in the transition of this patch to this target. Returns false if a file
+/// couldn't be read, or if the last whole sample doesn't show this transition. Returns `Err` if memory runs out. The time is
+/// that of [`lagging_in`] for all samples.
 pub fn nobody_lags(
     alloc: Global,
     capture: &Capture<'_>,
-    latest: &[Sample],
+    patch: &[u8],
     target: bool,
-    are_in_run: bool,
 ) -> Result<bool, AllocError>
-    ensures { IfOk result (λ nobody. (nobody ≡ true) ↔
-        ((are_in_run ≡ false) × (lagging_in capture.now target capture.now.samples.items ≡ [])
-        × (list_any counts_some latest.now ≡ false))) }
+    ensures { IfOk result (λ nobody. (nobody ≡ true) ↔ NobodyLags capture.now patch.now target) }
 {
+    let end = end_of(&capture.samples);
+    let is_moving = has_moving(capture, patch, target, end);
+    let are_counted = any_counts_some(end);
+    let is_all_read = has_none(&capture.missing);
     let named = lagging_in(alloc, capture, &capture.samples, target)?;
-    Ok(!are_in_run && named.is_empty() && !any_counts_some(latest))
+    let is_none_named = has_none(&named);
+    Ok(are_so(is_all_read, is_moving, is_none_named, are_counted))
 }

@@ -1,0 +1,2 @@
+pub mod CalmLemmas
+pub mod VerdictLemmas
