@@ -28,7 +28,7 @@ SLEEPS = re.compile(r"^log ([\d.]+) livepatch: klp_try_switch_task: .*:(\d+) is 
 SAMPLE = re.compile(r"^sample ([\d.]+) ([\d.]+) ", re.M)
 # A time, with the time of day if the log has that.
 TIME = r"(?:\S+ GMT \()?([\d.]+) s\)?"
-HELD = re.compile(rf"^  .*\[(\d+)\].* held it up, asleep in (\S+), from {TIME} to {TIME}$", re.M)
+HELD = re.compile(rf"^  .*\[(\d+)\].* held it up, asleep in (\S+), (?:from|at) {TIME}(?: to {TIME}| \(seen once\))$", re.M)
 # How the answers end that have nothing to refuse: by status.
 WHOLE = {
     EXPLAINED: re.compile(rb"^(?:a run of the rules shows each of \d+ samples(?:; .*)?|as far as was seen, the premises of the "
@@ -40,14 +40,14 @@ WHOLE = {
 }
 # Threads of one process that sleep in one function share a line.
 GROUP = re.compile(r"^  .*\[(\d+)\]: (\d+) threads h(?:old|eld) it up", re.M)
-HOLDS = re.compile(rf"^  .*\[(\d+)\].* holds it up: asleep \([^)]*\) in (\S+) since {TIME} or before, for ([\d.]+) s(?:; .*)?$", re.M)
+HOLDS = re.compile(rf"^  .*\[(\d+)\].* holds it up: asleep \([^)]*\) in (\S+) since {TIME} or before(?:, for ([\d.]+) s| \(seen once\))(?:; .*)?$", re.M)
 
 
 def holders(said):
     """For each task that holds the transition up, or did: in which function, and from when to when."""
-    held = {task: (function, float(first), float(last)) for task, function, first, last in HELD.findall(said)}
+    held = {task: (function, float(first), float(last or first)) for task, function, first, last in HELD.findall(said)}
     for task, function, first, length in HOLDS.findall(said):
-        held[task] = function, float(first), float(first) + float(length)
+        held[task] = function, float(first), float(first) + float(length or 0)
     return held
 
 

@@ -6,10 +6,10 @@ ghost use Rattle.klp_capture_calm.specs.Calm.{MaySayExplained, MaySayNobodyLags}
 use crate::elsewhere::{flags_of, is_named_elsewhere};
 use crate::groups::{groups_of, process_name};
 use crate::inside::inside_of;
-use crate::lagging::lagging_of;
+use crate::lagging::{counted_by_torn, lagging_of};
 use crate::not_explained::not_explained_of;
 use crate::not_seen::not_seen_of;
-use klp_capture::{BootTime, Capture, Sample, Text};
+use klp_capture::{BootTime, Capture, Sample, TaskLine, Text};
 use klp_capture_calm::{is_calm, verdict_on};
 use klp_capture_catalog::{
     SeenTransition, TransitionEnding, TransitionStart, first_forced_in, first_named,
@@ -22,7 +22,7 @@ use klp_capture_report::{
 };
 use klp_capture_run::{Explained, Holder, HoldingSleep};
 use klp_capture_search::{Followed, Run};
-use klp_contradictions::contradiction_in;
+use klp_contradictions::{Contradiction, contradiction_in};
 use klp_types::Version;
 use std::alloc::{AllocError, Global};
 
@@ -36,6 +36,17 @@ pub(crate) fn text_of(alloc: Global, bytes: &[u8]) -> Result<String, AllocError>
 
 /// Returns the report's entry of a task of the run.
 pub(crate) fn task_of(alloc: Global, task: &Followed<'_>) -> Result<TaskReport, AllocError> {
+    Ok(TaskReport {
+        name: text_of(alloc, task.name)?,
+        thread: task.thread,
+        process: task.process,
+        is_kernel_thread: task.is_kernel_thread,
+        state: text_of(alloc, &[task.letter])?,
+    })
+}
+
+/// Returns the report's entry of a task that a sample names.
+pub(crate) fn seen_task_of(alloc: Global, task: &TaskLine<'_>) -> Result<TaskReport, AllocError> {
     Ok(TaskReport {
         name: text_of(alloc, task.name)?,
         thread: task.thread,
@@ -331,9 +342,21 @@ fn others_of(capture: &Capture<'_>, run: &Run<'_>) -> TaskCounts {
         running,
         sleeping,
         inside,
+        torn: counted_by_torn(capture, run),
         left_out: run.left_out,
         functions_left_out: run.functions.left_out as u64,
         names_cut: run.functions.cut.len() as u64,
+    }
+}
+
+/// Returns the time of the earlier sample that a sample contradicts. Returns `None` if what it contradicts isn't a sample.
+fn earlier_us(what: Contradiction<'_>) -> Option<u64> {
+    match what {
+        Contradiction::MovedAsleep(_, at)
+        | Contradiction::EndedAsleep(_, at)
+        | Contradiction::RanBackwards(_, at)
+        | Contradiction::Revived(_, at) => Some(at.0),
+        _ => None,
     }
 }
 
@@ -354,6 +377,7 @@ fn broken_of(
         from_us: sample.line.from.0,
         to_us: sample.line.to.0,
         why: format!(in alloc; "{}", it.what)?,
+        earlier_us: earlier_us(it.what),
         unless_forced: it.what.is_excused_by_a_force(),
     }))
 }

@@ -1,7 +1,7 @@
 //! The tasks inside of functions that a patch would change, before the patch is loaded.
-use crate::gather::text_of;
+use crate::gather::{seen_task_of, text_of};
 use klp_capture::{Activity, Capture, Sample, SeenTask};
-use klp_capture_report::{InsideReport, TaskReport};
+use klp_capture_report::InsideReport;
 use std::alloc::{AllocError, Global};
 
 /// A task as it was last seen. Also has the number of samples in which the task was inside of a function for which
@@ -80,13 +80,7 @@ pub(crate) fn inside_of(
         };
         let task = seen.task.task;
         inside.push(InsideReport {
-            task: TaskReport {
-                name: text_of(alloc, task.name)?,
-                thread: task.thread,
-                process: task.process,
-                is_kernel_thread: task.is_kernel_thread,
-                state: text_of(alloc, &[task.letter])?,
-            },
+            task: seen_task_of(alloc, &task)?,
             function: text_of(alloc, function)?,
             is_asleep: task.is_stable && task.activity == Activity::Asleep,
             samples: seen.samples,

@@ -1,8 +1,8 @@
 //! Who lags in the last sample: by the run that was found, and by what the log says of each task last.
-use crate::gather::task_of;
-use klp_capture::{Activity, Capture, Sample, SeenTask};
-use klp_capture_lagging::lagging_in;
-use klp_capture_report::{LaggingReport, WhyLags};
+use crate::gather::{seen_task_of, task_of, text_of};
+use klp_capture::{Activity, Capture, FrameLine, Sample, SeenTask};
+use klp_capture_lagging::{end_of, lagging_in};
+use klp_capture_report::{LaggingReport, TornReport, WhyLags};
 use klp_capture_search::{Followed, Run};
 use klp_core::Lag;
 use std::alloc::{AllocError, Global};
@@ -79,7 +79,109 @@ fn why_lags(
     }
 }
 
-/// Returns the tasks that lag in the last sample without holding the transition up.
+/// Returns the torn samples at the log's end, if the run reached the last whole one before them.
+fn torn_samples<'c>(capture: &'c Capture<'_>, run: &Run<'_>) -> &'c [Sample] {
+    let end = end_of(&capture.samples);
+    let place = capture.samples.len().saturating_sub(end.len());
+    match run.last {
+        Some(last) if last == place => end.get(1..).unwrap_or(&[]),
+        _ => &[],
+    }
+}
+
+/// Returns how many tasks a sample counts that lag, without naming them.
+fn counted_in(sample: &Sample) -> u64 {
+    let line = sample.line;
+    line.running
+        .saturating_add(line.sleeping)
+        .saturating_add(line.inside.unwrap_or(0))
+}
+
+/// Returns the most tasks that a torn sample at the log's end counts as lagging. Returns 0 if the last whole one counts
+/// some.
+pub(crate) fn counted_by_torn(capture: &Capture<'_>, run: &Run<'_>) -> u64 {
+    let last = run.last.and_then(|last| capture.samples.get(last));
+    if last.is_some_and(|last| counted_in(last) > 0) {
+        return 0;
+    }
+    let mut most: u64 = 0;
+    for sample in torn_samples(capture, run) {
+        most = most.max(counted_in(sample));
+    }
+    most
+}
+
+/// Returns the innermost of these frames that is in a function of a patch, or in one that a patch changes.
+fn function_in<'a>(run: &Run<'_>, frames: &[FrameLine<'a>]) -> Option<&'a [u8]> {
+    for frame in frames.windows(1) {
+        if run.functions.is_inside(frame) {
+            return Some(frame.first()?.function);
+        }
+    }
+    None
+}
+
+/// Whether the answer has the task already: it lags or holds the transition up in the last sample that the run reached.
+fn is_listed(run: &Run<'_>, lagging: &[LaggingReport], seen: &SeenTask<'_>) -> bool {
+    let thread = seen.task.thread;
+    let holds = run.tasks.iter().any(|task| task.thread == thread
+        && task.start == seen.task.start
+        && matches!(task.lag, Some(Lag::Holds(_))));
+    holds || lagging.iter().any(|own| own.task.thread == thread)
+}
+
+/// Returns when the last of these samples was taken that reads a thread. Returns 0 if none does.
+fn last_read_us(capture: &Capture<'_>, samples: &[Sample], thread: u64) -> u64 {
+    let read = samples.iter().rfind(|sample| {
+        sample
+            .tasks
+            .of(&capture.seen)
+            .iter()
+            .any(|seen| seen.task.thread == thread)
+    });
+    match read {
+        Some(sample) => sample.line.from.0,
+        None => 0,
+    }
+}
+
+/// Adds the tasks that only torn samples at the log's end show as lagging. No run shows these samples, and still nobody is
+/// switched who was last seen unswitched.
+fn add_torn(
+    alloc: Global,
+    capture: &Capture<'_>,
+    run: &Run<'_>,
+    lagging: &mut Vec<LaggingReport>,
+) -> Result<(), AllocError> {
+    let Some(target) = target_of(run) else {
+        return Ok(());
+    };
+    let torn = torn_samples(capture, run);
+    for seen in &lagging_in(alloc, capture, torn, target)? {
+        if is_listed(run, lagging, seen) {
+            continue;
+        }
+        let function = function_in(run, seen.frames.of(&capture.frames));
+        let (why, function) = match (why_of(capture, run, seen), function) {
+            (WhyLags::AsleepElsewhere, Some(function)) => {
+                (WhyLags::AsleepInside, Some(text_of(alloc, function)?))
+            }
+            (why, _) => (why, None),
+        };
+        lagging.push(LaggingReport {
+            task: seen_task_of(alloc, &seen.task)?,
+            why,
+            torn: Some(TornReport {
+                at_us: last_read_us(capture, torn, seen.task.thread),
+                function,
+            }),
+        })?;
+    }
+    Ok(())
+}
+
+/// Returns the tasks that lag in the last sample without holding the transition up. Those that only a torn sample behind it
+/// shows so come last.
 pub(crate) fn lagging_of(
     alloc: Global,
     capture: &Capture<'_>,
@@ -90,8 +192,13 @@ pub(crate) fn lagging_of(
     for task in &run.tasks {
         if let Some(why) = why_lags(capture, run, &lags, task) {
             let task = task_of(alloc, task)?;
-            lagging.push(LaggingReport { task, why })?;
+            lagging.push(LaggingReport {
+                task,
+                why,
+                torn: None,
+            })?;
         }
     }
+    add_torn(alloc, capture, run, &mut lagging)?;
     Ok(lagging)
 }

@@ -239,7 +239,7 @@ impl Follower {
         if report.verdict != self.verdict {
             self.verdict = report.verdict;
             let why = match &report.broken {
-                Some(broken) => Some(copied(alloc, &broken.why)?),
+                Some(broken) => Some(format!(in alloc; "{}", broken.in_words(report.times()))?),
                 None => None,
             };
             changes.push(Change::Judged {

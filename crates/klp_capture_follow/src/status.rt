@@ -20,8 +20,12 @@ impl Status<'_> {
         f: &mut fmt::Formatter<W>,
     ) -> fmt::Result {
         let (patch, becomes) = (shown(&under_way.patch), word_of(under_way.becomes));
-        let time = Elapsed(under_way.from, self.at);
-        write!(f, "{patch} is being {becomes} for {time} s")?;
+        if under_way.from == self.at {
+            write!(f, "{patch} is being {becomes} (seen once)")?;
+        } else {
+            let time = Elapsed(under_way.from, self.at);
+            write!(f, "{patch} is being {becomes} for {time} s")?;
+        }
         let mut before = "; held up by ";
         for held in &self.follower.holding {
             write!(f, "{before}{held}")?;

@@ -15,7 +15,7 @@ pub use moment::{Moment, Times};
 pub use report::{
     Becomes, BrokenReport, EndReport, GroupReport, HolderReport, HowEnded, InsideReport,
     KernelHolderReport, KernelLogReport, LaggingReport, LeftReport, NotExplainedReport, NotSeen,
-    Report, SCHEMA, SampleCounts, TaskCounts, TaskReport, TransitionReport, UnplacedReport,
-    VerdictReport, WhyLags, print_json,
+    Report, SCHEMA, SampleCounts, TaskCounts, TaskReport, TornReport, TransitionReport,
+    UnplacedReport, VerdictReport, WhyLags, print_json,
 };
-pub use words::print_report;
+pub use words::{BrokenWords, print_report};

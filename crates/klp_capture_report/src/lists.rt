@@ -2,8 +2,8 @@
 use crate::moment::Times;
 use crate::report::{KernelHolderReport, LeftReport};
 use crate::words::shown;
-use std::io;
 use std::io::Write;
+use std::{fmt, io};
 
 /// At most this many lines are written of each list.
 pub(crate) const SHOWN: usize = 16;
@@ -75,6 +75,25 @@ struct Together {
     to_us: u64,
 }
 
+/// From when to when the kernel's log names tasks: `from 3.90 s to 5.90 s`, or `at 3.90 s`.
+#[derive(Clone, Copy)]
+struct Named {
+    times: Times,
+    from_us: u64,
+    to_us: u64,
+}
+
+impl fmt::Display for Named {
+    fn fmt<W: fmt::Write>(&self, f: &mut fmt::Formatter<W>) -> fmt::Result {
+        let (from, to) = (self.times.at(self.from_us), self.times.at(self.to_us));
+        if self.from_us == self.to_us {
+            write!(f, "at {from}")
+        } else {
+            write!(f, "from {from} to {to}")
+        }
+    }
+}
+
 /// Counts the tasks that slept in the function in which this one did, by the kernel's log.
 fn count_together(holders: &[KernelHolderReport], one: &KernelHolderReport) -> Together {
     let mut together = Together {
@@ -131,17 +150,21 @@ pub(crate) fn print_kernel_holders<W: Write>(
         let together = count_together(holders, one);
         let tasks = together.tasks;
         let (name, thread, function) = (shown(&one.name), one.thread, shown(&one.function));
-        let (from, to) = (times.at(one.from_us), times.at(together.to_us));
+        let named = Named {
+            times,
+            from_us: one.from_us,
+            to_us: together.to_us,
+        };
         if tasks > 1 {
             writeln!(
                 out,
-                "  the kernel's log names {tasks} more as holders, asleep in {function}, from {from} to {to}: \
+                "  the kernel's log names {tasks} more as holders, asleep in {function}, {named}: \
                 {name}[{thread}] is the first (--json names them)"
             )?;
         } else {
             writeln!(
                 out,
-                "  the kernel's log names {name}[{thread}] as a holder, asleep in {function}, from {from} to {to}"
+                "  the kernel's log names {name}[{thread}] as a holder, asleep in {function}, {named}"
             )?;
         }
         print_elsewhere(together, out)?;

@@ -1,6 +1,6 @@
 //! The times of a log in words: seconds since boot, and the time of day if the log has that.
 use httpdate::HttpDate;
-use klp_capture::BootTime;
+use klp_capture::{BootTime, Elapsed};
 use std::fmt;
 
 /// The microseconds in a second.
@@ -23,6 +23,11 @@ impl Times {
     pub fn new(booted: Option<u64>, last_us: u64) -> Times {
         let today = booted.unwrap_or(0).saturating_add(last_us / SECOND) / DAY;
         Times { booted, today }
+    }
+
+    /// Whether the log says which times of day its times are.
+    pub(crate) fn are_of_day(self) -> bool {
+        self.booted.is_some()
     }
 
     /// Returns a time of the log: microseconds since boot.
@@ -54,5 +59,45 @@ impl fmt::Display for Moment {
             Ok(date) => write!(f, "{date} ({at} s)"),
             Err(_) => write!(f, "{at} s"),
         }
+    }
+}
+
+/// From when to when something was seen, in samples that were taken at these times. Printed as `from 8.56 s to 12.22 s`, or if
+/// it was seen in one sample, as `at 8.56 s (seen once)`.
+#[derive(Clone, Copy)]
+pub(crate) struct Seen {
+    pub(crate) times: Times,
+    pub(crate) from_us: u64,
+    pub(crate) to_us: u64,
+}
+
+impl fmt::Display for Seen {
+    fn fmt<W: fmt::Write>(&self, f: &mut fmt::Formatter<W>) -> fmt::Result {
+        let (from, to) = (self.times.at(self.from_us), self.times.at(self.to_us));
+        if self.from_us == self.to_us {
+            write!(f, "at {from} (seen once)")
+        } else {
+            write!(f, "from {from} to {to}")
+        }
+    }
+}
+
+/// Since when something is so that is so in the last sample, and for how long. Printed as `since 8.56 s or before, for 15.32
+/// s`, or if only the last sample shows it, as `since 8.56 s or before (seen once)`.
+#[derive(Clone, Copy)]
+pub(crate) struct SeenSince {
+    pub(crate) times: Times,
+    pub(crate) from_us: u64,
+    pub(crate) last_us: u64,
+}
+
+impl fmt::Display for SeenSince {
+    fn fmt<W: fmt::Write>(&self, f: &mut fmt::Formatter<W>) -> fmt::Result {
+        let from = self.times.at(self.from_us);
+        if self.from_us == self.last_us {
+            return write!(f, "since {from} or before (seen once)");
+        }
+        let time = Elapsed(BootTime(self.from_us), BootTime(self.last_us));
+        write!(f, "since {from} or before, for {time} s")
     }
 }

@@ -80,6 +80,8 @@ pub enum WhyLags {
     AsleepElsewhere,
     /// The task sleeps in a function of a patch's module, and the log doesn't show which of the patch's functions it is.
     AsleepUnplaced,
+    /// By a torn sample the task sleeps in a function of a patch, or in one that a patch changes.
+    AsleepInside,
     /// The task ran while it was read, so it isn't known what it is inside of.
     RanMeanwhile,
     /// The task has ended. It is inside of no function.
@@ -91,6 +93,18 @@ pub enum WhyLags {
 pub struct LaggingReport {
     pub task: TaskReport,
     pub why: WhyLags,
+    /// The torn sample at the log's end that alone shows that. `None` if the last sample that the run shows does.
+    pub torn: Option<TornReport>,
+}
+
+/// What a torn sample shows of a task that lags. A patch changed while the sample was taken, or `klpcap` was told to stop. So
+/// no run shows the sample.
+#[derive(Drop, Serialize)]
+pub struct TornReport {
+    /// When the sample was taken.
+    pub at_us: u64,
+    /// The function of a patch, or that a patch changes, in which the task slept.
+    pub function: Option<String>,
 }
 
 /// What the patch in transition becomes.
@@ -135,7 +149,7 @@ pub struct TransitionReport {
     /// The sleeps in functions that the log can't place.
     pub unplaced: Vec<UnplacedReport>,
     /// The tasks that lag in the last sample without holding the transition up: by the run of the rules, or by what the log
-    /// says of them last.
+    /// says of them last. Those that only a torn sample at the log's end shows so come last.
     pub lagging: Vec<LaggingReport>,
     /// The most tasks that a sample of the transition counts inside of patched functions, unswitched and without lines of
     /// their own.
@@ -156,8 +170,10 @@ pub struct LeftReport {
 pub struct BrokenReport {
     pub from_us: u64,
     pub to_us: u64,
-    /// What the sample has, and what the rules say of it.
+    /// What the sample has, and what the rules say of it. A time in it is in seconds since boot.
     pub why: String,
+    /// The time that `why` names, if it names one: an earlier sample's.
+    pub earlier_us: Option<u64>,
     /// Whether a force would excuse it whose line the kernel's own log has lost.
     pub unless_forced: bool,
 }
@@ -228,6 +244,8 @@ pub struct TaskCounts {
     /// How many of the tasks that aren't followed lag inside of a patched function. `None` if the log doesn't say that:
     /// then `running` and `sleeping` count them, too.
     pub inside: Option<u64>,
+    /// The most tasks that a torn sample at the log's end counts so, if the last sample that the run shows counts none.
+    pub torn: u64,
     /// How many followed tasks are left out, since the run has no number for them.
     pub left_out: u64,
     /// How many functions of the log's patches are left out, since the catalog has no room for them.
@@ -287,7 +305,7 @@ pub struct Report {
 }
 
 /// The version of the fields of [`Report`].
-pub const SCHEMA: u32 = 3;
+pub const SCHEMA: u32 = 4;
 
 impl Report {
     /// Returns the exit status of `klpsee`: 0 if the log is explained, 3 if a sample contradicts the rules, 4 if no run
@@ -308,7 +326,7 @@ impl Report {
     }
 
     /// Returns how many tasks lag in the last sample that aren't known to hold the transition up: those that are named, those
-    /// that the log only counts, and those that it names and that aren't judged.
+    /// that the log only counts, and those that it names and that aren't judged. Torn samples at the log's end count, too.
     pub fn lagging(&self) -> u64 {
         let Some(under_way) = self.under_way() else {
             return 0;
@@ -318,6 +336,7 @@ impl Report {
             .saturating_add(others.running)
             .saturating_add(others.sleeping)
             .saturating_add(others.inside.unwrap_or(0))
+            .saturating_add(others.torn)
             .saturating_add(others.left_out)
     }
 

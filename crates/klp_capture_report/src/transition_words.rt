@@ -1,8 +1,8 @@
 //! A transition in words: since when, how it ended, and who holds it up.
 use crate::lists::{SHOWN, print_more};
-use crate::moment::{SECOND, Times};
+use crate::moment::{SECOND, Seen, SeenSince, Times};
 use crate::report::{
-    Becomes, EndReport, GroupReport, HolderReport, HowEnded, LaggingReport, TaskReport,
+    Becomes, EndReport, GroupReport, HolderReport, HowEnded, LaggingReport, TaskReport, TornReport,
     TransitionReport, UnplacedReport, WhyLags,
 };
 use crate::words::shown;
@@ -29,8 +29,12 @@ fn way_out(task: &TaskReport) -> &'static str {
     }
 }
 
-/// How a sleeper holds a transition up: asleep, with what can free it. A task that has ended neither sleeps nor holds
-/// anything up, whatever the run says of it that was found.
+/// Whether a task has ended. It neither sleeps nor holds anything up, whatever the run says of it that was found.
+fn has_ended(task: &TaskReport) -> bool {
+    matches!(task.state.as_str(), "Z" | "X")
+}
+
+/// How a sleeper holds a transition up: asleep, with what can free it.
 #[derive(Clone, Copy)]
 struct Hold<'t> {
     task: &'t TaskReport,
@@ -40,13 +44,8 @@ struct Hold<'t> {
 impl fmt::Display for Hold<'_> {
     fn fmt<W: fmt::Write>(&self, f: &mut fmt::Formatter<W>) -> fmt::Result {
         let (state, way_out) = (shown(&self.task.state), way_out(self.task));
-        let is_ended = matches!(self.task.state.as_str(), "Z" | "X");
-        match (is_ended, self.threads) {
-            (true, 1) => write!(f, "has ended ({state}), and was asleep"),
-            (true, _) => write!(f, "have ended ({state}), and were asleep"),
-            (false, 1) => write!(f, "holds it up: asleep ({state}: {way_out})"),
-            (false, _) => write!(f, "hold it up: asleep ({state}: {way_out})"),
-        }
+        let verb = if self.threads == 1 { "holds" } else { "hold" };
+        write!(f, "{verb} it up: asleep ({state}: {way_out})")
     }
 }
 
@@ -82,8 +81,12 @@ impl fmt::Display for Since {
                 )
             }
             None => {
-                let time = elapsed(self.from_us, self.last_us);
-                write!(f, " since {from} or before, for {time} s")
+                let since = SeenSince {
+                    times: self.times,
+                    from_us: self.from_us,
+                    last_us: self.last_us,
+                };
+                write!(f, " {since}")
             }
         }
     }
@@ -100,7 +103,7 @@ impl fmt::Display for NamedFrom {
                 let named = self.0.at(named_us);
                 write!(
                     f,
-                    "named by the kernel's log from {named} on, and in samples "
+                    "named by the kernel's log from {named} on, and by samples "
                 )
             }
             None => Ok(()),
@@ -122,7 +125,13 @@ fn print_holder<W: Write>(
         ""
     };
     let (named_us, from_us) = (holder.named_us, holder.from_us);
-    if holder.holds_still {
+    if holder.holds_still && has_ended(task) {
+        let (state, from) = (shown(&task.state), times.at(from_us));
+        writeln!(
+            out,
+            "  {task}{kind} has ended ({state}), and was asleep in {function} at {from}"
+        )
+    } else if holder.holds_still {
         let hold = Hold { task, threads: 1 };
         let since = Since {
             times,
@@ -132,11 +141,15 @@ fn print_holder<W: Write>(
         };
         writeln!(out, "  {task}{kind} {hold} in {function}{since}")
     } else {
-        let (from, to) = (times.at(from_us), times.at(holder.to_us));
+        let seen = Seen {
+            times,
+            from_us,
+            to_us: holder.to_us,
+        };
         let named = NamedFrom(times, named_earlier(named_us, from_us));
         writeln!(
             out,
-            "  {task}{kind} held it up, asleep in {function}, {named}from {from} to {to}"
+            "  {task}{kind} held it up, asleep in {function}, {named}{seen}"
         )
     }
 }
@@ -152,7 +165,13 @@ fn print_group<W: Write>(
     let (name, process, threads) = (shown(&group.process_name), group.process, group.threads);
     let function = shown(&holder.function);
     let (named_us, from_us) = (group.named_us, group.from_us);
-    if holder.holds_still {
+    if holder.holds_still && has_ended(&holder.task) {
+        let (state, from) = (shown(&holder.task.state), times.at(from_us));
+        writeln!(
+            out,
+            "  {name}[{process}]: {threads} threads have ended ({state}), and were asleep in {function}, the first at {from}"
+        )
+    } else if holder.holds_still {
         let hold = Hold {
             task: &holder.task,
             threads,
@@ -168,11 +187,15 @@ fn print_group<W: Write>(
             "  {name}[{process}]: {threads} threads {hold} in {function}, the first{since}"
         )
     } else {
-        let (from, to) = (times.at(from_us), times.at(group.to_us));
+        let seen = Seen {
+            times,
+            from_us,
+            to_us: group.to_us,
+        };
         let named = NamedFrom(times, named_earlier(named_us, from_us));
         writeln!(
             out,
-            "  {name}[{process}]: {threads} threads held it up, asleep in {function}, {named}between {from} and {to}"
+            "  {name}[{process}]: {threads} threads held it up, asleep in {function}, {named}one or more of them {seen}"
         )
     }
 }
@@ -238,16 +261,49 @@ fn print_unplaced<W: Write>(
     out: &mut W,
 ) -> io::Result<()> {
     let (task, function) = (&unplaced.task, shown(&unplaced.function));
-    let (from, to) = (times.at(unplaced.from_us), times.at(unplaced.to_us));
+    let seen = Seen {
+        times,
+        from_us: unplaced.from_us,
+        to_us: unplaced.to_us,
+    };
     writeln!(
         out,
-        "  {task} may have held it up: asleep from {from} to {to} in {function} of a patch's module, \
+        "  {task} may have held it up: asleep {seen} in {function} of a patch's module, \
         which the log can't place"
     )
 }
 
+/// Writes which task only a torn sample at the log's end shows as not switched.
+fn print_torn<W: Write>(
+    lagging: &LaggingReport,
+    torn: &TornReport,
+    times: Times,
+    out: &mut W,
+) -> io::Result<()> {
+    let (task, at) = (&lagging.task, times.at(torn.at_us));
+    write!(out, "  {task} lags by the torn sample at {at} alone, ")?;
+    if let Some(function) = &torn.function {
+        return writeln!(out, "asleep in {}: it may hold it up", shown(function));
+    }
+    let how = match lagging.why {
+        WhyLags::AsleepElsewhere | WhyLags::AsleepInside => {
+            "asleep in no function that the log has of the patch"
+        }
+        WhyLags::AsleepUnplaced => {
+            "asleep in a function of a patch's module that the log can't place: it may hold it up"
+        }
+        WhyLags::Runs => "and runs",
+        WhyLags::RanMeanwhile => "and ran while it was read",
+        WhyLags::Ended => "and has ended",
+    };
+    writeln!(out, "{how}")
+}
+
 /// Writes which task lags without holding the transition up.
-fn print_lagging<W: Write>(lagging: &LaggingReport, out: &mut W) -> io::Result<()> {
+fn print_lagging<W: Write>(lagging: &LaggingReport, times: Times, out: &mut W) -> io::Result<()> {
+    if let Some(torn) = &lagging.torn {
+        return print_torn(lagging, torn, times, out);
+    }
     let task = &lagging.task;
     match lagging.why {
         WhyLags::AsleepElsewhere => writeln!(
@@ -263,7 +319,7 @@ fn print_lagging<W: Write>(lagging: &LaggingReport, out: &mut W) -> io::Result<(
             out,
             "  {task} lags, and runs: it is switched when it next leaves the kernel"
         ),
-        WhyLags::AsleepUnplaced => writeln!(
+        WhyLags::AsleepUnplaced | WhyLags::AsleepInside => writeln!(
             out,
             "  {task} lags, asleep in a function of a patch's module that the log can't place: it may hold it up"
         ),
@@ -326,6 +382,12 @@ pub(crate) fn print_transition<W: Write>(
                 "{name} was being {way} from {since}{or_before}, for {time} s, {ending}"
             )?;
         }
+        None if transition.since_us == transition.last_sample_us => {
+            writeln!(
+                out,
+                "{name} is being {way} since {since}{or_before} (seen once)"
+            )?;
+        }
         None => {
             let time = elapsed(transition.since_us, transition.last_sample_us);
             writeln!(
@@ -342,7 +404,7 @@ pub(crate) fn print_transition<W: Write>(
     }
     print_more(transition.unplaced.len(), "may hold it up", out)?;
     for lagging in transition.lagging.iter().take(SHOWN) {
-        print_lagging(lagging, out)?;
+        print_lagging(lagging, times, out)?;
     }
     print_more(transition.lagging.len(), "lag", out)
 }

@@ -61,6 +61,7 @@ impl Report {
                 "  no task that the log names or counts lags: an idle task may hold it up, which /proc doesn't show"
             )?;
         }
+        self.print_torn_counts(out)?;
         if others.left_out > 0 {
             let left_out = others.left_out;
             let tasks = if left_out == 1 {
@@ -74,6 +75,21 @@ impl Report {
             )?;
         }
         Ok(())
+    }
+
+    /// Writes how many tasks a torn sample at the log's end counts as lagging, if only such a sample does.
+    fn print_torn_counts<W: Write>(&self, out: &mut W) -> io::Result<()> {
+        match self.others.torn {
+            0 => Ok(()),
+            1 => writeln!(
+                out,
+                "  a torn sample at the end counts 1 task that lags: it may hold it up"
+            ),
+            torn => writeln!(
+                out,
+                "  a torn sample at the end counts {torn} tasks that lag: they may hold it up"
+            ),
+        }
     }
 
     /// Writes how many functions were left out because a catalog has no room for them, and how many names of functions
@@ -99,13 +115,15 @@ impl Report {
         for transition in &self.transitions {
             print_transition(transition, self.times(), out)?;
         }
+        if self.transitions.is_empty() {
+            let what = match (self.samples.left_out, self.samples.later) {
+                (0, 0) => "no patch was in transition",
+                _ => "no whole sample shows a transition, though a patch changed",
+            };
+            writeln!(out, "{what}")?;
+        }
         print_kernel_holders(&self.kernel_holders, self.times(), out)?;
         match self.transitions.last() {
-            None if self.samples.left_out > 0 || self.samples.later > 0 => writeln!(
-                out,
-                "no whole sample shows a transition, though a patch changed"
-            ),
-            None => writeln!(out, "no patch was in transition"),
             Some(last) if last.end.is_none() => {
                 self.print_others(out)?;
                 match self.verdict {
@@ -124,7 +142,7 @@ impl Report {
                         ..
                     })
                 ) => { print_left(&self.left_by_force, "the force left ", out) }
-            Some(_) => Ok(()),
+            _ => Ok(()),
         }
     }
 
@@ -145,7 +163,7 @@ impl Report {
             print_inside(inside, out)?;
         }
         print_more(self.inside.len(), "are inside of them", out)?;
-        let counted = self.others.inside.unwrap_or(0);
+        let counted = self.others.inside.unwrap_or(0).max(self.others.torn);
         if counted > 0 {
             writeln!(
                 out,
@@ -211,7 +229,14 @@ impl Report {
         }
         match left_out {
             0 => writeln!(out)?,
-            _ => writeln!(out, "; {left_out} more left out as torn")?,
+            1 => writeln!(
+                out,
+                "; 1 more is torn: a patch changed while it was taken, or klpcap was stopped"
+            )?,
+            _ => writeln!(
+                out,
+                "; {left_out} more are torn: a patch changed while they were taken, or klpcap was stopped"
+            )?,
         }
         match self.forced_at_us {
             Some(_) => Ok(()),
@@ -325,13 +350,40 @@ fn print_kernel_log<W: Write>(
     )
 }
 
+/// What a sample has, and what the rules say of it. If that names an earlier sample's time, the time of day follows, if the log
+/// has that.
+#[derive(Clone, Copy)]
+pub struct BrokenWords<'r> {
+    broken: &'r BrokenReport,
+    times: Times,
+}
+
+impl fmt::Display for BrokenWords<'_> {
+    fn fmt<W: fmt::Write>(&self, f: &mut fmt::Formatter<W>) -> fmt::Result {
+        let (why, times) = (shown(&self.broken.why), self.times);
+        match self.broken.earlier_us {
+            Some(at) if times.are_of_day() => {
+                let at = times.at(at);
+                write!(f, "{why}; that was at {at}")
+            }
+            _ => write!(f, "{why}"),
+        }
+    }
+}
+
+impl BrokenReport {
+    /// Returns in words what the sample has, and what the rules say of it.
+    pub fn in_words(&self, times: Times) -> BrokenWords<'_> {
+        BrokenWords {
+            broken: self,
+            times,
+        }
+    }
+}
+
 /// Writes a sample that contradicts the rules.
 fn print_broken<W: Write>(broken: &BrokenReport, times: Times, out: &mut W) -> io::Result<()> {
-    let (from, to, why) = (
-        times.at(broken.from_us),
-        times.at(broken.to_us),
-        shown(&broken.why),
-    );
+    let (from, to) = (times.at(broken.from_us), times.at(broken.to_us));
     let unless = if broken.unless_forced {
         "unless a transition was forced before it"
     } else {
@@ -341,7 +393,7 @@ fn print_broken<W: Write>(broken: &BrokenReport, times: Times, out: &mut W) -> i
         out,
         "broken: no run of the rules shows the sample from {from} to {to}, {unless}"
     )?;
-    writeln!(out, "  {why}")?;
+    writeln!(out, "  {}", broken.in_words(times))?;
     let or_forced = if broken.unless_forced {
         ", or the kernel's own log has lost the line of a force"
     } else {
