@@ -134,9 +134,11 @@ fn add_lagging_of<'a>(
     Ok(())
 }
 
-/// Returns the tasks that lag in a transition to this target by what these samples of a log say of them last, each as it was
-/// read then. Returns `Err` if memory runs out. The time is that of a look at all samples from each reading of a task that
-/// isn't at the target to the next one.
+/// Returns the tasks that lag in a transition to `target`, each with its last reading in these samples of a log. `target` is
+/// true if the transition patches the tasks. A task lags if this reading isn't at the target, and the samples don't say from
+/// then on that its thread has ended or isn't followed any longer. A task that was read without a state doesn't lag. Returns
+/// `Err` if memory runs out. Each reading that isn't at the target costs a look at the samples from there to the next one
+/// that says something of the thread.
 pub fn lagging_in<'a>(
     alloc: Global,
     capture: &Capture<'a>,
