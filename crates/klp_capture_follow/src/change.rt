@@ -43,14 +43,14 @@ pub(crate) fn copied(alloc: Global, text: &String) -> Result<String, AllocError>
 }
 
 /// Returns a name without bytes that would control a terminal.
-pub(crate) fn shown(name: &String) -> Escaped<'_> {
+pub(crate) fn printable(name: &String) -> Escaped<'_> {
     Escaped(name.as_bytes())
 }
 
 /// Who holds the transition up: a thread such as `billing[90]`, or some threads of a process.
 impl fmt::Display for Held {
     fn fmt<W: fmt::Write>(&self, f: &mut fmt::Formatter<W>) -> fmt::Result {
-        let (name, threads) = (shown(&self.name), self.threads);
+        let (name, threads) = (printable(&self.name), self.threads);
         if threads == 1 {
             let thread = self.thread;
             write!(f, "{name}[{thread}]")
@@ -62,7 +62,7 @@ impl fmt::Display for Held {
 }
 
 /// Returns what a patch is on the way to.
-pub(crate) fn word_of(becomes: Becomes) -> &'static str {
+pub(crate) fn becomes_word(becomes: Becomes) -> &'static str {
     match becomes {
         Becomes::Enabled => "enabled",
         Becomes::Disabled => "disabled",
@@ -98,11 +98,11 @@ impl fmt::Display for Change {
     fn fmt<W: fmt::Write>(&self, f: &mut fmt::Formatter<W>) -> fmt::Result {
         match self {
             Change::Begins { patch, becomes } => {
-                let (patch, becomes) = (shown(patch), word_of(*becomes));
+                let (patch, becomes) = (printable(patch), becomes_word(*becomes));
                 write!(f, "{patch} is being {becomes}")
             }
             Change::Reverses { patch, becomes } => {
-                let (patch, becomes) = (shown(patch), word_of(*becomes));
+                let (patch, becomes) = (printable(patch), becomes_word(*becomes));
                 write!(f, "{patch} was reversed, and is being {becomes}")
             }
             Change::Ends {
@@ -110,27 +110,27 @@ impl fmt::Display for Change {
                 becomes,
                 how,
             } => {
-                let (patch, ending) = (shown(patch), ending(*becomes, *how));
+                let (patch, ending) = (printable(patch), ending(*becomes, *how));
                 write!(f, "{patch} {ending}")
             }
             Change::Holds(held) => {
-                let (verb, state) = (verb_of(held), shown(&held.state));
-                let function = shown(&held.function);
+                let (verb, state) = (verb_of(held), printable(&held.state));
+                let function = printable(&held.function);
                 write!(f, "  {held} {verb} it up, asleep ({state}) in {function}")
             }
             Change::Threads(held) => {
-                let (verb, function) = (verb_of(held), shown(&held.function));
+                let (verb, function) = (verb_of(held), printable(&held.function));
                 write!(f, "  now {held} {verb} it up in {function}")
             }
             Change::HoldsNoMore(held) => {
-                let (verb, function) = (verb_of(held), shown(&held.function));
+                let (verb, function) = (verb_of(held), printable(&held.function));
                 write!(f, "  {held} {verb} it up no more in {function}")
             }
             Change::Judged { verdict, why } => {
                 f.write_str(verdict_words(*verdict))?;
                 match why {
                     Some(why) => {
-                        let why = shown(why);
+                        let why = printable(why);
                         write!(f, ": {why}")
                     }
                     None => Ok(()),

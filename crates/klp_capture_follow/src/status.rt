@@ -1,5 +1,5 @@
 //! What stands in the last line of a terminal while a log is followed.
-use crate::change::{shown, word_of};
+use crate::change::{becomes_word, printable};
 use crate::follower::{Follower, UnderWay};
 use klp_capture::{BootTime, Elapsed};
 use klp_capture_report::Times;
@@ -14,22 +14,25 @@ pub struct Status<'a> {
 }
 
 impl Status<'_> {
+    /// Writes the transition that is under way, who holds it up, and how many more tasks lag:
+    /// `PATCH is being enabled for 3.20 s; held up by billing[90]; 2 more lag`. Leaves out who holds it up if nobody is known
+    /// to, and the number if it is 0.
     fn write_under_way<W: fmt::Write>(
         &self,
         under_way: &UnderWay,
         f: &mut fmt::Formatter<W>,
     ) -> fmt::Result {
-        let (patch, becomes) = (shown(&under_way.patch), word_of(under_way.becomes));
+        let (patch, becomes) = (printable(&under_way.patch), becomes_word(under_way.becomes));
         if under_way.from == self.at {
             write!(f, "{patch} is being {becomes} (seen once)")?;
         } else {
             let time = Elapsed(under_way.from, self.at);
             write!(f, "{patch} is being {becomes} for {time} s")?;
         }
-        let mut before = "; held up by ";
+        let mut separator = "; held up by ";
         for held in &self.follower.holding {
-            write!(f, "{before}{held}")?;
-            before = ", ";
+            write!(f, "{separator}{held}")?;
+            separator = ", ";
         }
         match self.follower.lagging {
             0 => Ok(()),
