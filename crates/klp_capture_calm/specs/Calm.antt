@@ -1,5 +1,5 @@
 -- When an answer may say that a log is explained, and that nobody lags.
-use Rattle.std.specs.Prelude.{◌≡◌, ℕ, ◌-◌, ◌<◌, Bool, true, false, List, [], length, Option, Some, None, is_some, slice_get, string_bytes}
+use Rattle.std.specs.Prelude.{◌≡◌, ◌-◌, ◌<◌, Bool, true, false, List, [], length, Option, Some, None, is_some, slice_get, string_bytes}
 use Rattle.std.specs.List.{list_any}
 use Rattle.klp_capture.specs.declared.capture.Capture.{Capture}
 use Rattle.klp_capture_lagging.specs.Lagging.{NobodyLags}

@@ -1,6 +1,5 @@
 use Rattle.std.proofs.Common.{◌≡◌, List, ap, ◌∙◌}
 use Rattle.klp_capture.specs.declared.capture.Sample.{Sample}
-use Rattle.klp_capture.specs.declared.capture.SeenTask.{SeenTask}
 use Rattle.klp_capture_lagging.specs.Lagging.{lagging_in, end_of}
 use Rattle.klp_capture_lagging.proofs.LaggingLemmas.{nobody_by}
 use Rattle.klp_capture_lagging.proofs.lags.nobody_lags.Goals as goal
