@@ -118,7 +118,8 @@ impl Report {
         if self.transitions.is_empty() {
             let what = match (self.samples.left_out, self.samples.later) {
                 (0, 0) => "no patch was in transition",
-                _ => "no whole sample shows a transition, though a patch changed",
+                (_, 0) => "no whole sample shows a transition, though a patch changed",
+                _ => "no whole sample before the first unexplained one shows a transition",
             };
             writeln!(out, "{what}")?;
         }
