@@ -18,11 +18,11 @@ use Rattle.klp_lint_findings.specs.Targets.{target_at, callbacks_for}
 abbrev pub Claims : List PlanPatch → Setting → ℕ → State → TraceFinding → Type 0
 Claims patches setting patch state (Clean is_everywhere is_partial) =
     IsFairStart setting patch state × (is_everywhere ≡ true → HoldEverywhere setting patch state)
-Claims patches setting patch state (Guessed place which mark) = IsFairStart setting patch state
+Claims patches setting patch state (Guessed place mark) = IsFairStart setting patch state
 Claims patches setting patch state Installed = Fails setting patch state premise.Installed
 Claims patches setting patch state Moving = Fails setting patch state premise.Moving
 Claims patches setting patch state (NotLoaded place) = Unit {0}
-Claims patches setting patch state (NotUnderstood place which mark) = Unit {0}
+Claims patches setting patch state (NotUnderstood place mark) = Unit {0}
 Claims patches setting patch state (MaybeCumulative mark) = Unit {0}
 Claims patches setting patch state (NotUndone place pair key found left) =
     let callbacks = callbacks_for (target_at patches patch place) in

@@ -46,7 +46,7 @@ fn find_idle_edits(
         if let Some((id, why)) = idle_state(own, patches, edit) {
             let idle = PartFinding::Idle {
                 place,
-                which: callback.which,
+                line: callback.line,
                 id,
                 why,
             };

@@ -112,8 +112,8 @@ fn trace_without_fault(
         return None;
     }
     if let Some(guessed) = first_marked(linted, manager, patch, MarkWord::Guessed) {
-        let MarkedCallback { place, which, mark } = guessed;
-        return Some(TraceFinding::Guessed { place, which, mark });
+        let MarkedCallback { place, mark } = guessed;
+        return Some(TraceFinding::Guessed { place, mark });
     }
     Some(TraceFinding::Clean {
         is_everywhere: is_clean_everywhere(linted, manager, patch),
@@ -168,7 +168,7 @@ fn find_unknown_for(
 {
     for which in KINDS {
         if let Some(mark) = callback_mark(&found.linted, target, which, MarkWord::Unknown) {
-            let unknown = TraceFinding::NotUnderstood { place, which, mark };
+            let unknown = TraceFinding::NotUnderstood { place, mark };
             found.add(Finding::Trace(patch, unknown))?;
         }
     }

@@ -1,2 +1,3 @@
 pub mod SaidLemmas
+pub mod SayLemmas
 pub mod MarkLemmas

@@ -1,6 +1,5 @@
 -- Lists of findings.
-use Rattle.std.proofs.Common.{◌≡◌, ℕ, zero, suc, Bool, true, false, not, ◌&&◌, ◌||◌, List, [], ◌∷◌, get_or, refl, ◌∙◌, ap, subst}
-use Rattle.std.proofs.Math.ListN.{set}
+use Rattle.std.proofs.Common.{◌≡◌, ℕ, Bool, true, false, not, ◌&&◌, ◌||◌, List, [], ◌∷◌, ◌++◌, refl, ◌∙◌, subst}
 use Rattle.std.specs.List.{list_any}
 use Rattle.klp_types.specs.Setting.{Setting}
 use Rattle.klp_model.specs.State.{State}
@@ -8,15 +7,21 @@ use Rattle.klp_lint.specs.Premises.{ArePatchesOf}
 use Rattle.klp_lint_findings.specs.declared.findings.Findings.{Findings}
 use Rattle.klp_lint_findings.specs.declared.findings.Said.{Said}
 use Rattle.klp_lint_findings.specs.declared.marks.Mark.{Mark}
-use Rattle.klp_lint_findings.specs.Deciding.{is_unknown, is_clean}
+use Rattle.klp_lint_findings.specs.Deciding.{decides, is_unknown, is_clean}
 use Rattle.klp_lint_findings.specs.Sound.{one_decides, Grows, Vouches}
 
--- an element is replaced by one that the test can't tell from it
-pub list_any-set : {X : Type 0} (p : X → Bool) (xs : List X) (i : ℕ) (y d : X)
-    → p y ≡ p (get_or xs i d) → list_any p (set xs i y) ≡ list_any p xs
-list_any-set p [] i y d same = refl
-list_any-set p (x ∷ xs) zero y d same = ap (λ b. b || list_any p xs) same
-list_any-set p (x ∷ xs) (suc i) y d same = ap (λ b. p x || b) (list_any-set p xs i y d same)
+-- a test of which one element passes goes on so
+or_kept : (first early later : Bool) → (early ≡ true → later ≡ true) → (first || early) ≡ true → (first || later) ≡ true
+or_kept true early later kept h = refl
+or_kept false early later kept h = kept h
+
+any_kept : {X : Type 0} (p : X → Bool) (xs : List X) (y : X) → list_any p xs ≡ true → list_any p (xs ++ y ∷ []) ≡ true
+any_kept p [] y h = absurd (cc)
+any_kept p (x ∷ xs) y h = or_kept (p x) (list_any p xs) (list_any p (xs ++ y ∷ [])) (any_kept p xs y) h
+
+-- what made the status 3 still does
+pub push_decides : (said : List Said) (new : Said) → one_decides said ≡ true → one_decides (said ++ new ∷ []) ≡ true
+push_decides said new h = any_kept (λ (s : Said). decides s.finding) said new h
 
 pub grows_on : {one two three : Findings} → Grows one two → Grows two three → Grows one three
 grows_on first second = record {

@@ -55,19 +55,14 @@ fn about_all(kind: FindingKind) -> About {
     }
 }
 
-/// A finding of this kind about a callback of a patch, at the callback's line. If there is no such callback, at the
-/// line of its target.
+/// A finding of this kind about a callback of a patch for an object, at the callback's line.
 fn at_callback(
     linted: &Linted<'_>,
     kind: FindingKind,
     patch: PatchId,
     place: usize,
-    which: Which,
+    line: u64,
 ) -> About {
-    let line = match linted.callback_line(patch, place, which) {
-        Some(line) => line,
-        None => linted.target_line(patch, place),
-    };
     About {
         object: linted.object(patch, place),
         ..at(kind, patch, line)
@@ -120,11 +115,11 @@ fn about_trace(linted: &Linted<'_>, patch: PatchId, finding: TraceFinding) -> Ab
         TraceFinding::Moving | TraceFinding::MaybeCumulative { .. } => {
             at(FindingKind::NotJudged, patch, whole)
         }
-        TraceFinding::Guessed { place, which, .. } => {
-            at_callback(linted, FindingKind::Guessed, patch, place, which)
+        TraceFinding::Guessed { place, mark } => {
+            at_callback(linted, FindingKind::Guessed, patch, place, mark.about)
         }
-        TraceFinding::NotUnderstood { place, which, .. } => {
-            at_callback(linted, FindingKind::NotJudged, patch, place, which)
+        TraceFinding::NotUnderstood { place, mark } => {
+            at_callback(linted, FindingKind::NotJudged, patch, place, mark.about)
         }
         TraceFinding::NotLoaded { place } => {
             at_target(linted, FindingKind::NotJudged, patch, place)
@@ -171,12 +166,12 @@ fn about_part(linted: &Linted<'_>, patch: PatchId, finding: PartFinding) -> Abou
     match finding {
         PartFinding::Idle {
             place,
-            which,
+            line,
             id,
             ..
         } => About {
             state: Some(id),
-            ..at_callback(linted, FindingKind::Idle, patch, place, which)
+            ..at_callback(linted, FindingKind::Idle, patch, place, line)
         },
         PartFinding::NoSymbol {
             place,

@@ -7,7 +7,7 @@ use crate::lists::{FunctionSet, PatchList};
 use crate::marks::Mark;
 use klp_lint::Pair;
 use klp_modules::SymbolFault;
-use klp_types::{ObjId, PatchId, ShadowKey, ShadowValue, Which};
+use klp_types::{ObjId, PatchId, ShadowKey, ShadowValue};
 use serde::Serialize;
 
 /// The kind of a finding. Programs read a kind as a word, for example `not-judged`.
@@ -42,14 +42,14 @@ pub enum FindingKind {
 }
 
 /// The start of an answer of the console: an error has at most 22 bytes.
-#[derive(Clone, Copy)]
+#[derive(Clone, Copy, PartialEq, Eq)]
 pub struct ErrorText {
     pub bytes: [u8; 22],
     pub len: usize,
 }
 
 /// A line of the script that was refused.
-#[derive(Clone, Copy)]
+#[derive(Clone, Copy, PartialEq, Eq)]
 pub struct RefusedLine {
     /// The number of the line in the script, from 1.
     pub number: u64,
@@ -57,7 +57,7 @@ pub struct RefusedLine {
 }
 
 /// Whether a patch would leave a trace after it was withdrawn.
-#[derive(Clone, Copy)]
+#[derive(Clone, Copy, PartialEq, Eq)]
 pub enum TraceFinding {
     /// It leaves none. If `is_everywhere`, also in each other world that has none of its variables. If `is_partial`,
     /// some of its callbacks weren't judged.
@@ -65,10 +65,9 @@ pub enum TraceFinding {
         is_everywhere: bool,
         is_partial: bool,
     },
-    /// It leaves none if its callbacks do what marks guess. The first such callback is this one.
+    /// It leaves none if its callbacks do what marks guess. The first such mark is about a callback for this object.
     Guessed {
         place: usize,
-        which: Which,
         mark: Mark,
     },
     /// It isn't judged, since it is installed.
@@ -79,10 +78,9 @@ pub enum TraceFinding {
     NotLoaded {
         place: usize,
     },
-    /// It isn't judged, since a mark says that this callback isn't understood.
+    /// It isn't judged, since a mark says that a callback for this object isn't understood.
     NotUnderstood {
         place: usize,
-        which: Which,
         mark: Mark,
     },
     /// It isn't judged as it is, since a mark says that it isn't known, or is guessed, whether it is cumulative.
@@ -106,7 +104,7 @@ pub enum TraceFinding {
 }
 
 /// Why an edit of a system state does nothing.
-#[derive(Clone, Copy)]
+#[derive(Clone, Copy, PartialEq, Eq)]
 pub enum IdleReason {
     /// The patch doesn't name the state.
     Unnamed,
@@ -115,12 +113,12 @@ pub enum IdleReason {
 }
 
 /// A part of a patch that can't work, does nothing, or is near a limit. Such a part is found without loading the patch.
-#[derive(Clone, Copy)]
+#[derive(Clone, Copy, PartialEq, Eq)]
 pub enum PartFinding {
-    /// A callback of this kind has an edit of this system state that does nothing.
+    /// The callback at this line of the catalog has an edit of this system state that does nothing.
     Idle {
         place: usize,
-        which: Which,
+        line: u64,
         id: u64,
         why: IdleReason,
     },
@@ -150,7 +148,7 @@ pub enum PartFinding {
 }
 
 /// Why a patch isn't loaded.
-#[derive(Clone, Copy)]
+#[derive(Clone, Copy, PartialEq, Eq)]
 pub enum WhyNotLoaded {
     /// Pre-patch for this object fails with this status.
     Fails { object: ObjId, status: i32 },
@@ -164,7 +162,7 @@ pub enum WhyNotLoaded {
 
 /// A system state of an installed patch that doesn't fit another patch. The other patch either has the state in a lower
 /// version, or is cumulative and doesn't have the state.
-#[derive(Clone, Copy)]
+#[derive(Clone, Copy, PartialEq, Eq)]
 pub struct StateConflict {
     pub id: u64,
     pub installed: PatchId,
@@ -175,7 +173,7 @@ pub struct StateConflict {
 }
 
 /// Why the transition of a patch doesn't end.
-#[derive(Clone, Copy)]
+#[derive(Clone, Copy, PartialEq, Eq)]
 pub enum WhyStays {
     /// It waits for this many tasks.
     Pending(u8),
@@ -183,7 +181,7 @@ pub enum WhyStays {
 }
 
 /// What happens to a patch that is loaded.
-#[derive(Clone, Copy)]
+#[derive(Clone, Copy, PartialEq, Eq)]
 pub enum LoadFinding {
     /// It can't be loaded, with no other patch than the installed ones.
     NotStarted {
@@ -209,7 +207,7 @@ pub enum LoadFinding {
 
 /// What a cumulative patch does to a patch that it takes out. A finding isn't sure if it rests on callbacks that aren't
 /// understood.
-#[derive(Clone, Copy)]
+#[derive(Clone, Copy, PartialEq, Eq)]
 pub enum ReplaceFinding {
     /// It takes these patches out, each in a run of its own.
     TakesOut {
@@ -309,7 +307,7 @@ pub enum JudgedWorlds {
 }
 
 /// What was judged, and what was left out.
-#[derive(Clone, Copy)]
+#[derive(Clone, Copy, PartialEq, Eq)]
 pub struct Judged {
     pub worlds: JudgedWorlds,
     /// How many patches the catalog has.
@@ -322,7 +320,7 @@ pub struct Judged {
 }
 
 /// What is said about all patches together.
-#[derive(Clone, Copy)]
+#[derive(Clone, Copy, PartialEq, Eq)]
 pub enum CountFinding {
     Together(Together),
     /// The patches aren't loaded over each other, since one is in transition.
@@ -331,7 +329,7 @@ pub enum CountFinding {
 }
 
 /// What is said about the script, a patch, or all patches.
-#[derive(Clone, Copy)]
+#[derive(Clone, Copy, PartialEq, Eq)]
 pub enum Finding {
     Line(RefusedLine),
     Trace(PatchId, TraceFinding),

@@ -1,11 +1,22 @@
-//! The list of findings. What is so in both judged worlds is in the list once.
-ghost use Rattle.std.specs.Prelude.{◌≡◌, true, IfOk, IfSome};
+//! The list of findings. What is so in both judged worlds is in the list twice, and written once.
+ghost use Rattle.std.specs.Prelude.{◌≡◌, Bool, true, Some, IfOk};
+ghost use Rattle.klp_lint_findings.specs.declared.finding.Finding.{Finding as AnyFinding};
 ghost use Rattle.klp_lint_findings.specs.Deciding.{decides};
+ghost use Rattle.klp_lint_findings.specs.Saying.{is_said_of, Says, Adds};
 ghost use Rattle.klp_lint_findings.specs.Sound.{one_decides, Grows};
 
 use crate::about::{About, about_of};
-use crate::finding::{CountFinding, Finding, FindingKind, LoadFinding};
+use crate::finding::{
+    CountFinding, ErrorText, Finding, FindingKind, IdleReason, Judged, JudgedWorlds, LoadFinding,
+    Orders, PartFinding, RefusedLine, ReplaceFinding, StateConflict, Tally, Together, TraceFinding,
+    WhyNotLoaded, WhyStays,
+};
 use crate::linted::Linted;
+use crate::lists::{FunctionSet, PatchList};
+use crate::marks::{Mark, MarkWord};
+use klp_lint::Pair;
+use klp_modules::SymbolFault;
+use klp_types::{ObjId, PatchId, ShadowKey, ShadowValue};
 use std::alloc::{AllocError, Global};
 
 /// Where a finding holds. Without a script, patches are judged with no module loaded, and with all modules of the
@@ -69,33 +80,30 @@ impl Said {
     }
 }
 
-/// Whether two findings say the same, if they are found in different worlds. If so, both make the status 3, or none.
-fn is_same(said: &Said, finding: &Finding, about: &About) -> bool
-    ensures { result ≡ true → decides finding.now ≡ decides said.now.finding }
-{
-    if said.about != *about || said.finding.decides() != finding.decides() {
-        return false;
-    }
-    match (said.finding, *finding) {
-        (
-            Finding::Count(CountFinding::Together(one)),
-            Finding::Count(CountFinding::Together(other)),
-        ) => one == other,
-        (
-            Finding::Load(_, LoadFinding::SameFunctions { functions: one, .. }),
-            Finding::Load(
-                _,
-                LoadFinding::SameFunctions {
-                    functions: other,
-                    ..
-                },
-            ),
-        ) => one == other,
-        _ => true,
-    }
-}
+/// The types that are parts of a finding. The borrow checker covers a function that adds to a list of findings only if the
+/// function names all these types.
+type Parts = (
+    (RefusedLine, ErrorText, TraceFinding, Mark, MarkWord),
+    (Pair, ShadowKey, ShadowValue, PartFinding, IdleReason),
+    (
+        SymbolFault,
+        LoadFinding,
+        WhyNotLoaded,
+        StateConflict,
+        WhyStays,
+    ),
+    (
+        PatchList,
+        FunctionSet,
+        ReplaceFinding,
+        CountFinding,
+        Together,
+    ),
+    (Tally, Orders, Judged, JudgedWorlds, FindingKind),
+    (About, World, ObjId, PatchId),
+);
 
-/// The list, and the world that is judged now.
+/// The list, and the world that is judged now. What is found in two worlds is in the list twice.
 #[derive(Drop)]
 pub struct Findings<'a> {
     pub linted: Linted<'a>,
@@ -113,29 +121,17 @@ impl<'a> Findings<'a> {
         }
     }
 
-    /// The place in the list of the same finding without modules. `None` if there is no such finding.
-    fn place_of(&self, finding: &Finding, about: &About) -> Option<usize>
-        ensures { IfSome result (λ place. decides finding.now ≡ true → one_decides self.now.said.items ≡ true) }
-    {
-        if self.world != World::WithModules {
-            return None;
-        }
-        self.said.iter().position(|it| it.world == World::WithoutModules
-            && is_same(it, finding, about))
-    }
-
-    /// Adds a finding. If the same was found without modules, it holds in each world.
+    /// Adds a finding about the world that is judged now.
     pub fn add(&mut self, finding: Finding) -> Result<(), AllocError>
         ensures added { IfOk result (λ done. decides finding ≡ true → one_decides self.new.said.items ≡ true) }
         ensures grows { IfOk result (λ done. Grows self.old self.new) }
+        ensures says { IfOk result (λ done. (full : Bool) → is_said_of self.old.world full ≡ true
+            → Says self.new.said.items full finding) }
+        ensures adds { IfOk result (λ done. Adds (λ (other : AnyFinding). other ≡ finding) self.old self.new) }
     {
+        // For the borrow checker only: names the types that are parts of a finding.
+        let _parts: Option<Parts> = None;
         let about = about_of(&self.linted, &finding);
-        if let Some(place) = self.place_of(&finding, &about) {
-            if let Some(same) = self.said.get_mut(place) {
-                same.world = World::Each;
-            }
-            return Ok(());
-        }
         let world = self.world;
         self.said.push(Said {
             finding,
@@ -143,5 +139,38 @@ impl<'a> Findings<'a> {
             world,
         })?;
         Ok(())
+    }
+
+    /// Adds a finding about the world that is judged now, if there is one.
+    pub fn add_some(&mut self, finding: Option<Finding>) -> Result<(), AllocError>
+        ensures { IfOk result (λ done. Adds (λ (other : AnyFinding). finding ≡ Some other) self.old self.new) }
+    {
+        match finding {
+            Some(finding) => self.add(finding),
+            None => Ok(()),
+        }
+    }
+
+    /// Whether an equal finding of this world is in the list.
+    fn has_equal(&self, finding: &Finding, world: World) -> bool {
+        self.said
+            .iter()
+            .any(|it| it.world == world && it.finding == *finding)
+    }
+
+    /// A finding of the list as it is written: what is equal in both worlds is written once, for each world. `None` if it
+    /// isn't written, since it was found without modules too. Of two that differ, even in a value, each is written with its
+    /// world.
+    pub fn shown(&self, said: &Said) -> Option<Said> {
+        match said.world {
+            World::WithModules if self.has_equal(&said.finding, World::WithoutModules) => None,
+            World::WithoutModules if self.has_equal(&said.finding, World::WithModules) => Some(
+                Said {
+                    world: World::Each,
+                    ..*said
+                },
+            ),
+            _ => Some(*said),
+        }
     }
 }

@@ -1,7 +1,8 @@
 //! What marks say about the callbacks of a patch: which ones aren't understood, and which fail if a variable is there.
-ghost use Rattle.std.specs.Prelude.{◌≡◌, true, false};
+ghost use Rattle.std.specs.Prelude.{◌≡◌, true, false, IfSome};
 ghost use Rattle.std.specs.List.{list_any};
 ghost use Rattle.klp_lint_findings.specs.Deciding.{is_unknown};
+ghost use Rattle.klp_lint_findings.specs.Marking.{IsMarked};
 
 use crate::deciding::one_is_unknown;
 use crate::linted::{Linted, callback_for};
@@ -19,16 +20,17 @@ pub fn callback_mark(
     target: &PlanTarget,
     which: Which,
     word: MarkWord,
-) -> Option<Mark> {
+) -> Option<Mark>
+    ensures { IfSome result (IsMarked linted.now.marks.now word) }
+{
     let callback = callback_for(target, which)?;
     mark_at(linted.marks, word, callback.line)
 }
 
-/// A callback with a mark.
+/// A mark about a callback for the object at this place.
 #[derive(Clone, Copy)]
 pub struct MarkedCallback {
     pub place: usize,
-    pub which: Which,
     pub mark: Mark,
 }
 
@@ -38,10 +40,12 @@ fn marked_for(
     place: usize,
     target: &PlanTarget,
     word: MarkWord,
-) -> Option<MarkedCallback> {
+) -> Option<MarkedCallback>
+    ensures { IfSome result (λ marked. IsMarked linted.now.marks.now word marked.mark) }
+{
     for which in KINDS {
         if let Some(mark) = callback_mark(linted, target, which, word) {
-            return Some(MarkedCallback { place, which, mark });
+            return Some(MarkedCallback { place, mark });
         }
     }
     None
@@ -53,7 +57,9 @@ pub fn first_marked(
     manager: &Manager,
     patch: PatchId,
     word: MarkWord,
-) -> Option<MarkedCallback> {
+) -> Option<MarkedCallback>
+    ensures { IfSome result (λ marked. IsMarked linted.now.marks.now word marked.mark) }
+{
     let own = linted.patch(patch)?;
     for (place, target) in own.targets.iter().enumerate() {
         if manager.modules().is_loaded(target.object) {

@@ -103,6 +103,13 @@ impl<'a> Linted<'a> {
         }
     }
 
+    /// The kind of the target's callback at this line of the catalog. `None` if there is no such callback.
+    pub fn callback_kind(&self, patch: PatchId, place: usize, line: u64) -> Option<Which> {
+        let target = self.target(patch, place)?;
+        let callback = target.callbacks.iter().find(|it| it.line == line)?;
+        Some(callback.which)
+    }
+
     /// The line of a target's callback of this kind. `None` if there is no such callback.
     pub fn callback_line(&self, patch: PatchId, place: usize, which: Which) -> Option<u64> {
         let target = self.target(patch, place)?;

@@ -8,7 +8,7 @@ ghost use Rattle.std.specs.Prelude.{◌≡◌, ◌||◌, true, false, IfOk, IfSo
 ghost use Rattle.std.specs.List.{list_any, starts_with};
 ghost use Rattle.klp_catalog_text.specs.Lines.{words_of};
 ghost use Rattle.klp_lint_findings.specs.Deciding.{is_unknown_word, is_unknown};
-ghost use Rattle.klp_lint_findings.specs.Marking.{begins_unknown, is_unknown_line, has_unknown};
+ghost use Rattle.klp_lint_findings.specs.Marking.{begins_unknown, is_unknown_line, has_unknown, IsMarked};
 
 use klp_catalog_text::{Lines, words_of};
 use klp_messages::word_at;
@@ -35,7 +35,7 @@ pub enum MarkWord {
 }
 
 /// A mark of a catalog.
-#[derive(Clone, Copy)]
+#[derive(Clone, Copy, PartialEq, Eq)]
 pub struct Mark {
     pub word: MarkWord,
     /// The number of the mark's own line, from 1.
@@ -285,7 +285,9 @@ pub fn read_marks(alloc: Global, text: &[u8]) -> Result<Vec<Mark>, NoMarks>
 }
 
 /// The first of these marks that says this about a line of the catalog. `None` if no mark does.
-pub fn mark_at(marks: &[Mark], word: MarkWord, line: u64) -> Option<Mark> {
+pub fn mark_at(marks: &[Mark], word: MarkWord, line: u64) -> Option<Mark>
+    ensures { IfSome result (IsMarked marks.now word) }
+{
     let found = marks.iter().find(|it| it.word == word && it.about == line);
     found.copied()
 }

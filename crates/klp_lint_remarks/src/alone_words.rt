@@ -3,7 +3,7 @@
 use crate::mark_words::reason_of;
 use crate::shown::{ShownValue, name_of};
 use klp_lint::Pair;
-use klp_lint_findings::{IdleReason, Linted, PartFinding, TraceFinding, callbacks_of};
+use klp_lint_findings::{IdleReason, Linted, Mark, PartFinding, TraceFinding, callbacks_of};
 use klp_modules::SymbolFault;
 use klp_types::{MAX_VARIABLES, PatchId, ShadowKey, ShadowValue};
 use std::fmt;
@@ -132,23 +132,33 @@ struct MarkWords<'a> {
     finding: TraceFinding,
 }
 
+/// The name of the callback that a mark is about.
+fn marked_name(linted: &Linted<'_>, patch: PatchId, place: usize, mark: &Mark) -> &'static str {
+    match linted.callback_kind(patch, place, mark.about) {
+        Some(which) => name_of(which),
+        None => "a callback",
+    }
+}
+
 impl fmt::Display for MarkWords<'_> {
     fn fmt<W: fmt::Write>(&self, f: &mut fmt::Formatter<W>) -> fmt::Result {
         let (linted, patch) = (self.linted, self.patch);
         let input = linted.input;
         let text = input.catalog.bytes;
         match self.finding {
-            TraceFinding::Guessed { place, which, mark } => {
+            TraceFinding::Guessed { place, mark } => {
                 let object = linted.target_name(patch, place);
-                let (name, why) = (name_of(which), reason_of(text, &mark));
+                let name = marked_name(&linted, patch, place, &mark);
+                let why = reason_of(text, &mark);
                 write!(
                     f,
                     "leaves no trace, if its callbacks do what is guessed: {name} for {object}: {why}"
                 )
             }
-            TraceFinding::NotUnderstood { place, which, mark } => {
+            TraceFinding::NotUnderstood { place, mark } => {
                 let object = linted.target_name(patch, place);
-                let (name, why) = (name_of(which), reason_of(text, &mark));
+                let name = marked_name(&linted, patch, place, &mark);
+                let why = reason_of(text, &mark);
                 write!(f, "not judged: {name} for {object} isn't understood: {why}")
             }
             TraceFinding::MaybeCumulative { mark } => {

@@ -74,7 +74,9 @@ fn write_about<W: Write>(
 ) -> io::Result<()> {
     for said in found.said.as_slice() {
         if said.part() == part && said.about.patch == patch {
-            write_said(alloc, form, found.linted, *said, out)?;
+            if let Some(shown) = found.shown(said) {
+                write_said(alloc, form, found.linted, shown, out)?;
+            }
         }
     }
     Ok(())
