@@ -240,6 +240,20 @@ def traceable(text, wanted, *patches):
         return fault((status, err), (FINDINGS, told + said))
 
 
+def over_variables(wanted, *patches):
+    """What stands against patches whose positions are those of variables, by the kernel's symbols. `wanted` has a line for each, in which
+    `f0` stands for the first patch's file."""
+    kernel = [*KERNEL, (0xFFFFFFFF81006000, "d", "v", "vmlinux")]
+    with tempfile.TemporaryDirectory(prefix="catalogs-") as room:
+        with open(f"{room}/symbols", "w") as it:
+            it.write(rows_text(kernel))
+        files = {f"f{number}": it["file"] for number, it in enumerate(patches)}
+        status, out, err = run(["klpko", "--symbols", f"{room}/symbols", *files.values()])
+        code, told = told_marks(patches, kernel)
+        said = "".join(f"klpko: {it.format(**files)} is a variable\n" for it in wanted)
+        return fault((status, err), (FINDINGS if wanted else code, told + said)) or wrong_catalog(out.decode(), patches, kernel)
+
+
 def bad_list(text, wanted, *patches):
     """A list of functions is refused, and no catalog is made."""
     with tempfile.TemporaryDirectory(prefix="catalogs-") as room:
@@ -303,6 +317,19 @@ LISTS = {
     "no module": ("f\nh\n", [f"{{f0}}: {{l}} lists no function of m, {UNLISTED}"]),
     "nothing": ("", [f"{{f0}}: {{l}} lists no function of vmlinux, {UNLISTED}", f"{{f0}}: {{l}} lists no function of m, {UNLISTED}",
                      f"{{f1}}: {{l}} lists no function of vmlinux, {UNLISTED}"]),
+}
+# Patches at positions of variables, each with what stands against them.
+VARIABLES = {
+    "a position among functions": (["{f0}: the kernel refuses the patch: f,2 of vmlinux"], [Livepatch(b"a", [Object(None, [Function(b"f", b"g", 2)])])]),
+    "a name without a position": (["{f0}: the kernel refuses the patch: v of vmlinux"], [Livepatch(b"a", [Object(None, [Function(b"v", b"g")])])]),
+    "the second patch, and the second function of the third": (
+        ["{f1}: the kernel refuses the patch: v,1 of vmlinux", "{f2}: the kernel refuses the patch: f,2 of vmlinux"],
+        [Livepatch(b"a", [Object(None, [Function(b"f", b"g", 1)])]), Livepatch(b"b", [Object(None, [Function(b"v", b"g", 1)])]),
+         Livepatch(b"c", [Object(None, [Function(b"f", b"g", 3), Function(b"f", b"g", 2)])])]),
+    "none, though one counts": ([], [Livepatch(b"a", [Object(None, [Function(b"f", b"g", 3)])])]),
+    "none, where it isn't said which": ([], [Livepatch(b"a", [Object(None, [Function(b"f", b"g")])])]),
+    "none, where there are fewer": ([], [Livepatch(b"a", [Object(None, [Function(b"v", b"g", 2)])])]),
+    "none of a module": ([], [Livepatch(b"a", [Object(b"m", [Function(b"f", b"g", 2)])])]),
 }
 NO_FUNCTION = "it isn't one of available_filter_functions: wanted is NAME [MODULE]"
 WHOLE, FEWER = "--list and --matrix take it whole", "give fewer patches; --matrix takes all"
@@ -423,5 +450,7 @@ def cases(source_of, names, written):
         written, functools.partial(refused_target, b"x", "it isn't an ELF file: wanted is a module, .ko"), *OVER_TARGET)
     for name, (text, wanted) in LISTS.items():
         made[f"functions that can be traced, {name}"] = (written, functools.partial(traceable, text, wanted), *TRACED)
+    for name, (wanted, patches) in VARIABLES.items():
+        made[f"positions of variables, {name}"] = (written, functools.partial(over_variables, wanted), *patches)
     made["no list of functions"] = (written, functools.partial(bad_list, "f\n\nf m\n", f"line 3: {NO_FUNCTION}"), *TRACED)
     return made

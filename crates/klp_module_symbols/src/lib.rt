@@ -5,8 +5,9 @@
 //! that patches name there, all that the kernel has, or, if it has none of the object, as many as the patches count
 //! (`specs/Symbols`).
 //!
-//! [`read_traceable`] reads which functions a kernel can trace, and [`untraceable`] returns the changes that it refuses
-//! (`specs/Traceable`).
+//! A kernel refuses a patch with a change that isn't of a function, or that it can't trace. [`variables`] returns those
+//! whose position is that of a variable (`specs/Variables`). [`read_traceable`] reads which functions a kernel can trace,
+//! and [`untraceable`] returns the changes of others (`specs/Traceable`).
 #![tactic(auto)]
 
 mod files;
@@ -14,8 +15,10 @@ mod objects;
 mod rows;
 mod traceable;
 mod uses;
+mod variable;
 
 pub use files::add_file;
 pub use objects::{CatalogSymbol, ObjectSymbols, objects_of};
 pub use rows::{KernelRow, RowsFault, read_rows};
 pub use traceable::{TraceableFault, TraceableRow, is_judged, read_traceable, untraceable};
+pub use variable::variables;

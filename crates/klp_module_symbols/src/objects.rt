@@ -30,7 +30,7 @@ pub struct ObjectSymbols<'a> {
     pub symbols: Vec<CatalogSymbol<'a>>,
 }
 
-fn is_row_of(symbol: &Changed<'_>, row: &KernelRow<'_>) -> bool
+pub(crate) fn is_row_of(symbol: &Changed<'_>, row: &KernelRow<'_>) -> bool
     ensures { result ≡ is_row_of (meaning symbol.now) (row_meaning row.now) }
 {
     row.object == object_name(symbol.object) && row.name == symbol.name

@@ -5,7 +5,7 @@ use klp_module_answer::{Livepatch, TargetModule, read_target};
 use klp_module_matrix::{name_of_row, object_name};
 use klp_module_symbols::{
     KernelRow, RowsFault, TraceableFault, TraceableRow, add_file, is_judged, read_rows,
-    read_traceable, untraceable,
+    read_traceable, untraceable, variables,
 };
 use std::alloc::{AllocError, Global};
 use std::io::Write;
@@ -157,22 +157,49 @@ fn tell_untraceable<E: Write>(
     Ok(!refused.is_empty())
 }
 
-/// Writes what stands against the livepatches by the list of functions that the kernel can trace, if it is given. Returns
-/// whether nothing does.
+/// Writes which changes of a livepatch are of variables. Returns whether there are any.
+fn tell_variables<E: Write>(
+    alloc: Global,
+    rows: &[KernelRow<'_>],
+    livepatch: &Livepatch<'_>,
+    err: &mut E,
+) -> Result<bool, AllocError> {
+    let file = Escaped(livepatch.file.as_bytes());
+    let refused = variables(alloc, rows, &livepatch.changed)?;
+    for change in &refused {
+        let (name, object) = (Escaped(change.name), Escaped(object_name(change.object)));
+        let _ = match change.position {
+            0 => writeln!(
+                err,
+                "{NAME}: {file}: the kernel refuses the patch: {name} of {object} is a variable"
+            ),
+            position => writeln!(
+                err,
+                "{NAME}: {file}: the kernel refuses the patch: {name},{position} of {object} is a variable"
+            ),
+        };
+    }
+    Ok(!refused.is_empty())
+}
+
+/// Writes what stands against the livepatches by the kernel's symbols, and by the list of functions that it can trace, if
+/// they are given. Returns whether nothing does.
 pub(crate) fn can_patch<E: Write>(
     alloc: Global,
     kernel: &Kernel<'_>,
     livepatches: &[Livepatch<'_>],
     err: &mut E,
 ) -> Result<bool, AllocError> {
-    let Some(list) = &kernel.traceable else {
-        return Ok(true);
-    };
     let mut can_all = true;
     for livepatch in livepatches {
-        let is_refused = tell_untraceable(alloc, list, livepatch, err)?;
-        let is_unlisted = tell_unlisted(list, livepatch, err);
-        can_all = can_all && !is_refused && !is_unlisted;
+        if tell_variables(alloc, &kernel.rows, livepatch, err)? {
+            can_all = false;
+        }
+        if let Some(list) = &kernel.traceable {
+            let is_refused = tell_untraceable(alloc, list, livepatch, err)?;
+            let is_unlisted = tell_unlisted(list, livepatch, err);
+            can_all = can_all && !is_refused && !is_unlisted;
+        }
     }
     Ok(can_all)
 }
