@@ -1,1 +1,2 @@
+pub mod InsideLemmas
 pub mod LaggingLemmas

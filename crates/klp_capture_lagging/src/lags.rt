@@ -73,7 +73,7 @@ fn is_any_about(capture: &Capture<'_>, thread: u64, samples: &[Sample]) -> bool
 
 /// Whether a sample's reading is the last that the log says of its thread. `rest` are the sample's readings behind it, and
 /// `later` the samples behind this one.
-fn is_last(
+pub(crate) fn is_last(
     capture: &Capture<'_>,
     sample: &Sample,
     later: &[Sample],
@@ -175,7 +175,7 @@ fn any_counts_some(samples: &[Sample]) -> bool
 }
 
 /// Whether one of these samples is whole.
-fn any_is_whole(samples: &[Sample]) -> bool
+pub(crate) fn any_is_whole(samples: &[Sample]) -> bool
     ensures { result ≡ list_any is_settled samples.now }
 {
     for sample in samples {
@@ -250,7 +250,7 @@ pub fn who_lags_was_last_said_so()
         ↔ (IsLastSaid capture samples seen × (is_off target seen.task.state ≡ true))) }
 {}
 
-fn has_none<T>(list: &[T]) -> bool
+pub(crate) fn has_none<T>(list: &[T]) -> bool
     ensures { (result ≡ true) ↔ (list.now ≡ []) }
 {
     list.is_empty()
