@@ -1,6 +1,6 @@
 //! Puts those who hold a transition up into groups: the threads of one process that sleep in one function.
-use crate::gather::text_of;
 use klp_capture::Capture;
+use klp_capture_holders::text_of;
 use klp_capture_report::{GroupReport, HolderReport, TaskReport};
 use std::alloc::{AllocError, Global};
 

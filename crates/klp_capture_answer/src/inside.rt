@@ -1,6 +1,7 @@
 //! The tasks inside of functions that a patch would change, before the patch is loaded.
-use crate::gather::{seen_task_of, text_of};
+use crate::seen_tasks::seen_task_of;
 use klp_capture::{Activity, Capture, Sample, SeenTask};
+use klp_capture_holders::text_of;
 use klp_capture_report::InsideReport;
 use std::alloc::{AllocError, Global};
 

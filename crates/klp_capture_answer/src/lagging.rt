@@ -1,6 +1,7 @@
 //! Who lags in the last sample: by the run that was found, and by what the log says of each task last.
-use crate::gather::{seen_task_of, task_of, text_of};
+use crate::seen_tasks::seen_task_of;
 use klp_capture::{Activity, Capture, FrameLine, Sample, SeenTask};
+use klp_capture_holders::{task_of, text_of};
 use klp_capture_lagging::{end_of, lagging_in};
 use klp_capture_report::{LaggingReport, TornReport, WhyLags};
 use klp_capture_search::{Followed, Run};
@@ -182,7 +183,7 @@ fn add_torn(
 
 /// Returns the tasks that lag in the last sample without holding the transition up. Those that only a torn sample behind it
 /// shows so come last.
-pub(crate) fn lagging_of(
+fn lagging_of(
     alloc: Global,
     capture: &Capture<'_>,
     run: &Run<'_>,
@@ -201,4 +202,18 @@ pub(crate) fn lagging_of(
     }
     add_torn(alloc, capture, run, &mut lagging)?;
     Ok(lagging)
+}
+
+/// Returns the same of a transition, or none if it doesn't go on.
+pub(crate) fn lagging_if(
+    alloc: Global,
+    capture: &Capture<'_>,
+    run: &Run<'_>,
+    goes_on: bool,
+) -> Result<Vec<LaggingReport>, AllocError> {
+    if goes_on {
+        lagging_of(alloc, capture, run)
+    } else {
+        Ok(Vec::new(alloc))
+    }
 }

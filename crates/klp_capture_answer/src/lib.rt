@@ -3,6 +3,7 @@
 //! ([`klp_capture_report::Report`]).
 #![tactic(auto)]
 
+mod claims;
 mod elsewhere;
 mod gather;
 mod groups;
@@ -10,5 +11,7 @@ mod inside;
 mod lagging;
 mod not_explained;
 mod not_seen;
+mod seen_tasks;
+mod transitions;
 
 pub use gather::report_of;

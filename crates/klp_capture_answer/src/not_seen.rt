@@ -1,6 +1,6 @@
 //! What a verdict needs and couldn't be read.
-use crate::gather::text_of;
 use klp_capture::{BootTime, Capture};
+use klp_capture_holders::text_of;
 use klp_capture_report::NotSeen;
 use std::alloc::{AllocError, Global};
 

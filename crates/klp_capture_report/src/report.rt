@@ -285,6 +285,9 @@ pub struct Report {
     /// Whether `klpcap` was told to look for functions that a patch would change.
     pub is_preflight: bool,
     pub inside: Vec<InsideReport>,
+    /// Whether the log has nobody inside of these functions: each of them is there, all could be read, and each thread slept, or
+    /// had ended, outside of them when it was last read.
+    pub nobody_inside: bool,
     pub transitions: Vec<TransitionReport>,
     /// Whether a transition goes on, and no task is known to lag: neither one of the run of the rules, nor one by what the
     /// log says of it last, nor one that the log only counts.

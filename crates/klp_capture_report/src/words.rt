@@ -33,6 +33,19 @@ impl fmt::Display for Becomes {
     }
 }
 
+/// Some tasks: `1 task` or `3 tasks`.
+#[derive(Clone, Copy)]
+struct Tasks(u64);
+
+impl fmt::Display for Tasks {
+    fn fmt<W: fmt::Write>(&self, f: &mut fmt::Formatter<W>) -> fmt::Result {
+        match self.0 {
+            1 => write!(f, "1 task"),
+            count => write!(f, "{count} tasks"),
+        }
+    }
+}
+
 impl Report {
     /// Writes how many tasks lag without being followed.
     fn print_others<W: Write>(&self, out: &mut W) -> io::Result<()> {
@@ -173,14 +186,22 @@ impl Report {
         }
         let holders = self.inside.iter().filter(|inside| inside.is_asleep).count();
         let others = self.inside.len().saturating_sub(holders) as u64;
-        let tasks = if holders == 1 { "task" } else { "tasks" };
-        write!(
-            out,
-            "if these functions were patched now, {holders} {tasks} would hold it up"
-        )?;
-        match others.saturating_add(counted) {
-            0 => writeln!(out),
-            others => writeln!(out, ", and {others} more may"),
+        self.print_would_hold(holders as u64, others.saturating_add(counted), out)
+    }
+
+    /// Writes how many tasks would hold a transition up, and how many more may.
+    fn print_would_hold<W: Write>(&self, holders: u64, others: u64, out: &mut W) -> io::Result<()> {
+        write!(out, "if these functions were patched now, ")?;
+        let (would, may) = (Tasks(holders), Tasks(others));
+        match (holders, others) {
+            (0, 0) if self.nobody_inside => writeln!(out, "0 tasks would hold it up"),
+            (0, 0) => writeln!(
+                out,
+                "it isn't known whether a task would hold it up: not all was read that would say so. Record again"
+            ),
+            (0, _) => writeln!(out, "{may} may hold it up"),
+            (_, 0) => writeln!(out, "{would} would hold it up"),
+            _ => writeln!(out, "{would} would hold it up, and {others} more may"),
         }
     }
 

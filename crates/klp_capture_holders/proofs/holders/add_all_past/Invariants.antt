@@ -1,0 +1,7 @@
+use Rattle.std.proofs.Common.{◌≡◌}
+use Rattle.klp_capture_holders.specs.Holding.{still_held}
+use Rattle.klp_capture_holders.proofs.holders.add_all_past.Given as goal
+
+-- nobody more holds the transition up still
+abbrev pub invariant-loop-number : goal.invariant-loop-number
+invariant-loop-number l = still_held l.list.items ≡ still_held l.initial.list.items
