@@ -9,7 +9,6 @@
 //! `twice.rt` finds variables that a patch adds though they are there, and `why.rt` says why a patch can't be loaded.
 #![tactic(auto)]
 
-mod changes;
 mod hiding;
 mod loading;
 mod orders;

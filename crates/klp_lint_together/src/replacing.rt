@@ -3,12 +3,11 @@ ghost use Rattle.std.specs.Prelude.{◌≡◌, IfOk};
 ghost use Rattle.klp_lint_findings.specs.Sound.{Grows};
 ghost use Rattle.klp_lint_together.specs.Kept.{IsAsBefore};
 
-use crate::changes::{Change, change_of, keys_changed};
-use crate::hiding::{ChangedSites, lost_functions};
 use crate::loading::{End, Loading, Outcomes, end_of, events_for, run, take_back};
 use crate::twice::{TwiceAdded, is_there, twice_added};
 use klp_catalog_text::PlanPatch;
 use klp_core::Manager;
+use klp_lint_changes::{Change, ChangedSites, change_of, keys_changed, lost_functions};
 use klp_lint_findings::{Finding, Findings, PatchList, ReplaceFinding, is_understood, names_state};
 use klp_model::Event;
 use klp_types::{PatchId, ShadowKey};

@@ -6,13 +6,14 @@ ghost use Rattle.klp_lint_findings.specs.Sound.{Grows};
 ghost use Rattle.klp_lint_together.specs.Kept.{IsAsBefore};
 ghost use Rattle.klp_lint_together.specs.Starting.{StartsUnlessReported};
 
-use crate::hiding::{ChangedSites, find_same_functions};
+use crate::hiding::find_same_functions;
 use crate::loading::{LoadOutcome, Outcomes, all_but, try_all, try_each};
 use crate::orders::count_orders;
 use crate::replacing::find_replacing;
 use crate::starting::find_each_alone;
 use crate::why::why_of;
 use klp_core::Manager;
+use klp_lint_changes::ChangedSites;
 use klp_lint_findings::{
     CountFinding, Finding, Findings, Linted, LoadFinding, PatchList, Tally, Together,
 };

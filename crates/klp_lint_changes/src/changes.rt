@@ -7,7 +7,7 @@ use klp_types::{Edit, ShadowKey, Which};
 use std::alloc::{AllocError, Global};
 
 /// Shadow variables, each of them once.
-pub(crate) type Keys = Vec<ShadowKey>;
+pub type Keys = Vec<ShadowKey>;
 
 /// Adds a variable, unless it is there already.
 fn add_key(keys: &mut Keys, key: ShadowKey) -> Result<(), AllocError> {
@@ -57,7 +57,7 @@ fn add_changed_for(
 
 /// The shadow variables that the callbacks of a patch for loaded objects may add or free while it is applied. `Err` if
 /// memory runs out.
-pub(crate) fn keys_changed(
+pub fn keys_changed(
     alloc: Global,
     manager: &Manager,
     patch: &PlanPatch,
@@ -73,7 +73,7 @@ pub(crate) fn keys_changed(
 
 /// What the edits of a patch do with one of its system states.
 #[derive(Clone, Copy, PartialEq, Eq)]
-pub(crate) enum Change {
+pub enum Change {
     Nothing,
     Sets,
     TakesOver,
@@ -111,7 +111,7 @@ fn change_of_kind(
 
 /// Returns what the callbacks of a patch for loaded objects do with this system state while the patch is applied. All
 /// pre-patch callbacks run before all post-patch callbacks, and the last edit counts.
-pub(crate) fn change_of(manager: &Manager, patch: &PlanPatch, id: u64) -> Change {
+pub fn change_of(manager: &Manager, patch: &PlanPatch, id: u64) -> Change {
     let change = change_of_kind(Change::Nothing, manager, patch, Which::Pre, id);
     change_of_kind(change, manager, patch, Which::Post, id)
 }
