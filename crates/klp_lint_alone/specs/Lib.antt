@@ -1,1 +1,1 @@
-pub mod Traces
+pub mod Judged

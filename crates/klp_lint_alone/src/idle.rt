@@ -1,6 +1,7 @@
 //! Finds parts of a patch that can't work, or do nothing, whatever the state is.
-ghost use Rattle.std.specs.Prelude.{IfOk};
-ghost use Rattle.klp_lint_findings.specs.Sound.{Grows};
+ghost use Rattle.std.specs.Prelude.{IfOk, IfSome};
+ghost use Rattle.klp_lint_findings.specs.Saying.{Adds};
+ghost use Rattle.klp_lint_alone.specs.Judged.{IsPartOf};
 
 use klp_catalog_text::{PlanCallback, PlanPatch, PlanTarget};
 use klp_lint_findings::{
@@ -29,6 +30,25 @@ fn idle_state(patch: &PlanPatch, patches: &[PlanPatch], edit: &Edit) -> Option<(
     }
 }
 
+/// The finding that an edit of this system state does nothing, in the callback at this line. `None` if no edit does nothing.
+fn idle_at(
+    patch: PatchId,
+    place: usize,
+    line: u64,
+    state: Option<(u64, IdleReason)>,
+) -> Option<Finding>
+    ensures { IfSome result (IsPartOf patch) }
+{
+    let (id, why) = state?;
+    let idle = PartFinding::Idle {
+        place,
+        line,
+        id,
+        why,
+    };
+    Some(Finding::Part(patch, idle))
+}
+
 /// Adds the edits of a callback that do nothing.
 fn find_idle_edits(
     found: &mut Findings<'_>,
@@ -36,29 +56,22 @@ fn find_idle_edits(
     place: usize,
     callback: &PlanCallback,
 ) -> Result<(), AllocError>
-    ensures { IfOk result (λ done. Grows found.old found.new) }
+    ensures { IfOk result (λ done. Adds (IsPartOf patch) found.old found.new) }
 {
     let patches = found.linted.patches;
     let Some(own) = found.linted.patch(patch) else {
         return Ok(());
     };
     for edit in callback.script.edits.as_slice() {
-        if let Some((id, why)) = idle_state(own, patches, edit) {
-            let idle = PartFinding::Idle {
-                place,
-                line: callback.line,
-                id,
-                why,
-            };
-            found.add(Finding::Part(patch, idle))?;
-        }
+        let state = idle_state(own, patches, edit);
+        found.add_some(idle_at(patch, place, callback.line, state))?;
     }
     Ok(())
 }
 
 /// Adds the edits of a patch that do nothing.
 pub fn find_idle(found: &mut Findings<'_>, patch: PatchId) -> Result<(), AllocError>
-    ensures { IfOk result (λ done. Grows found.old found.new) }
+    ensures { IfOk result (λ done. Adds (IsPartOf patch) found.old found.new) }
 {
     let Some(own) = found.linted.patch(patch) else {
         return Ok(());
@@ -75,25 +88,31 @@ pub fn find_idle(found: &mut Findings<'_>, patch: PatchId) -> Result<(), AllocEr
 fn no_symbol(
     linted: &Linted<'_>,
     target: &PlanTarget,
+    patch: PatchId,
     place: usize,
     function: usize,
-) -> Option<PartFinding> {
+) -> Option<Finding>
+    ensures { IfSome result (IsPartOf patch) }
+{
     let object = linted.objects.get(usize::from(target.object.0))?;
     let own = target.functions.as_slice().get(function)?;
     match place_in(object, own.symbol.as_str(), own.sympos) {
         Ok(_) => None,
-        Err(fault) => Some(PartFinding::NoSymbol {
-            place,
-            function,
-            fault,
-            is_assumed: is_assumed(linted.marks, usize::from(target.object.0)),
-        }),
+        Err(fault) => {
+            let no_symbol = PartFinding::NoSymbol {
+                place,
+                function,
+                fault,
+                is_assumed: is_assumed(linted.marks, usize::from(target.object.0)),
+            };
+            Some(Finding::Part(patch, no_symbol))
+        }
     }
 }
 
 /// Adds the functions of a patch whose name and position pick no symbol.
 pub fn find_unpicked(found: &mut Findings<'_>, patch: PatchId) -> Result<(), AllocError>
-    ensures { IfOk result (λ done. Grows found.old found.new) }
+    ensures { IfOk result (λ done. Adds (IsPartOf patch) found.old found.new) }
 {
     let linted = found.linted;
     let Some(own) = linted.patch(patch) else {
@@ -101,9 +120,7 @@ pub fn find_unpicked(found: &mut Findings<'_>, patch: PatchId) -> Result<(), All
     };
     for (place, target) in own.targets.iter().enumerate() {
         for function in 0..target.functions.len() {
-            if let Some(finding) = no_symbol(&linted, target, place, function) {
-                found.add(Finding::Part(patch, finding))?;
-            }
+            found.add_some(no_symbol(&linted, target, patch, place, function))?;
         }
     }
     Ok(())

@@ -1,6 +1,7 @@
 //! Finds what in a patch is near a limit, and whether a patch is just like another one.
-ghost use Rattle.std.specs.Prelude.{IfOk};
-ghost use Rattle.klp_lint_findings.specs.Sound.{Grows};
+ghost use Rattle.std.specs.Prelude.{IfOk, IfSome};
+ghost use Rattle.klp_lint_findings.specs.Saying.{Adds};
+ghost use Rattle.klp_lint_alone.specs.Judged.{IsPartOf};
 
 use klp_catalog_text::{PlanCallback, PlanFunction, PlanPatch, PlanTarget};
 use klp_lint_findings::{
@@ -45,9 +46,27 @@ fn little_left(linted: &Linted<'_>, target: &PlanTarget, function: usize) -> Opt
     }
 }
 
+/// The finding about a target's function at whose symbol little is left. `None` if enough is left.
+fn near_limit(
+    linted: &Linted<'_>,
+    target: &PlanTarget,
+    patch: PatchId,
+    place: usize,
+    function: usize,
+) -> Option<Finding>
+    ensures { IfSome result (IsPartOf patch) }
+{
+    let near = PartFinding::NearLimit {
+        place,
+        function,
+        left: little_left(linted, target, function)?,
+    };
+    Some(Finding::Part(patch, near))
+}
+
 /// Adds each function of a patch at whose symbol the call of the handler is near the end of its reach.
 pub fn find_near(found: &mut Findings<'_>, patch: PatchId) -> Result<(), AllocError>
-    ensures { IfOk result (λ done. Grows found.old found.new) }
+    ensures { IfOk result (λ done. Adds (IsPartOf patch) found.old found.new) }
 {
     let linted = found.linted;
     let Some(own) = linted.patch(patch) else {
@@ -55,14 +74,7 @@ pub fn find_near(found: &mut Findings<'_>, patch: PatchId) -> Result<(), AllocEr
     };
     for (place, target) in own.targets.iter().enumerate() {
         for function in 0..target.functions.len() {
-            if let Some(left) = little_left(&linted, target, function) {
-                let near = PartFinding::NearLimit {
-                    place,
-                    function,
-                    left,
-                };
-                found.add(Finding::Part(patch, near))?;
-            }
+            found.add_some(near_limit(&linted, target, patch, place, function))?;
         }
     }
     Ok(())
@@ -81,23 +93,21 @@ fn count_wanted(patch: &PlanPatch) -> usize {
     count
 }
 
-/// Adds a patch whose callbacks may find no room for their variables. This may happen if the variables that all
-/// callbacks of the catalog add don't fit together.
-pub fn find_room(found: &mut Findings<'_>, patch: PatchId) -> Result<(), AllocError>
-    ensures { IfOk result (λ done. Grows found.old found.new) }
+/// The finding that callbacks of a patch may find no room for their variables. This may happen if the variables that all
+/// callbacks of the catalog add don't fit together. `None` if they fit, or if the patch needs no room.
+pub fn room(linted: &Linted<'_>, patch: PatchId) -> Option<Finding>
+    ensures { IfSome result (IsPartOf patch) }
 {
-    let Some(own) = found.linted.patch(patch) else {
-        return Ok(());
-    };
+    let own = linted.patch(patch)?;
     let mut all = 0usize;
-    for it in found.linted.patches {
+    for it in linted.patches {
         all = all.saturating_add(count_all_added(it));
     }
     let wanted = count_wanted(own);
     if wanted == 0 || all <= MAX_VARIABLES {
-        return Ok(());
+        return None;
     }
-    found.add(Finding::Part(patch, PartFinding::Room { own: wanted, all }))
+    Some(Finding::Part(patch, PartFinding::Room { own: wanted, all }))
 }
 
 /// Whether two functions have the same symbol and position, as the catalog spells them.
@@ -141,20 +151,16 @@ fn is_alike(one: &PlanPatch, other: &PlanPatch) -> bool {
         })
 }
 
-/// Adds the first older patch that is just like this one.
-pub fn find_alike(found: &mut Findings<'_>, patch: PatchId) -> Result<(), AllocError>
-    ensures { IfOk result (λ done. Grows found.old found.new) }
+/// The finding that an older patch is just like this one, about the first such patch. `None` if there is none.
+pub fn alike(linted: &Linted<'_>, patch: PatchId) -> Option<Finding>
+    ensures { IfSome result (IsPartOf patch) }
 {
-    let patches = found.linted.patches;
-    let Some(own) = found.linted.patch(patch) else {
-        return Ok(());
-    };
-    let older = patches.iter().position(|it| is_alike(own, it));
-    match older {
-        Some(number) if number < usize::from(patch.0) => {
-            let older = patch_id(number);
-            found.add(Finding::Part(patch, PartFinding::Alike { older }))
-        }
-        _ => Ok(()),
+    let own = linted.patch(patch)?;
+    let number = linted.patches.iter().position(|it| is_alike(own, it))?;
+    if number < usize::from(patch.0) {
+        let older = patch_id(number);
+        Some(Finding::Part(patch, PartFinding::Alike { older }))
+    } else {
+        None
     }
 }

@@ -1,17 +1,21 @@
 //! Judges each patch by itself: whether it could be enabled now, and withdrawn later, without leaving a trace.
-ghost use Rattle.std.specs.Prelude.{◌≡◌, ◌≤◌, true, length, IfSome, IfNone, IfOk};
+ghost use Rattle.std.specs.Prelude.{◌≡◌, ◌≤◌, true, false, [], length, IfSome, IfNone, IfOk};
 ghost use Rattle.std.specs.List.{list_any};
 ghost use Rattle.klp_manager_state.specs.Managed.{setting_of};
+ghost use Rattle.klp_model.specs.State.{is_loaded};
 ghost use Rattle.klp_model.specs.Company.{IsFairStart};
 ghost use Rattle.klp_lint.specs.Premises.{ArePatchesOf, Fails, HoldEverywhere};
 ghost use Rattle.klp_lint.specs.declared.premise.Premise.TheVariants.{NotUndone};
+ghost use Rattle.klp_lint_findings.specs.Claims.{ClaimsTrace, IsTrue, AddsTrue};
 ghost use Rattle.klp_lint_findings.specs.Deciding.{is_unknown};
-ghost use Rattle.klp_lint_alone.specs.Traces.{Claims};
+ghost use Rattle.klp_lint_findings.specs.Saying.{Adds};
 ghost use Rattle.klp_lint_findings.specs.Sound.{Grows, Vouches, VouchesBelow};
+ghost use Rattle.klp_lint_findings.specs.Standing.{standing};
 ghost use Rattle.klp_lint_findings.specs.Targets.{target_at, callbacks_for};
+ghost use Rattle.klp_lint_alone.specs.Judged.{IsPartOf, IsNotUnderstood, IsMaybeCumulative};
 
 use crate::idle::{find_idle, find_unpicked};
-use crate::limits::{find_alike, find_near, find_room};
+use crate::limits::{alike, find_near, room};
 use klp_catalog_text::{PlanCallback, PlanTarget};
 use klp_core::Manager;
 use klp_lint::{Pair, Premise, found_by, holds_everywhere, leaves_no_trace, left_behind};
@@ -19,7 +23,7 @@ use klp_lint_findings::{
     Finding, Findings, KINDS, Linted, MarkWord, MarkedCallback, TraceFinding, World, callback_mark,
     first_marked, is_understood, mark_at, patch_id,
 };
-use klp_types::{PatchId, ShadowKey};
+use klp_types::{PatchId, ShadowKey, Which};
 use std::alloc::AllocError;
 
 /// The callbacks of a patch for a target. There are none if there is no such target.
@@ -42,7 +46,7 @@ fn not_undone(
     key: ShadowKey,
 ) -> TraceFinding
     ensures { Fails (setting_of manager.now.managed) patch manager.now.managed.state (NotUndone place pair key)
-        → Claims linted.now.patches.now (setting_of manager.now.managed) patch manager.now.managed.state result }
+        → ClaimsTrace linted.now (standing manager.now) patch result }
 {
     let callbacks = callbacks_at(linted, patch, place);
     let found = found_by(callbacks, pair, key, manager.shadow_get(key));
@@ -59,7 +63,7 @@ fn not_undone(
 /// The finding about a premise that fails.
 fn failing(linted: &Linted<'_>, manager: &Manager, patch: PatchId, premise: Premise) -> TraceFinding
     ensures { Fails (setting_of manager.now.managed) patch manager.now.managed.state premise
-        → Claims linted.now.patches.now (setting_of manager.now.managed) patch manager.now.managed.state result }
+        → ClaimsTrace linted.now (standing manager.now) patch result }
 {
     match premise {
         Premise::Moving => TraceFinding::Moving,
@@ -71,9 +75,22 @@ fn failing(linted: &Linted<'_>, manager: &Manager, patch: PatchId, premise: Prem
     }
 }
 
+/// Whether the object of a target is loaded.
+fn is_loaded(manager: &Manager, target: &PlanTarget) -> bool
+    ensures { result ≡ is_loaded manager.now.managed.state target.now.object }
+{
+    manager.modules().is_loaded(target.object)
+}
+
 /// Whether an object has callbacks that aren't judged, since the object isn't loaded.
-fn is_left_out(manager: &Manager, target: &PlanTarget) -> bool {
-    !target.callbacks.is_empty() && !manager.modules().is_loaded(target.object)
+fn is_left_out(manager: &Manager, target: &PlanTarget) -> bool
+    ensures { result ≡ true → (is_loaded manager.now.managed.state target.now.object ≡ false)
+        × (target.now.callbacks ≡ [] → ⊥) }
+{
+    if is_loaded(manager, target) {
+        return false;
+    }
+    !target.callbacks.is_empty()
 }
 
 /// The targets of a patch are judged unless they aren't loaded. Returns whether all that have callbacks are loaded.
@@ -105,7 +122,7 @@ fn trace_without_fault(
 ) -> Option<TraceFinding>
     ensures claims { ArePatchesOf (setting_of manager.now.managed) linted.now.patches.now
         → IsFairStart (setting_of manager.now.managed) patch manager.now.managed.state
-        → IfSome result (Claims linted.now.patches.now (setting_of manager.now.managed) patch manager.now.managed.state) }
+        → IfSome result (ClaimsTrace linted.now (standing manager.now) patch) }
     ensures unknown { IfNone result (list_any is_unknown linted.now.marks.now ≡ true) }
 {
     if !is_understood(linted, manager, patch) {
@@ -129,7 +146,7 @@ fn trace_of(
     is_scripted: bool,
 ) -> Option<TraceFinding>
     ensures claims { ArePatchesOf (setting_of manager.now.managed) linted.now.patches.now
-        → IfSome result (Claims linted.now.patches.now (setting_of manager.now.managed) patch manager.now.managed.state) }
+        → IfSome result (ClaimsTrace linted.now (standing manager.now) patch) }
     ensures unknown { IfNone result (list_any is_unknown linted.now.marks.now ≡ true) }
 {
     match leaves_no_trace(manager, linted.patches, patch) {
@@ -138,23 +155,63 @@ fn trace_of(
     }
 }
 
-/// Adds the objects of a patch whose callbacks aren't judged, since they aren't loaded.
+/// The finding that callbacks for a target aren't judged, since its object isn't loaded. `None` if it is loaded, or has no
+/// callbacks.
+fn not_loaded(
+    linted: &Linted<'_>,
+    manager: &Manager,
+    patch: PatchId,
+    place: usize,
+) -> Option<Finding>
+    ensures { IfSome result (IsTrue linted.now (standing manager.now)) }
+{
+    let target = linted.target(patch, place)?;
+    if is_left_out(manager, target) {
+        Some(Finding::Trace(patch, TraceFinding::NotLoaded { place }))
+    } else {
+        None
+    }
+}
+
+/// Whether it is asked what the callbacks of a patch for objects that aren't loaded do. Without a script, they are judged in the
+/// other world. Nothing of a patch is judged that is installed, or during a transition.
+fn is_asked_about(world: World, manager: &Manager, patch: PatchId) -> bool {
+    world == World::Each && manager.enabled(patch).is_none() && manager.moving().is_none()
+}
+
+/// Behind a script, adds the objects of a patch whose callbacks aren't judged, since they aren't loaded.
 fn find_unjudged(
     found: &mut Findings<'_>,
     manager: &Manager,
     patch: PatchId,
 ) -> Result<(), AllocError>
-    ensures { IfOk result (λ done. Grows found.old found.new) }
+    ensures { IfOk result (λ done. AddsTrue (standing manager.now) found.old found.new) }
 {
-    let Some(own) = found.linted.patch(patch) else {
+    let linted = found.linted;
+    let Some(own) = linted.patch(patch) else {
         return Ok(());
     };
-    for (place, target) in own.targets.iter().enumerate() {
-        if is_left_out(manager, target) {
-            found.add(Finding::Trace(patch, TraceFinding::NotLoaded { place }))?;
-        }
+    if !is_asked_about(found.world, manager, patch) {
+        return Ok(());
+    }
+    for place in 0..own.targets.len() {
+        found.add_some(not_loaded(&linted, manager, patch, place))?;
     }
     Ok(())
+}
+
+/// The finding that the callback of this kind for a target isn't understood. `None` if no mark says so.
+fn not_understood(
+    linted: &Linted<'_>,
+    target: &PlanTarget,
+    patch: PatchId,
+    place: usize,
+    which: Which,
+) -> Option<Finding>
+    ensures { IfSome result (IsNotUnderstood linted.now patch place) }
+{
+    let mark = callback_mark(linted, target, which, MarkWord::Unknown)?;
+    Some(Finding::Trace(patch, TraceFinding::NotUnderstood { place, mark }))
 }
 
 /// Adds the callbacks for a target that aren't understood.
@@ -164,15 +221,45 @@ fn find_unknown_for(
     place: usize,
     target: &PlanTarget,
 ) -> Result<(), AllocError>
-    ensures { IfOk result (λ done. Grows found.old found.new) }
+    ensures { IfOk result (λ done. Adds (IsNotUnderstood found.old.linted patch place) found.old found.new) }
 {
+    let linted = found.linted;
     for which in KINDS {
-        if let Some(mark) = callback_mark(&found.linted, target, which, MarkWord::Unknown) {
-            let unknown = TraceFinding::NotUnderstood { place, mark };
-            found.add(Finding::Trace(patch, unknown))?;
-        }
+        found.add_some(not_understood(&linted, target, patch, place, which))?;
     }
     Ok(())
+}
+
+/// Adds the callbacks for the object at this place of a patch that aren't understood, if the object is loaded.
+fn find_unknown_at(
+    found: &mut Findings<'_>,
+    manager: &Manager,
+    patch: PatchId,
+    place: usize,
+) -> Result<(), AllocError>
+    ensures { IfOk result (λ done. AddsTrue (standing manager.now) found.old found.new) }
+{
+    let linted = found.linted;
+    let Some(target) = linted.target(patch, place) else {
+        return Ok(());
+    };
+    if !is_loaded(manager, target) {
+        return Ok(());
+    }
+    find_unknown_for(found, patch, place, target)
+}
+
+/// The finding that it isn't known whether a patch is cumulative. `None` if no mark with this word is about its line.
+fn maybe_cumulative(
+    linted: &Linted<'_>,
+    patch: PatchId,
+    line: u64,
+    word: MarkWord,
+) -> Option<Finding>
+    ensures { IfSome result (IsMaybeCumulative linted.now patch word) }
+{
+    let mark = mark_at(linted.marks, word, line)?;
+    Some(Finding::Trace(patch, TraceFinding::MaybeCumulative { mark }))
 }
 
 /// Adds the callbacks of a patch for loaded objects that aren't understood. Also adds that it isn't known whether the
@@ -182,21 +269,16 @@ fn find_unknown(
     manager: &Manager,
     patch: PatchId,
 ) -> Result<(), AllocError>
-    ensures { IfOk result (λ done. Grows found.old found.new) }
+    ensures { IfOk result (λ done. AddsTrue (standing manager.now) found.old found.new) }
 {
     let linted = found.linted;
     let Some(own) = linted.patch(patch) else {
         return Ok(());
     };
-    for word in [MarkWord::Unknown, MarkWord::Guessed] {
-        if let Some(mark) = mark_at(linted.marks, word, own.line) {
-            found.add(Finding::Trace(patch, TraceFinding::MaybeCumulative { mark }))?;
-        }
-    }
-    for (place, target) in own.targets.iter().enumerate() {
-        if manager.modules().is_loaded(target.object) {
-            find_unknown_for(found, patch, place, target)?;
-        }
+    found.add_some(maybe_cumulative(&linted, patch, own.line, MarkWord::Unknown))?;
+    found.add_some(maybe_cumulative(&linted, patch, own.line, MarkWord::Guessed))?;
+    for place in 0..own.targets.len() {
+        find_unknown_at(found, manager, patch, place)?;
     }
     Ok(())
 }
@@ -209,7 +291,7 @@ fn find_answer(
 ) -> Result<(), AllocError>
     ensures vouches { IfOk result
         (λ done. Vouches (setting_of manager.now.managed) manager.now.managed.state patch found.new) }
-    ensures grows { IfOk result (λ done. Grows found.old found.new) }
+    ensures adds { IfOk result (λ done. AddsTrue (standing manager.now) found.old found.new) }
 {
     let is_scripted = found.world == World::Each;
     match trace_of(&found.linted, manager, patch, is_scripted) {
@@ -218,31 +300,29 @@ fn find_answer(
     }
 }
 
-/// Adds whether a patch would leave a trace, and what isn't judged. Behind a script, objects that aren't loaded are
-/// added too. Without one, they are judged in the other world.
+/// Adds whether a patch would leave a trace, and what isn't judged.
 fn find_trace(found: &mut Findings<'_>, manager: &Manager, patch: PatchId) -> Result<(), AllocError>
     ensures vouches { IfOk result
         (λ done. Vouches (setting_of manager.now.managed) manager.now.managed.state patch found.new) }
-    ensures grows { IfOk result (λ done. Grows found.old found.new) }
+    ensures adds { IfOk result (λ done. AddsTrue (standing manager.now) found.old found.new) }
 {
     find_answer(found, manager, patch)?;
     find_unknown(found, manager, patch)?;
-    let is_scripted = found.world == World::Each;
-    if is_scripted && manager.enabled(patch).is_none() && manager.moving().is_none() {
-        find_unjudged(found, manager, patch)?;
-    }
+    find_unjudged(found, manager, patch)?;
     Ok(())
 }
 
 /// Adds what is found about the parts of a patch, whatever the state is.
 fn find_parts(found: &mut Findings<'_>, patch: PatchId) -> Result<(), AllocError>
-    ensures { IfOk result (λ done. Grows found.old found.new) }
+    ensures { IfOk result (λ done. Adds (IsPartOf patch) found.old found.new) }
 {
     find_idle(found, patch)?;
     find_unpicked(found, patch)?;
     find_near(found, patch)?;
-    find_room(found, patch)?;
-    find_alike(found, patch)
+    let linted = found.linted;
+    found.add_some(room(&linted, patch))?;
+    found.add_some(alike(&linted, patch))?;
+    Ok(())
 }
 
 /// Judges each patch by itself. If the list makes the status 0, each patch leaves no trace, or is installed.
@@ -251,6 +331,7 @@ pub fn judge_alone(found: &mut Findings<'_>, manager: &Manager) -> Result<(), Al
         → VouchesBelow (setting_of manager.now.managed) manager.now.managed.state
         (length found.old.linted.patches.now) found.new) }
     ensures grows { IfOk result (λ done. Grows found.old found.new) }
+    ensures adds { IfOk result (λ done. AddsTrue (standing manager.now) found.old found.new) }
 {
     for number in 0..found.linted.patches.len() {
         let patch = patch_id(number);

@@ -1,3 +1,4 @@
 pub mod SaidLemmas
 pub mod SayLemmas
+pub mod ClaimLemmas
 pub mod MarkLemmas

@@ -1,9 +1,10 @@
--- What was found so far is kept.
-use Rattle.klp_lint_findings.specs.Sound.{Grows}
+-- What was found so far is added.
+use Rattle.klp_lint_findings.specs.Saying.{Adds}
+use Rattle.klp_lint_alone.specs.Judged.{IsPartOf}
 use Rattle.klp_lint_alone.proofs.idle.find_unpicked.Given as goal
 
 abbrev pub invariant-loop-function : goal.invariant-loop-function
-invariant-loop-function l = Grows l.fn.found l.found
+invariant-loop-function l = Adds (IsPartOf l.fn.patch) l.fn.found l.found
 
 abbrev pub invariant-loop-place : goal.invariant-loop-place
-invariant-loop-place l = Grows l.fn.found l.found
+invariant-loop-place l = Adds (IsPartOf l.fn.patch) l.fn.found l.found
