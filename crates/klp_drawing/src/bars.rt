@@ -1,5 +1,6 @@
 //! Bars, of which a drawing is made: what each patch and each task did over time.
 
+use crate::forces::Forces;
 use crate::look::{Look, look_of_patch, look_of_task};
 use crate::scale::Scale;
 use crate::turn::{Sign, sign_of};
@@ -58,8 +59,7 @@ pub struct Bars {
     pub(crate) differing: Vec<u64>,
     pub(crate) scale: Scale,
     lanes: Vec<Lane>,
-    /// Whether the transition under way was forced.
-    is_forced: bool,
+    forces: Forces,
     is_short: bool,
 }
 
@@ -106,7 +106,7 @@ impl Bars {
             differing: Vec::new(alloc),
             scale: Scale::new(alloc),
             lanes: Vec::new(alloc),
-            is_forced: false,
+            forces: Forces::new(alloc),
             is_short: false,
         }
     }
@@ -168,19 +168,32 @@ impl Bars {
         let Some(sign) = sign else {
             return false;
         };
-        // The transition counts as forced until its next mark.
-        self.is_forced = sign == Sign::Forced;
         self.is_short |= self.marks.push(Mark { line, sign }).is_err();
         true
+    }
+
+    /// Follows what a line did to the transition, after which the journal has this many events. Returns whether it did
+    /// anything. A rewind that only takes a force back, or brings one back, changes the transition, too.
+    fn turn(&mut self, line: u64, before: &View, moment: &Moment, events: u32) -> bool {
+        let was_forced = self.forces.is_forced();
+        let sign = sign_of(before, moment);
+        self.is_short |= self.forces.note(moment.act, sign, events).is_err();
+        let back = if was_forced != self.forces.is_forced() {
+            Some(Sign::Back)
+        } else {
+            None
+        };
+        self.mark(line, sign.or(back))
     }
 
     /// Gives each patch the look that it has after this line. `view` is the state after the line. Returns whether a
     /// look changed.
     fn update_patches(&mut self, line: u64, view: &View) -> bool {
         let mut is_changed = false;
+        let is_forced = self.forces.is_forced();
         for number in 0..MAX_PATCHES {
             let was_there = self.role(number) != Role::Absent;
-            let look = look_of_patch(view, PatchId(number as u8), self.is_forced, was_there);
+            let look = look_of_patch(view, PatchId(number as u8), is_forced, was_there);
             is_changed |= self.set_look(number, line, look);
         }
         is_changed
@@ -201,7 +214,7 @@ impl Bars {
     /// this for each line that did or undid an event, in order. No other line changes a bar.
     pub fn see(&mut self, line: u64, before: &View, moment: &Moment, manager: &Manager) {
         let view = &moment.view;
-        let mut is_changed = self.mark(line, sign_of(before, moment));
+        let mut is_changed = self.turn(line, before, moment, manager.mark());
         // The look of a patch depends on nothing else.
         if is_changed || before.installed.as_slice() != view.installed.as_slice() {
             is_changed |= self.update_patches(line, view);

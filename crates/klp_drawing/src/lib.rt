@@ -14,6 +14,7 @@
 mod axis;
 mod bars;
 mod drawing;
+mod forces;
 mod idle;
 mod lane;
 mod look;

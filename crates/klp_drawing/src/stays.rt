@@ -213,15 +213,15 @@ fn short_name(manager: &Manager, version: Version) -> &[u8] {
 /// PATCH`. Adds nothing for the original of a site that doesn't exist.
 fn add_plain_version(sheet: &mut Sheet, manager: &Manager, version: Version) {
     let name = Text(short_name(manager, version));
-    match version {
+    match &version {
         Version::Original(site) => {
-            if let Some((object, _, _)) = manager.modules().symbol(site) {
+            if let Some((object, _, _)) = manager.modules().symbol(*site) {
                 let object = Text(object_name(manager.modules(), object));
                 sheet.fill("{} of the object {}", &[name, object]);
             }
         }
         Version::New(patch, _) => {
-            let patch = Text(patch_name(manager.catalog(), patch));
+            let patch = Text(patch_name(manager.catalog(), *patch));
             sheet.fill("{} of the patch {}", &[name, patch]);
         }
     }
