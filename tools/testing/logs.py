@@ -104,8 +104,10 @@ def captured(name):
 
 
 def worked_out(name, status):
-    """The answer to a small log was worked out by hand, and its status."""
-    return fault(run(["klpsee", f"logs/{name}.log"]), (int(status), read(f"logs/{name}.output"), ""))
+    """The answer to a small log was worked out by hand, and its status. Of a faulty log it is what is told on standard error."""
+    stored = read(f"logs/{name}.output")
+    wanted = (FAULTY, b"", stored.decode()) if int(status) == FAULTY else (int(status), stored, "")
+    return fault(run(["klpsee", f"logs/{name}.log"]), wanted)
 
 
 def broken(text, words):

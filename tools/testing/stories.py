@@ -10,6 +10,7 @@ import html
 import os
 import re
 
+from testing import drawn
 from testing.run import EXAMPLES, read, run
 
 # What becomes of the tags within a line. All others are left out.
@@ -18,7 +19,6 @@ BETWEEN = (
     (r"<span class=seen>|<b class=held>|<b class=other>", ", "), (r"<br>", " "),
     (r"<li[^>]*>|<p[^>]*>|<ul[^>]*>|<ol[^>]*>|</ul>|</ol>", " / "),
 )
-DRAWING = re.compile(r"<h2>The run.*?(?=<h2>Line by line)", re.S)
 CARD = re.compile(r"<div class=(?:card|\"card[^\"]*\")>(.*?)</div>", re.S)
 ROW = re.compile(r"<(?:details|div) class=\"row[^\"]*\" id=line-\d+(?: open)?>")
 
@@ -41,7 +41,7 @@ def row_of(marked, has_cards):
 
 def said_by(page, has_cards):
     """The text of a page."""
-    body = DRAWING.sub("", page[page.index("<h1>"):])
+    body = drawn.DRAWING.sub("", page[page.index("<h1>"):])
     head, _, rows = body.partition("<h2>Line by line</h2>")
     lines = [line_of(it) for it in re.split(r"<li[^>]*>|</h1>|</h2>|<p [^>]*>|<h2>|</ul>", head)]
     rows = ROW.split(rows.rpartition("<p class=soft>")[0])[1:]
@@ -58,9 +58,17 @@ def story(name, catalog):
     told = [line for line in err.splitlines() if ": hint: " not in line]
     if status or told:
         return f"status {status}, {told}"
-    said = said_by(out.decode(), "\n  " in wanted)
-    differs = list(difflib.unified_diff(wanted.splitlines(), said.splitlines(), "wanted", "said", lineterm="", n=0))
-    return "\n".join(differs) or None
+    page, place = out.decode(), f"stories/{name}.drawn"
+    wrong = differs(wanted, said_by(page, "\n  " in wanted))
+    if not wrong and os.path.exists(f"{EXAMPLES}/{place}"):
+        wrong = differs(read(place).decode(), drawn.in_lines(page))
+    return wrong or drawn.faults(page, read(f"stories/{name}.{ending}").count(b"\n"))
+
+
+def differs(wanted, said):
+    """The lines in which two texts differ, or None."""
+    lines = difflib.unified_diff(wanted.splitlines(), said.splitlines(), "wanted", "said", lineterm="", n=0)
+    return "\n".join(lines) or None
 
 
 def index():
