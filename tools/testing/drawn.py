@@ -11,6 +11,7 @@ LANE = re.compile(r"<tr><th scope=row>(.*?)</th><td><svg[^>]*>(.*?)</svg></td></
 BAR = re.compile(r'<rect class=(coming|leaving|forced|enabled|gone|old|new|rest) x="(\d+)" y="\d+" width="(\d+)" height="(\d+)"')
 STAY = re.compile(r'<rect class=clear x="(\d+)" y="\d+" width="(\d+)"')
 TEXT = re.compile(r'<text class=(\w+) x="(\d+)" y="\d+">(.*?)</text>', re.S)
+IDLE = re.compile(r"<p class=idle>(.*?)</p>", re.S)
 # The width of a cut, of a letter, and of a line in a drawing with room for all lines, and the place of the first one.
 CUT, LETTER, LINE, LEFT = 12, 7, 40, 6
 # How many lines have room beside each other.
@@ -71,7 +72,7 @@ def faults(page, lines):
     drawing = DRAWING.search(page)[0]
     head, cuts, wrong = drawing.partition("<tbody>")[0], cuts_of(drawing), []
     wrong += [f"a link leads to {it}, which isn't there" for it in lost_links(page)]
-    if cuts and lines <= FITTING:
+    if cuts and lines <= FITTING and "Numbers are lines of the file" in drawing:
         wrong += [f"cut at {cuts}, though all {lines} lines have room"]
     signs = [span for kind, *span in texts_of(head) if kind == "sign"]
     wrong += [f"the signs at {it} cover each other" for it in overlapping(map(tuple, signs)) if it[0][0] != it[1][0]]
@@ -86,7 +87,7 @@ def faults(page, lines):
 
 def in_lines(page):
     """The bars of each row by lines, as NAME.drawn has them: a bar ends before the line that stands last. Bars of one kind
-    that touch look as one."""
+    that touch look as one. Behind the rows stands which tasks aren't drawn."""
     told = ""
     for name, drawn in lanes_of(DRAWING.search(page)[0]):
         bars = []
@@ -96,4 +97,4 @@ def in_lines(page):
             bars.append((kind, x, end))
         spelled = [f"{kind} {(x - LEFT) / LINE + 1:g}-{(end - LEFT) / LINE + 1:g}" for kind, x, end in bars]
         told += f"{name}: {', '.join(spelled)}\n"
-    return told
+    return told + "".join(f"{bare(it)}\n" for it in IDLE.findall(page))

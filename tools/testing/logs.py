@@ -89,7 +89,14 @@ def judged_anew(room, status):
         return f"modes {modes}"
     own, out, err = run(["klpwatch", *paths[:2]])
     is_same = own == status and out.startswith(b"honest " if own == 0 else b"line ")
-    return None if is_same else f"klpwatch: {own}, {out} and {err}"
+    return unnamed(*paths[1:3]) if is_same else f"klpwatch: {own}, {out} and {err}"
+
+
+def unnamed(trace, names):
+    """The tasks of a trace that have no name in the file beside it."""
+    with open(trace, encoding="utf-8") as run_of, open(names, encoding="utf-8") as named_in:
+        tasks, named = (set(re.findall(form, it.read(), re.M)) for form, it in ((r"\btask new (\d+)$", run_of), (r"^task (\d+) .", named_in)))
+    return f"tasks {sorted(tasks - named)} have no name" if tasks - named else None
 
 
 def captured(name):
