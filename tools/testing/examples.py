@@ -174,7 +174,10 @@ def in_words(told):
 def unsaid(told):
     """What an object has that its sentence doesn't say."""
     about = [*told.get("others", ()), str(told.get("state", "")), " ".join(map(str, told.get("key", ())))]
-    return [it for it in about if it not in told["sentence"]]
+    # what does nothing is a state's change, wherever it stands
+    objects = [told["object"]] if "object" in told and told["kind"] != "idle" else []
+    unnamed = [it for it in objects if not re.search(rf"\b{re.escape(it)}\b", told["sentence"])]
+    return [*(it for it in about if it not in told["sentence"]), *unnamed]
 
 
 # What stands before the other patches in the sentences of these kinds.
