@@ -117,6 +117,15 @@ def worked_out(name, status):
     return fault(run(["klpsee", f"logs/{name}.log"]), wanted)
 
 
+def counted(name):
+    """Each sample of a small log is shown, torn, or not reached."""
+    status, out, err = run(["klpsee", "--json", f"logs/{name}.log"])
+    counts = json.loads(out)["samples"]
+    count = len(SAMPLE.findall(read(f"logs/{name}.log").decode()))
+    is_well = (status, err, sum(counts.values())) == (0, "", count)
+    return None if is_well else f"status {status}, {counts} of {count} samples, {err}"
+
+
 def broken(text, words):
     """No kernel can have done what this log says, and klpsee names what."""
     status, out, err = seen(text)
@@ -525,6 +534,7 @@ def cases():
     made = [(f"captures/{it}.log", functools.partial(captured, it)) for it in names]
     rows = [it.split() for it in read("logs/index").decode().splitlines() if not it.startswith("#")]
     made += [(f"logs/{row[0]}.log", functools.partial(worked_out, *row)) for row in rows]
+    made += [(f"logs/{name}.log, --json", functools.partial(counted, name)) for name in ("torn", "forced")]
     made += [(f"captures/{it}.log, --json", functools.partial(said_for_programs, it)) for it in names]
     made += [(f"captures/{it}.log, cut off", functools.partial(cut_off, it)) for it in CUT]
     made += [(f"captures/{it}.log, some samples", functools.partial(subsets, it)) for it in names if it not in ("refused", "preflight")]
