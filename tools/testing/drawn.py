@@ -1,7 +1,7 @@
 """What holds of the drawing of each page, whatever run it shows.
 
 The drawing is read off the page: places are points from its left end. For small runs NAME.drawn has the bars of each row,
-worked out by hand: there each line of the run is 40 points wide, so a place is a line.
+worked out by hand. Where nothing is cut out and all lines have room, each is 40 points wide: there a place is a line.
 """
 import html
 import re
@@ -9,7 +9,7 @@ import re
 DRAWING = re.compile(r"<h2>The run.*?(?=<h2>Line by line)", re.S)
 LANE = re.compile(r"<tr><th scope=row>(.*?)</th><td><svg[^>]*>(.*?)</svg></td></tr>", re.S)
 BAR = re.compile(r'<rect class=(coming|leaving|forced|enabled|gone|old|new|rest) x="(\d+)" y="\d+" width="(\d+)" height="(\d+)"')
-STAY = re.compile(r'<rect class=clear x="(\d+)" y="\d+" width="(\d+)"')
+STAY = re.compile(r'<title>([^<]*)</title><rect class=clear x="(\d+)" y="\d+" width="(\d+)"')
 TEXT = re.compile(r'<text class=(\w+) x="(\d+)" y="\d+">(.*?)</text>', re.S)
 IDLE = re.compile(r"<p class=idle>(.*?)</p>", re.S)
 # The width of a cut, of a letter, and of a line in a drawing with room for all lines, and the place of the first one.
@@ -34,10 +34,15 @@ def bars_of(drawn, is_task):
     found = []
     for kind, *numbers in BAR.findall(drawn):
         x, width, height = map(int, numbers)
-        border = 1 if kind in ("coming", "leaving", "forced", "rest") and width > 2 else 0
+        border = 1 if height in (4, 12, 18) else 0
         mode = {6: " user", 14: " asleep", 20: " kernel"}[height + 2 * border] if is_task else ""
         found.append((kind + mode, x - border, x + width + border))
     return found
+
+
+def stays_of(drawn):
+    """The stays of a row: from where and to where, and what is said of them."""
+    return [(int(x), int(x) + int(width), html.unescape(words)) for words, x, width in STAY.findall(drawn)]
 
 
 def texts_of(drawn):
@@ -67,34 +72,50 @@ def crossed(cuts, texts):
     return [(x, end) for _, x, end in texts for cut in cuts if x < cut + CUT and cut < end]
 
 
+def marks_of(head):
+    """The places of the marks."""
+    return [int(x) for x in re.findall(r"M(\d+) 0v26", head.partition("<g id=marks>")[2].partition("</g>")[0])]
+
+
+def is_by_lines(drawing):
+    """Whether lines are drawn side by side, and not at their times."""
+    return "Numbers are lines of the file" in drawing
+
+
 def faults(page, lines):
     """What is wrong with the drawing of a run of so many lines, in words, or None."""
     drawing = DRAWING.search(page)[0]
     head, cuts, wrong = drawing.partition("<tbody>")[0], cuts_of(drawing), []
     wrong += [f"a link leads to {it}, which isn't there" for it in lost_links(page)]
-    if cuts and lines <= FITTING and "Numbers are lines of the file" in drawing:
+    if cuts and lines <= FITTING and is_by_lines(drawing):
         wrong += [f"cut at {cuts}, though all {lines} lines have room"]
     signs = [span for kind, *span in texts_of(head) if kind == "sign"]
     wrong += [f"the signs at {it} cover each other" for it in overlapping(map(tuple, signs)) if it[0][0] != it[1][0]]
-    marks = [int(x) for x in re.findall(r"M(\d+) 0v26", head)]
-    wrong += [f"the mark at {x} is on a cut" for x in marks for cut in cuts if cut <= x < cut + CUT]
+    wrong += [f"the mark at {x} is on a cut" for x in marks_of(head) for cut in cuts if cut <= x < cut + CUT]
     for name, drawn in lanes_of(drawing):
         wrong += [f"{name}: the words at {it} are on a cut" for it in crossed(cuts, texts_of(drawn))]
-        stays = [(int(x), int(x) + int(width)) for x, width in STAY.findall(drawn)]
-        wrong += [f"{name}: the stays at {it} overlap" for it in overlapping(stays)]
+        wrong += [f"{name}: the stays at {it} overlap" for it in overlapping((x, end) for x, end, _ in stays_of(drawn))]
     return "; ".join(wrong) or None
 
 
-def in_lines(page):
-    """The bars of each row by lines, as NAME.drawn has them: a bar ends before the line that stands last. Bars of one kind
-    that touch look as one. Behind the rows stands which tasks aren't drawn."""
-    told = ""
-    for name, drawn in lanes_of(DRAWING.search(page)[0]):
+def in_words(page):
+    """What NAME.drawn has: the bars of each row, and its stays, where the drawing is cut, where the kernel differs, and which
+    tasks aren't drawn. A bar ends before the line that stands last. Bars of one kind that touch look as one."""
+    drawing = DRAWING.search(page)[0]
+    cuts, differing = cuts_of(drawing), re.findall(r"M(\d+) 0v26", drawing.partition("<g id=differing>")[2].partition("</g>")[0])
+    are_lines = is_by_lines(drawing) and not cuts
+
+    def place(x):
+        return f"{(x - LEFT) / LINE + 1:g}" if are_lines else f"{x}"
+
+    told = []
+    for name, drawn in lanes_of(drawing):
         bars = []
         for kind, x, end in bars_of(drawn, name.startswith("task ")):
             if bars and bars[-1][0] == kind and bars[-1][2] == x:
                 x = bars.pop()[1]
             bars.append((kind, x, end))
-        spelled = [f"{kind} {(x - LEFT) / LINE + 1:g}-{(end - LEFT) / LINE + 1:g}" for kind, x, end in bars]
-        told += f"{name}: {', '.join(spelled)}\n"
-    return told + "".join(f"{bare(it)}\n" for it in IDLE.findall(page))
+        told.append(f"{name}: " + ", ".join(f"{kind} {place(x)}-{place(end)}" for kind, x, end in bars))
+        told += [f"  {place(x)}-{place(end)}: {words}" for x, end, words in stays_of(drawn)]
+    told += [f"cut at {x}" for x in cuts] + [f"differs at {place(int(x))}" for x in differing]
+    return "\n".join([*told, *map(bare, IDLE.findall(page)), ""])

@@ -61,7 +61,7 @@ def story(name, catalog):
     page, place = out.decode(), f"stories/{name}.drawn"
     wrong = differs(wanted, said_by(page, "\n  " in wanted))
     if not wrong and os.path.exists(f"{EXAMPLES}/{place}"):
-        wrong = differs(read(place).decode(), drawn.in_lines(page))
+        wrong = differs(read(place).decode(), drawn.in_words(page))
     return wrong or drawn.faults(page, read(f"stories/{name}.{ending}").count(b"\n"))
 
 
