@@ -6,6 +6,9 @@ klpwatch, klppage, klplint and klpsee. It is caught by an example that comes to 
 that a clause refuses, or that is allowed with a reason, needs no example: it runs over forty of them at most. It prints
 for each crate how many were tried, how many a clause refuses, how many are caught, and each that is neither. Of one that
 is allowed it tells where an example catches it.
+
+An example that a wrong body names is tried first. With NOTE=1 in the environment each gets the name of the one that
+caught it.
 """
 import functools
 import os
@@ -23,7 +26,7 @@ sys.path.insert(0, os.path.dirname(os.path.dirname(os.path.abspath(__file__))))
 
 from testing import examples, logs, stories
 from testing.run import EXAMPLES, PROGRAMS, TOP, finish, start
-from testing.woven import CHOSEN, Faulty, is_given, read_plants, selector, woven
+from testing.woven import CHOSEN, Faulty, is_given, noted, read_plants, selector, woven
 
 PLANTS = f"{TOP}/tools/plants"
 # The variable by which the compiled copy knows which wrong body it has.
@@ -154,7 +157,8 @@ def needs_none(it):
 
 
 def judged(plants, runner):
-    """For each plant the example that catches it. Examples that caught others of its crate are tried first."""
+    """For each plant the example that catches it. The one that it names is tried first, and then those that caught others of
+    its crate."""
     cases, programs, catches = stored_cases(), programs_of(), defaultdict(Counter)
 
     def stored(program):
@@ -165,7 +169,7 @@ def judged(plants, runner):
     def attempt(row):
         number, it = row
         own = [case for name in cases if name in programs[it.crate] for case in cases[name]]
-        own.sort(key=lambda case: -catches[it.crate][case[0]])
+        own.sort(key=lambda case: (case[0] != it.by, -catches[it.crate][case[0]]))
         example = catching(runner, own[:FEW] if needs_none(it) else own, number)
         if example:
             catches[it.crate][example[0]] += 1
@@ -213,6 +217,15 @@ def told(plants, caught):
     return is_well
 
 
+def note_all(by):
+    """Has each plant name the example that caught it, by crate and name."""
+    for crate in {crate for crate, _ in by}:
+        with open(f"{PLANTS}/{crate}", encoding="utf-8") as it:
+            text = it.read()
+        with open(f"{PLANTS}/{crate}", "w", encoding="utf-8") as it:
+            it.write(noted(crate, text, by))
+
+
 def main(crates):
     plants = all_plants(crates)
     with tempfile.TemporaryDirectory(prefix="plants-") as room:
@@ -224,7 +237,10 @@ def main(crates):
         runner = Runner(compiled(room))
         examples.run = logs.run = stories.run = runner
         begun = time.monotonic()
-        is_well = told(plants, judged(plants, runner))
+        caught = judged(plants, runner)
+        is_well = told(plants, caught)
+        if os.environ.get("NOTE"):
+            note_all({(it.crate, it.name): example[0] for (_, it), example in zip(plants, caught) if example})
         print(f"plants: {time.monotonic() - begun:.0f} s besides the compile")
     return 0 if is_well else 1
 

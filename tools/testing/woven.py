@@ -8,6 +8,7 @@ A file of tools/plants is named as the crate that its wrong bodies are of. Each 
     - a line of the function
     + the line that is there in the wrong body
     allowed WHY, if no example has to catch it
+    by EXAMPLE, which is tried first
 
 Lines `-` that follow each other stand so in the function, once, whatever is before each of them. More pairs may follow,
 and more functions. Lines between blocks that begin with # are comments.
@@ -20,7 +21,7 @@ CHOSEN = "klp_chosen"
 HEAD = re.compile(r"^( *)(?:pub(?:\([^)]*\))? )?(?:unsafe )?fn (\w+)", re.M)
 
 # A wrong body: its edits are by file and function, each a list of pairs of texts.
-Plant = collections.namedtuple("Plant", "crate name why edits allowed")
+Plant = collections.namedtuple("Plant", "crate name why edits allowed by")
 
 
 class Faulty(Exception):
@@ -38,7 +39,7 @@ def read_plants(crate, text):
 
 def plant(crate, name, lines):
     """The plant of these lines."""
-    words, edits, place = {"why": None, "allowed": None}, {}, None
+    words, edits, place = {"why": None, "allowed": None, "by": None}, {}, None
     for line in filter(None, lines):
         word, _, rest = line.partition(" ")
         if word in words:
@@ -57,7 +58,18 @@ def plant(crate, name, lines):
             raise Faulty(f"{crate}/{name}: no line of a plant begins so: {line}")
     if not words["why"] or not edits or not all(edits.values()):
         raise Faulty(f"{crate}/{name}: why it is wrong, or what is put in, is missing")
-    return Plant(crate, name, words["why"], edits, words["allowed"])
+    return Plant(crate, name, words["why"], edits, words["allowed"], words["by"])
+
+
+def noted(crate, text, by):
+    """The file of a crate's plants in which these, by their names, say which example is tried first."""
+    blocks = re.split(r"^(?=plant )", text, flags=re.M)
+    for place, block in enumerate(blocks):
+        example = by.get((crate, block.partition("\n")[0].removeprefix("plant ")))
+        if example:
+            block = re.sub(r"^by .*\n", "", block, flags=re.M)
+            blocks[place] = re.sub(r"^(why .*\n)", lambda it, own=example: f"{it[1]}by {own}\n", block, count=1, flags=re.M)
+    return "".join(blocks)
 
 
 # A clause that gives what a function returns or writes.
