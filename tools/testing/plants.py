@@ -133,9 +133,9 @@ def stored_cases():
 
 
 def size_of(case):
-    """How large an example is, as far as its file tells."""
+    """How large an example is, by its file. One without a file stands behind all others."""
     path = f"{EXAMPLES}/{case[0].partition(',')[0]}"
-    return os.path.getsize(path) if os.path.exists(path) else 0
+    return os.path.getsize(path) if os.path.exists(path) else sys.maxsize
 
 
 def catching(runner, cases, number):
