@@ -3,7 +3,7 @@
 The wrong bodies of tools/plants, or those of these crates, are put into a copy of the sources, each behind a number.
 The copy is compiled once, unproved. Then each wrong body runs over the stored examples of the programs that have it:
 klpwatch, klppage, klplint and klpsee. It is caught by an example that comes to something else than what is stored. One
-that a clause refuses, or that is allowed with a reason, needs no example: it runs over forty of them at most. It prints
+that a clause refuses, or that is allowed with a reason, needs no example: it runs over twenty of them at most. It prints
 for each crate how many were tried, how many a clause refuses, how many are caught, and each that is neither. Of one that
 is allowed it tells where an example catches it.
 
@@ -32,7 +32,7 @@ PLANTS = f"{TOP}/tools/plants"
 # The variable by which the compiled copy knows which wrong body it has.
 VARIABLE = "PLANT"
 # How many examples are tried of a wrong body that needs none.
-FEW = 40
+FEW = 20
 # Where the logs stand whose answers are stored.
 STORED = ("captures/", "logs/")
 
@@ -161,10 +161,10 @@ def judged(plants, runner):
     its crate."""
     cases, programs, catches = stored_cases(), programs_of(), defaultdict(Counter)
 
-    def stored(program):
-        wrong = catching(runner, cases[program], 0)
+    def stored(case):
+        wrong = catching(runner, [case], 0)
         if wrong:
-            sys.exit(f"plant: without a wrong body {program} comes to something else than what is stored: {wrong}")
+            sys.exit(f"plant: without a wrong body a program comes to something else than what is stored: {wrong}")
 
     def attempt(row):
         number, it = row
@@ -176,7 +176,7 @@ def judged(plants, runner):
         return example
 
     with ThreadPoolExecutor(os.cpu_count()) as pool:
-        list(pool.map(stored, cases))
+        list(pool.map(stored, [case for own in cases.values() for case in own]))
         return list(pool.map(attempt, plants))
 
 
