@@ -49,7 +49,6 @@ fn asleep_since(sleeps: &[HoldingSleep], moved: &SeenTransition, number: usize) 
 }
 
 /// Adds a sleep that is over.
-#[tactic(auto, using(crate::proofs::HoldingLemmas::still_held_append))]
 fn add_past(
     alloc: Global,
     capture: &Capture<'_>,
@@ -125,7 +124,6 @@ fn add_all_past(
 }
 
 /// Adds a task that holds the transition up still, if the run has it. Those that the log only counts aren't in the run.
-#[tactic(auto, using(crate::proofs::HoldingLemmas::still_held_append))]
 fn add_still(
     alloc: Global,
     capture: &Capture<'_>,
