@@ -400,6 +400,9 @@ CUT = {
 # Livepatches of which too much must stay.
 UNCUT = {
     "9 objects with callbacks": (of_patch("a", 0, too_many(9, "objects", 8)), [Livepatch(b"a", modules_of(9, range(9)))]),
+    "65 functions that other patches change": (of_patch("a", 0, too_many(66, "functions", 64)), [
+        Livepatch(b"a", [Object(None, FUNCTIONS[:66])]), Livepatch(b"b", [Object(None, FUNCTIONS[:40])]),
+        Livepatch(b"c", [Object(None, [Function(it.name, b"new", 1) for it in FUNCTIONS[40:65]])])]),
     "17 states": TOO_MANY["17 states"], "17 patches": TOO_MANY["17 patches"],
 }
 # Names that no catalog can have, and symbols that aren't a kernel's, each with the reason. `s` stands for the file of symbols.

@@ -1,12 +1,13 @@
 //! Whether a patch is another one, with some of it left out.
 ghost use Rattle.std.specs.Prelude.{◌≡◌, ◌+◌, ◌==◌, ◌≤◌, ◌^◌, true, MatchOption};
+ghost use Rattle.std.specs.List.{list_any};
 ghost use Rattle.klp_module_fit.specs.Fit.{function_count};
 ghost use Rattle.klp_module_cut.specs.Cut.{are_among, are_parts_of, are_same_callbacks, are_same_states, counts_left_out, has_callbacks};
-ghost use Rattle.klp_module_cut.specs.Cut.{is_cut_of, is_part_of, is_same_function, is_same_replacing, is_same_state};
+ghost use Rattle.klp_module_cut.specs.Cut.{is_cut_of, is_part_of, is_same_function, is_same_replacing, is_same_state, is_shared, must_stay};
 
 use klp_module_fit::NamedPatch;
-use klp_module_matrix::name_of_row;
-use klp_tables::{Callbacks, Function, Object, Replaces, State};
+use klp_module_matrix::{Changed, is_changed_too, name_of_row};
+use klp_tables::{Callbacks, Function, Object, ObjectRow, Replaces, State};
 
 fn is_same_replacing(one: Replaces, other: Replaces) -> bool
     ensures { result ≡ is_same_replacing one other }
@@ -55,37 +56,79 @@ fn are_same_callbacks(one: Callbacks, other: Callbacks) -> bool
 }
 
 /// Whether an object has one of the four callbacks.
-pub(crate) fn has_callbacks(callbacks: Callbacks) -> bool
+fn has_callbacks(callbacks: Callbacks) -> bool
     ensures { result ≡ has_callbacks callbacks }
 {
     callbacks.pre_patch || callbacks.post_patch || callbacks.pre_unpatch || callbacks.post_unpatch
 }
 
-/// Whether some functions are among others, in their order.
-fn are_among(kept: &[Function<'_>], all: &[Function<'_>]) -> bool
-    ensures { result ≡ are_among kept.now all.now }
+/// Whether one of these changes is of the function of an object, too.
+pub(crate) fn is_shared(
+    others: &[Changed<'_>],
+    row: &ObjectRow<'_>,
+    function: &Function<'_>,
+) -> bool
+    ensures { result ≡ is_shared others.now row.now function.now }
 {
-    match kept {
-        [] => true,
-        [one, rest @ ..] => match all {
-            [] => false,
-            [other, behind @ ..] if is_same_function(one, other) => are_among(rest, behind),
-            [_, behind @ ..] => are_among(kept, behind),
+    let changed = Changed {
+        object: row.name,
+        name: function.old_name,
+        position: function.position,
+    };
+    is_changed_too(others, &changed)
+}
+
+/// Whether some functions of an object are among others, in their order, and each one that others change too is there.
+fn are_among(
+    others: &[Changed<'_>],
+    row: &ObjectRow<'_>,
+    kept: &[Function<'_>],
+    all: &[Function<'_>],
+) -> bool
+    ensures { result ≡ are_among others.now row.now kept.now all.now }
+{
+    match all {
+        [] => match kept {
+            [] => true,
+            _ => false,
+        },
+        [other, behind @ ..] => match kept {
+            [one, rest @ ..] if is_same_function(one, other) => are_among(
+                others, row, rest, behind,
+            ),
+            _ => !is_shared(others, row, other) && are_among(others, row, kept, behind),
         },
     }
 }
 
-fn is_part_of(part: &Object<'_>, whole: &Object<'_>) -> bool
-    ensures { result ≡ is_part_of part.now whole.now }
+fn is_part_of(others: &[Changed<'_>], part: &Object<'_>, whole: &Object<'_>) -> bool
+    ensures { result ≡ is_part_of others.now part.now whole.now }
 {
     name_of_row(&part.row) == name_of_row(&whole.row)
         && are_same_callbacks(part.row.callbacks, whole.row.callbacks)
-        && are_among(&part.functions, &whole.functions)
+        && are_among(others, &whole.row, &part.functions, &whole.functions)
 }
 
-/// Whether some objects are parts of others, in their order, and each one with callbacks is there.
-fn are_parts_of(parts: &[Object<'_>], wholes: &[Object<'_>]) -> bool
-    ensures { result ≡ are_parts_of parts.now wholes.now }
+/// Whether an object has a function that others change too.
+fn has_shared(others: &[Changed<'_>], object: &Object<'_>) -> bool
+    ensures { result ≡ list_any (is_shared others.now object.now.row) object.now.functions.items }
+{
+    object
+        .functions
+        .iter()
+        .any(|function| is_shared(others, &object.row, function))
+}
+
+/// Whether an object has callbacks, or a function that others change too.
+pub(crate) fn must_stay(others: &[Changed<'_>], object: &Object<'_>) -> bool
+    ensures { result ≡ must_stay others.now object.now }
+{
+    has_callbacks(object.row.callbacks) || has_shared(others, object)
+}
+
+/// Whether some objects are parts of others, in their order, and each one that must stay is there.
+fn are_parts_of(others: &[Changed<'_>], parts: &[Object<'_>], wholes: &[Object<'_>]) -> bool
+    ensures { result ≡ are_parts_of others.now parts.now wholes.now }
 {
     match wholes {
         [] => match parts {
@@ -93,8 +136,10 @@ fn are_parts_of(parts: &[Object<'_>], wholes: &[Object<'_>]) -> bool
             _ => false,
         },
         [whole, behind @ ..] => match parts {
-            [part, rest @ ..] if is_part_of(part, whole) => are_parts_of(rest, behind),
-            _ => !has_callbacks(whole.row.callbacks) && are_parts_of(parts, behind),
+            [part, rest @ ..] if is_part_of(others, part, whole) => {
+                are_parts_of(others, rest, behind)
+            }
+            _ => !must_stay(others, whole) && are_parts_of(others, parts, behind),
         },
     }
 }
@@ -129,13 +174,18 @@ fn counts_left_out(cut: &NamedPatch<'_, '_>, wholes: &[Object<'_>]) -> bool
 }
 
 /// Whether a patch is another one, without some of its functions and without some of its objects that have no callbacks,
-/// and says how many are left out. False also if one of them has more functions than a `usize` counts.
-pub fn is_cut_of(cut: &NamedPatch<'_, '_>, whole: &NamedPatch<'_, '_>) -> bool
-    ensures { result ≡ true → is_cut_of cut.now whole.now ≡ true }
+/// and says how many are left out. `others` are the functions that other patches change: none of these is left out. False
+/// also if one of the patches has more functions than a `usize` counts.
+pub fn is_cut_of(
+    others: &[Changed<'_>],
+    cut: &NamedPatch<'_, '_>,
+    whole: &NamedPatch<'_, '_>,
+) -> bool
+    ensures { result ≡ true → is_cut_of others.now cut.now whole.now ≡ true }
 {
     cut.name == whole.name
         && is_same_replacing(cut.patch.replaces, whole.patch.replaces)
         && are_same_states(&cut.patch.states, &whole.patch.states)
-        && are_parts_of(&cut.patch.objects, &whole.patch.objects)
+        && are_parts_of(others, &cut.patch.objects, &whole.patch.objects)
         && counts_left_out(cut, &whole.patch.objects)
 }

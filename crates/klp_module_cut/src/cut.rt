@@ -2,15 +2,17 @@
 use crate::check::count_functions;
 use crate::choice::Choice;
 use klp_module_fit::{LeftOut, NamedPatch};
+use klp_module_matrix::{Changed, append_changed};
 use klp_tables::{Object, Patch};
 use std::alloc::{AllocError, Global};
 
 /// How much of a patch may stay.
 #[derive(Clone, Copy)]
 pub struct CutRoom {
-    /// At most so many functions stay.
+    /// At most so many functions stay, or those that another patch changes too if there are more of them.
     pub functions: usize,
-    /// At most so many objects stay, or those with callbacks if there are more of them.
+    /// At most so many objects stay, or those that must if there are more of them: with callbacks, or with a function that
+    /// another patch changes too.
     pub objects: usize,
 }
 
@@ -34,10 +36,10 @@ impl<'p, 'a> Cut<'p, 'a> {
 }
 
 /// Returns an object with those of its functions that stay.
-fn part_of<'p, 'a>(
+fn part_of<'c, 'a>(
     alloc: Global,
     object: &Object<'a>,
-    choice: &mut Choice<'p, 'a>,
+    choice: &mut Choice<'c, 'a>,
 ) -> Result<Object<'a>, AllocError> {
     let mut functions = Vec::new(alloc);
     for function in &object.functions {
@@ -61,23 +63,34 @@ fn left_out(objects: &[Object<'_>], parts: &[Object<'_>]) -> LeftOut {
     }
 }
 
-/// Returns a patch of these, by its number from 0, without what there is no room for. Objects with callbacks stay, then
-/// those with a function that another one of the patches changes too, then the others; and such functions stay before
-/// others. Each time the first ones of the tables stay. System states stay.
+/// Returns all functions that patches other than the one of this number change. Numbers count from 0.
+pub fn changed_by_others<'a>(
+    alloc: Global,
+    patches: &[NamedPatch<'_, 'a>],
+    number: usize,
+) -> Result<Vec<Changed<'a>>, AllocError> {
+    let mut changed = Vec::new(alloc);
+    for (other, named) in patches.iter().enumerate() {
+        if other != number {
+            append_changed(&mut changed, &named.patch.objects)?;
+        }
+    }
+    Ok(changed)
+}
+
+/// Returns a patch without what there is no room for. `others` are the functions that other patches change. These stay, as
+/// callbacks and system states do; of other functions and objects the first ones of the tables stay.
 ///
-/// Returns `None` if there is no such patch, and `Err` if memory runs out. The cost is a step for each function of this
-/// patch with each function of the others. [`is_cut_of`](crate::is_cut_of) decides whether the result is a cut.
+/// Returns `Err` if memory runs out. The cost is a step for each function of this patch with each one of the others.
+/// [`is_cut_of`](crate::is_cut_of) decides whether the result is a cut.
 pub fn cut_patch<'p, 'a>(
     alloc: Global,
-    patches: &[NamedPatch<'p, 'a>],
-    number: usize,
+    others: &[Changed<'a>],
+    named: &NamedPatch<'p, 'a>,
     room: CutRoom,
-) -> Result<Option<Cut<'p, 'a>>, AllocError> {
-    let Some(named) = patches.get(number) else {
-        return Ok(None);
-    };
+) -> Result<Cut<'p, 'a>, AllocError> {
     let whole = named.patch;
-    let mut choice = Choice::new(alloc, patches, number, &whole.objects, room)?;
+    let mut choice = Choice::new(alloc, others, &whole.objects, room)?;
     let mut objects = Vec::new(alloc);
     for (place, object) in whole.objects.iter().enumerate() {
         if choice.has_object(place) {
@@ -89,7 +102,7 @@ pub fn cut_patch<'p, 'a>(
         states.push(*state)?;
     }
     let left_out = left_out(&whole.objects, &objects);
-    Ok(Some(Cut {
+    Ok(Cut {
         name: named.name,
         patch: Patch {
             objects,
@@ -97,5 +110,5 @@ pub fn cut_patch<'p, 'a>(
             replaces: whole.replaces,
         },
         left_out,
-    }))
+    })
 }

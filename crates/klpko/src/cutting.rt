@@ -1,7 +1,7 @@
 //! Leaves out of livepatches what a catalog has no room for.
 use crate::{NoCatalog, whole_draft};
 use klp_module_catalog::{CatalogFault, Draft, NamedPatch};
-use klp_module_cut::{Cut, CutRoom, cut_patch, is_cut_of};
+use klp_module_cut::{Cut, CutRoom, changed_by_others, cut_patch, is_cut_of};
 use klp_module_symbols::KernelRow;
 use klp_types::{MAX_FUNCTIONS, MAX_TARGETS};
 use std::alloc::Global;
@@ -14,10 +14,9 @@ fn cut_all<'p, 'a>(
 ) -> Result<Vec<Cut<'p, 'a>>, NoCatalog> {
     let mut cuts = Vec::new(alloc);
     for (number, whole) in patches.iter().enumerate() {
-        let Some(cut) = cut_patch(alloc, patches, number, room)? else {
-            return Err(NoCatalog::Otherwise);
-        };
-        if !is_cut_of(&cut.named(), whole) {
+        let others = changed_by_others(alloc, patches, number)?;
+        let cut = cut_patch(alloc, &others, whole, room)?;
+        if !is_cut_of(&others, &cut.named(), whole) {
             return Err(NoCatalog::Otherwise);
         }
         if cuts.push(cut).is_err() {
@@ -62,7 +61,8 @@ fn less_room(room: CutRoom, fault: CatalogFault) -> Option<CutRoom> {
 }
 
 /// Returns a catalog of the patches without what it has no room for. Each patch has the same room: as many functions and
-/// objects as a catalog has room for of one patch, or fewer if it has no room for all patches together.
+/// objects as a catalog has room for of one patch, or fewer if it has no room for all patches together. What must stay stays
+/// even if there is no room: then no catalog is made.
 pub(crate) fn cut_draft(
     alloc: Global,
     rows: &[KernelRow<'_>],
