@@ -72,7 +72,8 @@ pub(crate) fn cut_draft(
         functions: MAX_FUNCTIONS,
         objects: MAX_TARGETS,
     };
-    loop {
+    // Each step leaves less room, so there aren't more of them.
+    for _ in 0..MAX_FUNCTIONS + MAX_TARGETS {
         let fault = match draft_in(alloc, rows, patches, room) {
             Err(NoCatalog::Refused(fault)) => fault,
             other => return other,
@@ -82,4 +83,5 @@ pub(crate) fn cut_draft(
             None => return Err(NoCatalog::Refused(fault)),
         }
     }
+    draft_in(alloc, rows, patches, room)
 }
