@@ -815,7 +815,7 @@ def at_terminal(shell):
         place = f"klpcap: the log is in {log}; read it with: klpsee {log}"
         return differs(
             (process.returncode, 0), (unheard[0], (0, b"", "")), (unheard[1].endswith("end count\n"), True), (without, unheard),
-            (full, (1, b"", "")), (heard, [f"klpcap: {STARTS}", f"klpcap: at TIME billing[91] {ASLEEP}", place]),
+            (full, (1, b"", "")), (heard, [f"klpcap: {STARTS}", f"klpcap: at TIME billing[91] {ASLEEP}", READS, place]),
         )
 
 
@@ -830,7 +830,7 @@ def stopped_at_terminal(shell):
         process.send_signal(signal.SIGINT)
         process.communicate(timeout=SECONDS)
         return differs(
-            (said(), ["klpcap: waits for a transition; Ctrl-C ends it", f"klpcap: the log is in {log}; read it with: klpsee {log}"]),
+            (said(), ["klpcap: waits for a transition; Ctrl-C ends it", READS, f"klpcap: the log is in {log}; read it with: klpsee {log}"]),
             (read_whole(log).endswith(b"\nend stopped\n"), True),
         )
 
@@ -853,9 +853,9 @@ def unnamed(shell):
             redirected = told(stdout=file, stderr=None)
         kept = read_whole(log)
         return differs(
-            (told(stdout=None, stderr=None), (0, [none, *spoken])), (told(log, stdout=None, stderr=None), (0, [*spoken, place])),
-            (read_whole(log), kept), (redirected, (0, [*spoken, place])), (kept.endswith(b"\nend count\n"), True),
-            (told(stdout=subprocess.DEVNULL, stderr=None), (0, spoken)),
+            (told(stdout=None, stderr=None), (0, [none, *spoken])), (told(log, stdout=None, stderr=None), (0, [*spoken, READS, place])),
+            (read_whole(log), kept), (redirected, (0, [*spoken, READS, place])), (kept.endswith(b"\nend count\n"), True),
+            (told(stdout=subprocess.DEVNULL, stderr=None), (0, [*spoken, READS])),
             (told(stdout=None, stderr=subprocess.DEVNULL), (0, kept.decode().splitlines())),
         )
 
@@ -918,6 +918,11 @@ def fewer(it):
     it.end(500, 501)
 
 
+def logged_lines(lines, it):
+    """The kernel's log has these lines."""
+    it.put("dmesg", "".join(f"[    {line}\n" for line in lines))
+
+
 def unlink(*names):
     """Takes files of the machine away."""
     return lambda it: [os.remove(f"{it.root}/proc/self/{name}") for name in names]
@@ -929,6 +934,7 @@ def both(*acts):
 
 
 ASLEEP = "asleep (S) in eventfd_read"
+READS = "klpcap: reads the functions' addresses for the log"
 STARTS, STARTED = (f"eventfd_fix is in transition: enabling since TIME{it}" for it in (" or before", ""))
 HELD = f"nginx[500], 3 threads {ASLEEP}; indexer[91] asleep (D) in eventfd_read; 1 lag elsewhere"
 # What is said at a terminal: the name of the test, the options, what the machine is at first, the time of each further sample
@@ -954,6 +960,16 @@ SPOKEN = (
     (
         "another patch", (), lambda it: it.task(91), ((22.0, next_patch),),
         (STARTS, f"at TIME billing[91] {ASLEEP}", "other is in transition: enabling since TIME", f"at TIME billing[91] {ASLEEP}"),
+    ),
+    *(
+        (f"a start by the kernel's log, {name}", (), both(lambda it: it.task(91), functools.partial(logged_lines, lines)), (), (STARTS + since, f"at TIME billing[91] {ASLEEP}"))
+        for name, lines, since in (
+            ("seven seconds ago", ("3.50] livepatch: 'eventfd_fix': starting patching transition",), "; by the kernel's log for some 7 s"),
+            ("and its reversal", ("1.50][    T7] livepatch: 'eventfd_fix': starting unpatching transition", "7.25] livepatch: 'eventfd_fix': reversing transition from unpatching to patching"), "; by the kernel's log for some 3 s"),
+            ("just now", ("9.99] livepatch: 'eventfd_fix': starting patching transition",), ""),
+            ("of another patch", ("3.50] livepatch: 'eventfd_fix2': starting patching transition",), ""),
+            ("which is complete", ("3.50] livepatch: 'eventfd_fix': starting patching transition", "4.50] livepatch: 'eventfd_fix': completing patching transition"), ""),
+        )
     ),
     ("nobody", (), lambda it: it.task(91, state=1), (), (STARTS, "at TIME no task that it can see lags")),
     ("one that runs", (), lambda it: it.task(91, letter="R"), (), (STARTS, "at TIME billing[91] runs in eventfd_read")),
@@ -1006,7 +1022,7 @@ def spoken(options, first, changes, lines, shell):
         samples(shell, it, [functools.partial(change, *step) for step in changes], *options, stderr=device)
         made = [path for path, _, names in os.walk(it.root) for name in names if name == "made"]
         wanted = [f"klpcap: {line.replace('ROOT', it.root)}" for line in lines]
-        return differs((said(), wanted), (made + [name for name in os.listdir(EXAMPLES) if name == "made"], []))
+        return differs((said(), [*wanted, READS]), (made + [name for name in os.listdir(EXAMPLES) if name == "made"], []))
 
 
 def waiting(shell):
@@ -1024,7 +1040,7 @@ def waiting(shell):
             os.kill(sleeper, signal.SIGPIPE)
         out = process.communicate(timeout=SECONDS)[0]
         wanted = ("waits for a transition; Ctrl-C ends it", STARTED, "at TIME no task that it can see lags", "at TIME eventfd_fix is no longer in transition")
-        return differs((said(), [f"klpcap: {line}" for line in wanted]), (out.endswith(b"\nend over\n"), True))
+        return differs((said(), [*(f"klpcap: {line}" for line in wanted), READS]), (out.endswith(b"\nend over\n"), True))
 
 
 def unreadable(shell):

@@ -31,9 +31,9 @@ TIME = r"(?:\S+ GMT \()?([\d.]+) s\)?"
 HELD = re.compile(rf"^  .*\[(\d+)\].* held it up, asleep in (\S+), (?:from|at) {TIME}(?: to {TIME}| \(seen once\))$", re.M)
 # How the answers end that have nothing to refuse: by status.
 WHOLE = {
-    EXPLAINED: re.compile(rb"^(?:a run of the rules shows each of \d+ samples(?:; .*)?|as far as was seen, the premises of the "
-                          rb"consistency model hold: no task ran code that was gone|so far the premises of the consistency model "
-                          rb"hold: no task runs code that is gone. A force would break one|.* would hold it up(?:, and \d+ more may)?"
+    EXPLAINED: re.compile(rb"^(?:explained: the livepatch rules allow what each of \d+ samples shows(?:; .*)?|as far as was seen, no "
+                          rb"task ran code that was gone, as the consistency model promises|so far no task runs code that is gone, as "
+                          rb"the consistency model promises; a force would end this promise|.* would hold it up(?:, and \d+ more may)?"
                           rb"\nthe log was cut off: what is told is as of its last whole sample)\n\Z", re.M),
     NOT_SEEN: re.compile(rb"^so it isn't known who holds a transition up, or would: record again\n\Z", re.M),
     NOT_EXPLAINED: re.compile(rb"^  the log may lack the kernel's line of a force, which would explain it\nthis accuses nobody:", re.M),
@@ -333,7 +333,7 @@ def begun_reversed():
     log = thinned.parse(read("captures/replace_reversed.log").decode())
     kept = [number for number, it in enumerate(log.samples) if "patch nap_fix 0 1" in it.patches]
     status, out, err = seen(thinned.text(log, kept))
-    words = f"a run of the rules shows each of {len(kept)} samples\n"
+    words = f"explained: the livepatch rules allow what each of {len(kept)} samples shows\n"
     return None if (status, err) == (0, "") and words in out.decode() else f"{status}, {out.decode()} and {err}"
 
 
@@ -383,7 +383,7 @@ def many_samples():
         log += f"sample {9 + number / 4:.2f} {9.1 + number / 4:.2f} 51 0 0 0\n"
     status, out, err = seen(f"{log}{SYMBOLS}end stopped\n")
     told = b"  indexer[91] holds it up: asleep (S: a signal may free it) in eventfd_read since 8.56 s or before, for " in out
-    is_whole = f"a run of the rules shows each of {count + 6} samples\n".encode() in out
+    is_whole = f"explained: the livepatch rules allow what each of {count + 6} samples shows\n".encode() in out
     is_well = (status, err, told, is_whole) == (0, "", True, True)
     return None if is_well else f"{status}, {out[-600:]} and {err}"
 
@@ -399,7 +399,7 @@ def many_sleeps():
         with open(f"{room}/a.log", "w", encoding="utf-8") as it:
             it.write(f"{log}{SYMBOLS}end stopped\n")
         status, out, err = finish(start(["klpsee", "a.log"], room, executable=built_program()), seconds=60)
-    is_well = (status, err) == (0, "") and f"\na run of the rules shows each of {count + 6} samples\n" in out.decode()
+    is_well = (status, err) == (0, "") and f"\nexplained: the livepatch rules allow what each of {count + 6} samples shows\n" in out.decode()
     return None if is_well else f"{status}, {out[-600:]} and {err}"
 
 
@@ -471,7 +471,7 @@ LIES = {
 def unseen(text, words):
     """What a verdict needs couldn't be read: that is said, and nothing about holders or premises."""
     status, out, err = seen(text)
-    calm = [it for it in (b"premises", b"hold it up\n", b"holds it up", b"0 tasks") if it in out]
+    calm = [it for it in (b"promises", b"hold it up\n", b"holds it up", b"0 tasks") if it in out]
     is_well = (status, err, calm) == (NOT_SEEN, "", []) and words in out.decode()
     return None if is_well else f"{status}, {out.decode()} and {err}"
 

@@ -85,8 +85,8 @@ fn ending(becomes: Becomes, how: Option<HowEnded>) -> &'static str {
 fn verdict_words(verdict: VerdictReport) -> &'static str {
     match verdict {
         VerdictReport::Explained =>
-            "explained again: a run of the rules shows this sample and the one before",
-        VerdictReport::Broken => "broken: no run of the rules shows this sample and the one before",
+            "explained again: the livepatch rules allow what this sample and the one before show",
+        VerdictReport::Broken => "broken: the livepatch rules don't allow what this sample and the one before show",
         VerdictReport::NotExplained => {
             "not explained: no run was found that shows this sample and the one before"
         }

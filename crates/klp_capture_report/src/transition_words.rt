@@ -408,3 +408,22 @@ pub(crate) fn print_transition<W: Write>(
     }
     print_more(transition.lagging.len(), "lag", out)
 }
+
+/// Writes what turns a transition back, if a task holds it up.
+pub(crate) fn print_way_back<W: Write>(
+    transition: &TransitionReport,
+    out: &mut W,
+) -> io::Result<()> {
+    if !transition.holders.iter().any(|holder| holder.holds_still) {
+        return Ok(());
+    }
+    let name = shown(&transition.patch);
+    let before = match transition.becomes {
+        Becomes::Enabled => 0,
+        Becomes::Disabled => 1,
+    };
+    writeln!(
+        out,
+        "  to turn it back, write {before} to /sys/kernel/livepatch/{name}/enabled; what else can help is in klpsee(1), HOLDERS"
+    )
+}

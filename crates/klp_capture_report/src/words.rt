@@ -5,7 +5,7 @@ use crate::report::{
     Becomes, BrokenReport, EndReport, HowEnded, InsideReport, KernelLogReport, NotExplainedReport,
     NotSeen, Report, TaskReport, VerdictReport,
 };
-use crate::transition_words::print_transition;
+use crate::transition_words::{print_transition, print_way_back};
 use httpdate::HttpDate;
 use klp_messages::Escaped;
 use std::io::Write;
@@ -143,7 +143,8 @@ impl Report {
                 match self.verdict {
                     VerdictReport::Explained => {
                         print_left(&self.left_by_force, "forced now, it would leave ", out)?;
-                        self.print_unlisted_left(out)
+                        self.print_unlisted_left(out)?;
+                        print_way_back(last, out)
                     }
                     _ => Ok(()),
                 }
@@ -246,8 +247,14 @@ impl Report {
     fn print_explained<W: Write>(&self, out: &mut W) -> io::Result<()> {
         let (shown, left_out) = (self.samples.shown, self.samples.left_out);
         match shown {
-            1 => write!(out, "a run of the rules shows the one sample")?,
-            _ => write!(out, "a run of the rules shows each of {shown} samples")?,
+            1 => write!(
+                out,
+                "explained: the livepatch rules allow what the one sample shows"
+            )?,
+            _ => write!(
+                out,
+                "explained: the livepatch rules allow what each of {shown} samples shows"
+            )?,
         }
         match left_out {
             0 => writeln!(out)?,
@@ -264,11 +271,11 @@ impl Report {
             Some(_) => Ok(()),
             None if self.under_way().is_some() => writeln!(
                 out,
-                "so far the premises of the consistency model hold: no task runs code that is gone. A force would break one"
+                "so far no task runs code that is gone, as the consistency model promises; a force would end this promise"
             ),
             None => writeln!(
                 out,
-                "as far as was seen, the premises of the consistency model hold: no task ran code that was gone"
+                "as far as was seen, no task ran code that was gone, as the consistency model promises"
             ),
         }
     }
@@ -316,7 +323,7 @@ impl Report {
         if let Some(booted) = self.booted
             && let Ok(date) = HttpDate::from_unix_secs(booted)
         {
-            writeln!(out, "second 0 was {date}")?;
+            writeln!(out, "second 0 was {date}, within a second")?;
         }
         Ok(())
     }
@@ -413,7 +420,7 @@ fn print_broken<W: Write>(broken: &BrokenReport, times: Times, out: &mut W) -> i
     };
     writeln!(
         out,
-        "broken: no run of the rules shows the sample from {from} to {to}, {unless}"
+        "broken: the livepatch rules don't allow what the sample from {from} to {to} shows, {unless}"
     )?;
     writeln!(out, "  {}", broken.in_words(times))?;
     let or_forced = if broken.unless_forced {
