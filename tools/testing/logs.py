@@ -111,10 +111,12 @@ def captured(name):
 
 
 def worked_out(name, status):
-    """The answer to a small log was worked out by hand, and its status. Of a faulty log it is what is told on standard error."""
+    """The answer to a small log was worked out by hand, and its status. Of a faulty log it is what is told on standard error.
+    A catalog of its name has what it doesn't show."""
     stored = read(f"logs/{name}.output")
+    known = ["--catalog", f"logs/{name}.catalog"] if os.path.exists(f"{EXAMPLES}/logs/{name}.catalog") else []
     wanted = (FAULTY, b"", stored.decode()) if int(status) == FAULTY else (int(status), stored, "")
-    return fault(run(["klpsee", f"logs/{name}.log"]), wanted)
+    return fault(run(["klpsee", *known, f"logs/{name}.log"]), wanted)
 
 
 def counted(name):

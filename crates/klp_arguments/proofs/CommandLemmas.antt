@@ -69,12 +69,14 @@ pub linted_by-found : (catalog : Text) (script : Option Text) (is_json : Bool) (
 linted_by-found catalog script is_json first second third is_first is_second is_third =
     rw (← is_first, ← is_second, is_third) refl
 
-pub seen_by-found : (logs own : List Text) (folder : Option Text) (is_json follows is_metrics : Bool) (second third fourth fifth : Option Text)
-    → own ≡ logs → folder ≡ second → is_json ≡ is_given third → follows ≡ is_given fourth → is_metrics ≡ is_given fifth
-    → seen_if (go_together (length own) (record { logs = own; folder = folder; is_json = is_json; follows = follows; is_metrics = is_metrics }))
-    (record { logs = own; folder = folder; is_json = is_json; follows = follows; is_metrics = is_metrics }) ≡ seen_by logs second third fourth fifth
-seen_by-found logs own folder is_json follows is_metrics second third fourth fifth is_first is_second is_third is_fourth is_fifth =
-    rw (← is_first, ← is_second, is_third, is_fourth, is_fifth) refl
+pub seen_by-found : (logs own : List Text) (folder catalog : Option Text) (is_json follows is_metrics : Bool)
+    (second third fourth fifth sixth : Option Text)
+    → own ≡ logs → folder ≡ second → catalog ≡ third → is_json ≡ is_given fourth → follows ≡ is_given fifth → is_metrics ≡ is_given sixth
+    → seen_if (go_together (length own) (record { logs = own; folder = folder; catalog = catalog; is_json = is_json; follows = follows; is_metrics = is_metrics }))
+    (record { logs = own; folder = folder; catalog = catalog; is_json = is_json; follows = follows; is_metrics = is_metrics })
+    ≡ seen_by logs second third fourth fifth sixth
+seen_by-found logs own folder catalog is_json follows is_metrics second third fourth fifth sixth is_first is_second is_third is_fourth is_fifth is_sixth =
+    rw (← is_first, ← is_second, ← is_third, is_fourth, is_fifth, is_sixth) refl
 
 -- the values that are found are all values of the argument
 pub no_values : (f : Found) (id : Text) (values : Option (Bor (List (Bor (List ℕ)))))

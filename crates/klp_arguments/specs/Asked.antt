@@ -31,6 +31,7 @@ pub record Linted : Type 0 where
 pub record Seen : Type 0 where
   pub logs : List Text
   pub folder : Option Text
+  pub catalog : Option Text
   pub is_json : Bool
   pub follows : Bool
   pub is_metrics : Bool
@@ -81,9 +82,16 @@ abbrev pub seen_if : Bool → Seen → Option Seen
 seen_if true seen = Some seen
 seen_if false seen = None
 
-abbrev pub seen_by : List Text → Option Text → Option Text → Option Text → Option Text → Option Seen
-seen_by logs folder json follow metrics =
-    let seen : Seen = record { logs = logs; folder = folder; is_json = is_given json; follows = is_given follow; is_metrics = is_given metrics } in
+abbrev pub seen_by : List Text → Option Text → Option Text → Option Text → Option Text → Option Text → Option Seen
+seen_by logs folder catalog json follow metrics =
+    let seen : Seen = record {
+      logs = logs;
+      folder = folder;
+      catalog = catalog;
+      is_json = is_given json;
+      follows = is_given follow;
+      is_metrics = is_given metrics;
+    } in
     seen_if (go_together (length logs) seen) seen
 
 -- One of --list and --matrix, or a catalog. An answer for programs is of the first two, and some options are for a catalog alone
@@ -130,8 +138,8 @@ linted_in rows = linted_by (first_of (codes "CATALOG") rows) (first_of (codes "S
 
 abbrev pub seen_in : List Row → Option Seen
 seen_in rows =
-    seen_by (values_in (all_of (codes "LOG") rows)) (first_of (codes "FOLDER") rows) (first_of (codes "JSON") rows)
-    (first_of (codes "FOLLOW") rows) (first_of (codes "METRICS") rows)
+    seen_by (values_in (all_of (codes "LOG") rows)) (first_of (codes "FOLDER") rows) (first_of (codes "CATALOG") rows)
+    (first_of (codes "JSON") rows) (first_of (codes "FOLLOW") rows) (first_of (codes "METRICS") rows)
 
 abbrev pub modules_in : List Row → Option Modules
 modules_in rows =
@@ -166,6 +174,7 @@ abbrev pub see_meaning : SeeWords → Seen
 see_meaning words = record {
   logs = map (λ log. log.now) words.logs.items;
   folder = option_map (λ folder. folder.now) words.folder;
+  catalog = option_map (λ catalog. catalog.now) words.catalog;
   is_json = words.is_json;
   follows = words.follows;
   is_metrics = words.is_metrics;

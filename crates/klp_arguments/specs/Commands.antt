@@ -42,6 +42,14 @@ logs = record (required (codes "LOG")) { action = Some Append }
 abbrev pub follow : Rule
 follow = flag (codes "FOLLOW") (codes "follow")
 
+-- an option with a value
+abbrev pub valued : Text → Text → Rule
+valued id long = record (new_rule id) { long = Some long }
+
+-- what a log doesn't show of its patches
+abbrev pub known : Rule
+known = valued (codes "CATALOG") (codes "catalog")
+
 abbrev pub metrics : Rule
 metrics = flag (codes "METRICS") (codes "metrics")
 
@@ -61,15 +69,11 @@ abbrev pub answer_app : App
 answer_app = with_rule (with_rule (with_rule (bare (codes "klpsee")) logs) folder) json
 
 abbrev pub see_app : App
-see_app = with_rule (with_rule answer_app follow) metrics
+see_app = with_rule (with_rule (with_rule answer_app known) follow) metrics
 
 -- one module or more
 abbrev pub patches : Rule
 patches = record (required (codes "PATCH")) { action = Some Append }
-
--- an option with a value
-abbrev pub valued : Text → Text → Rule
-valued id long = record (new_rule id) { long = Some long }
 
 abbrev pub symbols : Rule
 symbols = valued (codes "SYMBOLS") (codes "symbols")

@@ -35,6 +35,8 @@ pub struct SeeWords<'a> {
     pub logs: Vec<&'a str>,
     /// The path of the folder for files, if one is given.
     pub folder: Option<&'a str>,
+    /// The path of the catalog that has what a log doesn't show of its patches, if one is given.
+    pub catalog: Option<&'a str>,
     /// Whether the answer is for programs.
     pub is_json: bool,
     /// Whether the log is followed while it grows.

@@ -1,7 +1,7 @@
 //! The command of each program, by which `clap` reads its arguments and writes its help.
 ghost use Rattle.std.specs.Prelude.{◌≡◌, IfOk};
 ghost use Rattle.clap.specs.Words.{app_of, new_rule};
-ghost use Rattle.klp_arguments.specs.Commands.{answer_app, bare, flag, folder, follow, json, lint_app, logs, metrics, module_app, objects};
+ghost use Rattle.klp_arguments.specs.Commands.{answer_app, bare, flag, folder, follow, json, known, lint_app, logs, metrics, module_app, objects};
 ghost use Rattle.klp_arguments.specs.Commands.{name_of, page_app, patches, required, see_app, symbols, table_app, trace, traceable, valued, watch_app, IsArg};
 ghost use Rattle.klp_arguments.specs.Commands.{IsCommand};
 
@@ -173,6 +173,27 @@ fn follow<'a>(alloc: Global) -> Arg<'a>
     )
 }
 
+/// Returns an option with a value, a file's path. `id` is the argument's name, `long` the option's, and `help` says in
+/// the help what the file is.
+fn valued<'a>(alloc: Global, id: &'a str, long: &'a str, help: &'a str) -> Arg<'a>
+    ensures { IsArg result (valued id.now long.now) }
+{
+    Arg::new(alloc, id).long(long).help(help)
+}
+
+/// Returns klpsee's option `--catalog`. Its value is the file with a catalog that has what a log doesn't show of its
+/// patches.
+fn known<'a>(alloc: Global) -> Arg<'a>
+    ensures { IsArg result known }
+{
+    valued(
+        alloc,
+        CATALOG,
+        "catalog",
+        "The file with a catalog of the log's patches, such as klpko writes",
+    )
+}
+
 /// Returns klpsee's option `--metrics`. It asks for numbers for Prometheus.
 fn metrics<'a>(alloc: Global) -> Arg<'a>
     ensures { IsArg result metrics }
@@ -195,11 +216,12 @@ fn answer_command<'a>(alloc: Global) -> Result<Command<'a>, AllocError>
         .arg(json(alloc))
 }
 
-/// Returns the command of klpsee: it takes logs, and the options `-o`, `--json`, `--follow` and `--metrics`.
+/// Returns the command of klpsee: it takes logs, and the options `-o`, `--json`, `--catalog`, `--follow` and `--metrics`.
 pub(crate) fn see_command<'a>(alloc: Global) -> Result<Command<'a>, AllocError>
     ensures { IfOk result (λ command. IsCommand command see_app) }
 {
     answer_command(alloc)?
+        .arg(known(alloc))?
         .arg(follow(alloc))?
         .arg(metrics(alloc))
 }
@@ -209,14 +231,6 @@ fn patches<'a>(alloc: Global) -> Arg<'a>
     ensures { IsArg result patches }
 {
     needed(alloc, PATCH, "The files of the livepatches, .ko").action(ArgAction::Append)
-}
-
-/// Returns an option with a value, a file's path. `id` is the argument's name, `long` the option's, and `help` says in
-/// the help what the file is.
-fn valued<'a>(alloc: Global, id: &'a str, long: &'a str, help: &'a str) -> Arg<'a>
-    ensures { IsArg result (valued id.now long.now) }
-{
-    Arg::new(alloc, id).long(long).help(help)
 }
 
 /// Returns klpko's option `--symbols`. Its value is the file with the symbols of the kernel.

@@ -223,14 +223,15 @@ fn go_together(words: &SeeWords<'_>) -> bool
     }
 }
 
-/// Returns from the matched arguments of klpsee which logs it is to explain, the folder for files if one is given, and
-/// the form of its answer. Returns `None` if no log is given, or if what is asked doesn't go together.
+/// Returns from the matched arguments of klpsee which logs it is to explain, the folder for files and the catalog if they
+/// are given, and the form of its answer. Returns `None` if no log is given, or if what is asked doesn't go together.
 fn seen<'a>(alloc: Global, matches: &ArgMatches<'a>) -> Result<Option<SeeWords<'a>>, AllocError>
     ensures { IfOk result (λ asked. option_map see_meaning asked ≡ seen_in (rows_of (found_of matches.now))) }
 {
     let words = SeeWords {
         logs: values_of(alloc, matches, LOG)?,
         folder: value_of(matches, FOLDER),
+        catalog: value_of(matches, CATALOG),
         is_json: is_given(matches, JSON),
         follows: is_given(matches, FOLLOW),
         is_metrics: is_given(matches, METRICS),

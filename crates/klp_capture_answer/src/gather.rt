@@ -193,6 +193,7 @@ fn report_with(
         samples: sample_counts(found),
         is_cut_off: !capture.is_whole,
         last_sample_us: last_sample_us(capture),
+        catalog: None,
     }
 }
 

@@ -41,32 +41,53 @@ impl Functions<'_> {
         Ok(())
     }
 
-    fn write_functions(&self, text: &mut String, patch: usize) -> Result<(), AllocError> {
-        let mut object = None;
-        for (number, function) in self.functions.iter().enumerate() {
-            if function.patch != Some(patch) || function.index.is_none() {
-                continue;
+    fn write_function(
+        &self,
+        text: &mut String,
+        number: usize,
+        function: &SeenFunction<'_>,
+    ) -> Result<(), AllocError> {
+        text.push_str("func ")?;
+        self.write_symbol(text, function)?;
+        let address = function.new_address;
+        match function.new_name {
+            Some(name) if is_name(name) => {
+                let name = Text(name);
+                writeln!(text, " {name} {address:x}")
             }
-            if object != Some(function.object) {
-                object = Some(function.object);
-                let name = Text(self.objects.get(function.object).copied().unwrap_or(b""));
-                writeln!(text, "target {name}")?;
-            }
-            text.push_str("func ")?;
-            self.write_symbol(text, function)?;
-            let address = function.new_address;
-            match function.new_name {
-                Some(name) if is_name(name) => {
-                    let name = Text(name);
-                    writeln!(text, " {name} {address:x}")?;
-                }
-                _ => writeln!(text, " new_function_{number} {address:x}")?,
-            }
+            _ => writeln!(text, " new_function_{number} {address:x}"),
         }
-        Ok(())
     }
 
-    /// Returns the text of a catalog of all that the log names.
+    /// Writes the functions that a patch changes in an object, and what is known of its callbacks there.
+    fn write_target(
+        &self,
+        text: &mut String,
+        patch: usize,
+        object: usize,
+    ) -> Result<(), AllocError> {
+        let mut is_begun = false;
+        let name = self.objects.get(object).copied().unwrap_or(b"");
+        for (number, function) in self.functions.iter().enumerate() {
+            if function.patch == Some(patch)
+                && function.object == object
+                && function.index.is_some()
+            {
+                if !is_begun {
+                    let name = Text(name);
+                    writeln!(text, "target {name}")?;
+                    is_begun = true;
+                }
+                self.write_function(text, number, function)?;
+            }
+        }
+        match self.patches.get(patch) {
+            Some(patch) if is_begun => self.known.write_callbacks(text, patch.name, name),
+            _ => Ok(()),
+        }
+    }
+
+    /// Returns the text of a catalog of all that the log names, with the system states and callbacks that are known.
     pub fn catalog(&self, alloc: Global) -> Result<String, AllocError> {
         let handler = self.handler;
         let mut text = format!(in alloc; "handler {handler:x}\n")?;
@@ -75,7 +96,10 @@ impl Functions<'_> {
             let name = Text(patch.name);
             let kind = if patch.is_cumulative { " replace" } else { "" };
             writeln!(text, "patch {name}{kind}")?;
-            self.write_functions(&mut text, number)?;
+            self.known.write_states(&mut text, patch.name)?;
+            for object in 0..self.objects.len() {
+                self.write_target(&mut text, number, object)?;
+            }
         }
         Ok(text)
     }

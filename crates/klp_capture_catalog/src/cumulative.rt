@@ -116,20 +116,43 @@ fn may_be_cumulative(capture: &Capture<'_>, patch: &[u8]) -> bool {
     is_last_moving || has_replaced(capture, patch, true)
 }
 
-/// Whether a patch is cumulative: by its file `replace`, or by the samples, or with `guesses` by a guess. If the log has
+/// What decides whether a patch is cumulative where the log doesn't read so.
+#[derive(Clone, Copy)]
+pub(crate) struct Otherwise {
+    /// Whether it is, by a catalog that has the patch.
+    pub(crate) known: Option<bool>,
+    /// Whether a guess decides where nothing else does.
+    pub(crate) guesses: bool,
+}
+
+/// Whether a patch is cumulative: by its file `replace`, or by a catalog, or by the samples, or by a guess. If the log has
 /// that file, it alone decides.
 pub(crate) fn is_cumulative(
     capture: &Capture<'_>,
     found: &[FoundFunction<'_>],
     patch: usize,
     name: &[u8],
-    guesses: bool,
+    otherwise: Otherwise,
 ) -> bool
     ensures { IfSome (cumulative_by capture.now.rows.items name.now) (λ read. result ≡ read) }
 {
     match is_read_cumulative(&capture.rows, name) {
         Some(read) => read,
+        None => is_cumulative_by(capture, found, patch, name, otherwise),
+    }
+}
+
+/// Whether a patch is cumulative, by what is known or guessed, or by the samples.
+fn is_cumulative_by(
+    capture: &Capture<'_>,
+    found: &[FoundFunction<'_>],
+    patch: usize,
+    name: &[u8],
+    otherwise: Otherwise,
+) -> bool {
+    match otherwise.known {
+        Some(known) => known,
         None => is_shown_cumulative(capture, found, patch, name)
-            || (guesses && may_be_cumulative(capture, name)),
+            || (otherwise.guesses && may_be_cumulative(capture, name)),
     }
 }

@@ -2,7 +2,7 @@
 //!
 //! [`Functions`] has the patches of a log and the functions that they change, if the log's frames and symbols show the
 //! functions. [`Functions::catalog`] writes these names as a catalog's text. `sites` has the numbers that the
-//! functions have in that catalog. `transition` says which transitions a log shows, and how each ended.
+//! functions have in that catalog. `known` has what another catalog says of the patches. `transition` says which transitions a log shows, and how each ended.
 //! `kernel_log` reads when a transition started, and whether it was forced, from the kernel's own log.
 //!
 //! `klp_capture_run` checks the trace against the rules, and compares the trace's task states and patch files with the
@@ -15,6 +15,7 @@ mod changed_functions;
 mod cumulative;
 mod kernel_holders;
 mod kernel_log;
+mod known;
 mod named;
 mod sites;
 mod stack_order;
@@ -25,5 +26,6 @@ pub use kernel_log::{
     KernelLogDiffers, TransitionStart, first_forced_in, forced_in, kernel_log_differs,
     most_apart_at, since_when,
 };
+pub use known::KnownPatches;
 pub use named::{Files, Functions, SeenFunction, SeenPatch, SeenVersion, files_in, moving_in};
 pub use transition::{SeenTransition, TransitionEnd, TransitionEnding};

@@ -6,7 +6,8 @@ ghost use Rattle.klp_capture.specs.Shown.{is_there_as};
 ghost use Rattle.klp_capture_catalog.specs.Rows.{files_of, is_moving, target_of};
 
 use crate::changed_functions::{FoundFunction, found_in, is_shared};
-use crate::cumulative::{is_cumulative, is_read_cumulative};
+use crate::cumulative::{Otherwise, is_cumulative, is_read_cumulative};
+use crate::known::KnownPatches;
 use crate::stack_order::in_stack_order;
 use klp_capture::{Capture, FrameLine, PatchName, PatchRow, Span, SymbolLine, patch_in};
 use klp_types::{MAX_PATCHES, MAX_SITES, MAX_SYMBOL_NAME};
@@ -113,6 +114,8 @@ pub struct Functions<'a> {
     pub left_out: usize,
     /// The next made-up address, for a function whose address the log doesn't have.
     spare: u64,
+    /// What a catalog says of the patches.
+    pub(crate) known: &'a KnownPatches,
 }
 
 /// Returns what the files of a patch read, by these rows. Returns `None` if the rows don't have the patch.
@@ -245,6 +248,18 @@ fn has_symbols(capture: &Capture<'_>, patch: &[u8]) -> bool {
             .any(|symbol| symbol.module == Some(patch))
 }
 
+/// Returns the symbol of this name in the module of a patch.
+fn module_symbol<'a>(
+    symbols: &[SymbolLine<'a>],
+    patch: &[u8],
+    name: &[u8],
+) -> Option<SymbolLine<'a>> {
+    let found = symbols
+        .iter()
+        .find(|symbol| symbol.module == Some(patch) && symbol.name == name)?;
+    Some(*found)
+}
+
 /// Returns the symbol of the new function that replaces a function of this name. Returns `None` if the patch's module
 /// has no such symbol.
 pub(crate) fn new_symbol_of<'a>(
@@ -264,11 +279,12 @@ pub(crate) fn new_symbol_of<'a>(
 }
 
 impl<'a> Functions<'a> {
-    /// Returns the names in a log. With `guesses`, a patch counts as cumulative if it may be, though the log doesn't show
-    /// that it is.
+    /// Returns the names in a log. With `guesses`, a patch counts as cumulative if it may be, though neither the log nor
+    /// the known patches say whether it is.
     pub fn of(
         alloc: Global,
         capture: &Capture<'a>,
+        known: &'a KnownPatches,
         guesses: bool,
     ) -> Result<Functions<'a>, AllocError> {
         let names = patches_of(alloc, capture)?;
@@ -285,12 +301,17 @@ impl<'a> Functions<'a> {
             cut: Vec::new(alloc),
             left_out: found.left_out.len(),
             spare: FIRST_ADDRESS,
+            known,
         };
         for name in &names {
             let patch = functions.patches.len();
+            let otherwise = Otherwise {
+                known: known.is_cumulative(name),
+                guesses,
+            };
             functions.patches.push(SeenPatch {
                 name: *name,
-                is_cumulative: is_cumulative(capture, &found.functions, patch, name, guesses),
+                is_cumulative: is_cumulative(capture, &found.functions, patch, name, otherwise),
                 is_read: is_read_cumulative(&capture.rows, name).is_some(),
             })?;
         }
@@ -348,14 +369,20 @@ impl<'a> Functions<'a> {
         if function.name.len() > MAX_SYMBOL_NAME && !self.cut.contains(&function.name) {
             self.cut.push(function.name)?;
         }
-        let symbol = new_symbol_of(&capture.symbols, patch.name, function.name);
+        let object = self.objects.get(function.object).copied().unwrap_or(b"");
+        let known = self.known.new_name(patch.name, object, function);
+        let symbol = match known {
+            Some(name) => module_symbol(&capture.symbols, patch.name, name),
+            None => new_symbol_of(&capture.symbols, patch.name, function.name),
+        };
         let is_nop = patch.is_cumulative
             && is_shared(found, function)
             && symbol.is_none()
+            && known.is_none()
             && has_symbols(capture, patch.name);
         let (new_name, new_address) = match symbol {
             Some(symbol) => (Some(symbol.name), symbol.address),
-            None => (None, self.spare_address()),
+            None => (known, self.spare_address()),
         };
         self.functions.push(SeenFunction {
             patch: Some(function.patch),

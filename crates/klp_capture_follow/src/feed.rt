@@ -5,6 +5,7 @@ use crate::window::{Taken, Window};
 use klp_boot::Fault;
 use klp_capture::{BootTime, Capture, CaptureFault};
 use klp_capture_answer::report_of;
+use klp_capture_catalog::KnownPatches;
 use klp_capture_report::Times;
 use klp_capture_run::explain;
 use std::alloc::{AllocError, AllocFailed, Global};
@@ -55,8 +56,9 @@ impl From<Fault> for FollowFault {
 
 /// A log that is followed.
 #[derive(Drop)]
-pub struct Feed {
+pub struct Feed<'k> {
     alloc: Global,
+    known: &'k KnownPatches,
     window: Window,
     follower: Follower,
     /// The bytes of a line that isn't whole yet.
@@ -74,11 +76,12 @@ pub struct Feed {
     status: u8,
 }
 
-impl Feed {
-    /// Returns a feed before the first byte of a log.
-    pub fn new(alloc: Global, is_terminal: bool) -> Feed {
+impl<'k> Feed<'k> {
+    /// Returns a feed before the first byte of a log. `known` has what the log doesn't show of its patches.
+    pub fn new(alloc: Global, known: &'k KnownPatches, is_terminal: bool) -> Feed<'k> {
         Feed {
             alloc,
+            known,
             window: Window::new(alloc),
             follower: Follower::new(alloc),
             line: Vec::new(alloc),
@@ -151,7 +154,7 @@ impl Feed {
             return Ok(());
         };
         let at = last.line.from;
-        let found = explain(self.alloc, &capture)?;
+        let found = explain(self.alloc, &capture, self.known)?;
         let report = report_of(self.alloc, &capture, &found)?;
         self.status = report.status();
         self.times = report.times();

@@ -305,10 +305,12 @@ pub struct Report {
     pub is_cut_off: bool,
     /// When the last sample was taken. `None` if there is none.
     pub last_sample_us: Option<u64>,
+    /// The name of the catalog's file that has what the log doesn't show of its patches, if one was given.
+    pub catalog: Option<String>,
 }
 
 /// The version of the fields of [`Report`].
-pub const SCHEMA: u32 = 4;
+pub const SCHEMA: u32 = 5;
 
 impl Report {
     /// Returns the exit status of `klpsee`: 0 if the log is explained, 3 if a sample contradicts the rules, 4 if no run

@@ -217,8 +217,21 @@ impl Report {
         Ok(())
     }
 
+    /// Writes what was taken from a catalog, if one was given.
+    fn print_catalog<W: Write>(&self, out: &mut W) -> io::Result<()> {
+        if let Some(catalog) = &self.catalog {
+            let catalog = shown(catalog);
+            writeln!(
+                out,
+                "by {catalog}: the names of new functions, system states and callbacks, and which patches are cumulative if the log doesn't say so"
+            )?;
+        }
+        Ok(())
+    }
+
     fn print_verdict<W: Write>(&self, out: &mut W) -> io::Result<()> {
         self.print_limits(out)?;
+        self.print_catalog(out)?;
         if let Some(at) = self.forced_at_us {
             let at = self.times().at(at);
             writeln!(

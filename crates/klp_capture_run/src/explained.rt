@@ -12,7 +12,7 @@ ghost use Rattle.klp_trace_page.specs.RunSentences.{AreSentencesOver};
 use crate::holders::{Holder, Judgement, Lags, holders_of, judgement_over};
 use klp_boot::{Fault, ManagerUse, over_text};
 use klp_capture::{BootTime, Capture, PatchName, Sample, Text, Thread};
-use klp_capture_catalog::{Functions, forced_in};
+use klp_capture_catalog::{Functions, KnownPatches, forced_in};
 use klp_capture_search::{OTHERS, Run};
 use klp_core::Manager;
 use klp_program::Verdict;
@@ -135,10 +135,11 @@ struct Exploration<'a> {
 fn explored<'a>(
     alloc: Global,
     capture: &Capture<'a>,
+    known: &'a KnownPatches,
     forced: Option<BootTime>,
     guesses: bool,
 ) -> Result<Exploration<'a>, Fault> {
-    let functions = Functions::of(alloc, capture, guesses)?;
+    let functions = Functions::of(alloc, capture, known, guesses)?;
     let catalog = functions.catalog(alloc)?;
     let mut search = Search {
         run: Run::new(alloc, capture, functions)?,
@@ -159,13 +160,14 @@ fn explored<'a>(
 fn best_explored<'a>(
     alloc: Global,
     capture: &Capture<'a>,
+    known: &'a KnownPatches,
     forced: Option<BootTime>,
 ) -> Result<Exploration<'a>, Fault> {
-    let first = explored(alloc, capture, forced, false)?;
+    let first = explored(alloc, capture, known, forced, false)?;
     let Some(stopped) = first.stopped else {
         return Ok(first);
     };
-    let guessed = explored(alloc, capture, forced, true)?;
+    let guessed = explored(alloc, capture, known, forced, true)?;
     match guessed.stopped {
         Some(later) if later <= stopped => Ok(first),
         _ => Ok(guessed),
@@ -182,12 +184,16 @@ fn samples_before(number: Option<usize>, samples: &[Sample]) -> &[Sample]
     }
 }
 
-/// Explains a log: makes a catalog of what the log names, and looks for a run of the rules that shows each sample. The
+/// Explains a log: makes a catalog of what the log names, and of what is known of its patches, and looks for a run of the rules that shows each sample. The
 /// verdict is the verdict of `klpwatch` on the trace that was found, with that catalog. The trace shows each sample that
 /// isn't torn, is before a force, and is before the first sample to which nothing leads. For each such sample, it shows
 /// the states of the tasks that the sample names, and the files of the patches. The rules, and the state at the end of
 /// the trace, decide which tasks lag there.
-pub fn explain<'a>(alloc: Global, capture: &Capture<'a>) -> Result<Explained<'a>, Fault>
+pub fn explain<'a>(
+    alloc: Global,
+    capture: &Capture<'a>,
+    known: &'a KnownPatches,
+) -> Result<Explained<'a>, Fault>
     ensures judged { IfOk result
         (λ found. Watches (string_bytes found.catalog) (string_bytes found.run.trace) (Ok found.verdict)) }
     ensures shown { IfOk result
@@ -206,7 +212,7 @@ pub fn explain<'a>(alloc: Global, capture: &Capture<'a>) -> Result<Explained<'a>
         run,
         catalog,
         stopped,
-    } = best_explored(alloc, capture, forced)?;
+    } = best_explored(alloc, capture, known, forced)?;
     let Judgement { verdict, lags } = judgement_over(
         alloc,
         catalog.as_bytes(),

@@ -2,16 +2,22 @@
 use crate::log::{explain_log, no_memory, read_log, report_on};
 use crate::{FAULTY, NAME, status_of};
 use klp_arguments::SeeWords;
+use klp_capture_catalog::KnownPatches;
 use klp_capture_fleet::{Machine, print_metrics, print_overview};
 use klp_diagnostics::file_in;
 use std::io::Write;
 
 /// Returns the answer to a log. If there is none, writes why to `err`, and returns the exit status as `Err`.
-fn machine_of<E: Write>(rt: &HostRuntime, path: &str, err: &mut E) -> Result<Machine, u8> {
+fn machine_of<E: Write>(
+    rt: &HostRuntime,
+    path: &str,
+    known: &KnownPatches,
+    err: &mut E,
+) -> Result<Machine, u8> {
     let alloc = rt.alloc();
     let log = file_in(rt, NAME, path, err)?;
     let capture = read_log(alloc, path, &log, err)?;
-    let found = explain_log(alloc, path, &capture, err)?;
+    let found = explain_log(alloc, path, &capture, known, err)?;
     let report = report_on(alloc, path, &capture, &found, err)?;
     match String::from_str(alloc, path) {
         Ok(file) => Ok(Machine { file, report }),
@@ -24,13 +30,14 @@ fn machine_of<E: Write>(rt: &HostRuntime, path: &str, err: &mut E) -> Result<Mac
 pub(crate) fn answer_for_all<W: Write, E: Write>(
     rt: &HostRuntime,
     words: &SeeWords<'_>,
+    known: &KnownPatches,
     out: &mut W,
     err: &mut E,
 ) -> u8 {
     let mut machines = Vec::new(rt.alloc());
     let (mut worst, mut is_whole): (u8, bool) = (0, true);
     for path in &words.logs {
-        match machine_of(rt, path, err) {
+        match machine_of(rt, path, known, err) {
             Ok(machine) => {
                 worst = worst.max(machine.report.status());
                 if machines.push(machine).is_err() {

@@ -1,6 +1,7 @@
 //! Follows a log while it grows.
 use crate::faults::FaultyLine;
 use crate::{FAULTY, NAME, NO_MEMORY};
+use klp_capture_catalog::KnownPatches;
 use klp_capture_follow::{Feed, FollowFault};
 use klp_diagnostics::STANDARD_INPUT;
 use klp_messages::Escaped;
@@ -43,7 +44,7 @@ fn follow_bytes<L: Read, W: Write>(
     rt: &HostRuntime,
     log: &mut L,
     may_grow: bool,
-    feed: &mut Feed,
+    feed: &mut Feed<'_>,
     out: &mut W,
 ) -> Result<(), Stop> {
     let mut buffer = Vec::new(rt.alloc());
@@ -71,7 +72,7 @@ fn follow_bytes<L: Read, W: Write>(
 fn follow_in<W: Write>(
     rt: &HostRuntime,
     path: &str,
-    feed: &mut Feed,
+    feed: &mut Feed<'_>,
     out: &mut W,
 ) -> Result<(), Stop> {
     if path == STANDARD_INPUT {
@@ -114,10 +115,11 @@ fn tell<E: Write>(path: &str, stop: &Stop, err: &mut E) {
 pub(crate) fn follow<W: Write, E: Write>(
     rt: &HostRuntime,
     path: &str,
+    known: &KnownPatches,
     out: &mut W,
     err: &mut E,
 ) -> u8 {
-    let mut feed = Feed::new(rt.alloc(), rt.stdout().is_terminal());
+    let mut feed = Feed::new(rt.alloc(), known, rt.stdout().is_terminal());
     match follow_in(rt, path, &mut feed, out) {
         Ok(()) => feed.status(),
         Err(stop) => {

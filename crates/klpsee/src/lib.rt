@@ -8,13 +8,16 @@ mod faults;
 mod files;
 mod fleet;
 mod follow;
+mod known;
 mod log;
 
 use crate::files::{Source, write_files};
 use crate::fleet::answer_for_all;
 use crate::follow::follow;
-use crate::log::{explain_log, read_log, report_on};
+use crate::known::{known_in, tell_unknown};
+use crate::log::{explain_log, no_memory, read_log, report_on};
 use klp_arguments::{Program, SeeWords, given_words, see_words};
+use klp_capture_catalog::KnownPatches;
 use klp_capture_report::{Report, print_json, print_report};
 use klp_diagnostics::{STANDARD_INPUT, file_in, only_one_input};
 use klp_messages::Escaped;
@@ -56,6 +59,7 @@ fn status_of<E: Write>(status: u8, written: io::Result<()>, err: &mut E) -> u8 {
 fn see<W: Write, E: Write>(
     rt: &HostRuntime,
     words: &SeeWords<'_>,
+    known: &KnownPatches,
     path: &str,
     log: &[u8],
     out: &mut W,
@@ -63,7 +67,8 @@ fn see<W: Write, E: Write>(
 ) -> Result<u8, u8> {
     let alloc = rt.alloc();
     let capture = read_log(alloc, path, log, err)?;
-    let found = explain_log(alloc, path, &capture, err)?;
+    let found = explain_log(alloc, path, &capture, known, err)?;
+    tell_unknown(words.catalog, known, &found, err);
     let source = Source {
         file: path,
         capture: &capture,
@@ -75,7 +80,13 @@ fn see<W: Write, E: Write>(
         let _ = writeln!(err, "{NAME}: {folder}: {error}");
         return Err(FAULTY);
     }
-    let report = report_on(alloc, path, &capture, &found, err)?;
+    let mut report = report_on(alloc, path, &capture, &found, err)?;
+    if let Some(catalog) = words.catalog {
+        match String::from_str(alloc, catalog) {
+            Ok(catalog) => report.catalog = Some(catalog),
+            Err(_) => return Err(no_memory(path, err)),
+        }
+    }
     let written = print(alloc, words.is_json, &report, out);
     Ok(status_of(report.status(), written, err))
 }
@@ -88,18 +99,20 @@ fn status_in(rt: &HostRuntime) -> Result<u8, u8> {
     if 1 < words
         .logs
         .iter()
+        .chain(&words.catalog)
         .filter(|path| **path == STANDARD_INPUT)
         .count()
     {
         only_one_input(NAME, STANDARD_INPUT, STANDARD_INPUT, &mut err)?;
     }
+    let known = known_in(rt, words.catalog, &mut err)?;
     match words.logs.as_slice() {
-        [path] if words.follows => Ok(follow(rt, path, &mut out, &mut err)),
+        [path] if words.follows => Ok(follow(rt, path, &known, &mut out, &mut err)),
         [path] if !words.is_metrics => {
             let log = file_in(rt, NAME, path, &mut err)?;
-            see(rt, &words, path, &log, &mut out, &mut err)
+            see(rt, &words, &known, path, &log, &mut out, &mut err)
         }
-        _ => Ok(answer_for_all(rt, &words, &mut out, &mut err)),
+        _ => Ok(answer_for_all(rt, &words, &known, &mut out, &mut err)),
     }
 }
 

@@ -4,6 +4,7 @@ use crate::{FAULTY, NAME, NO_MEMORY};
 use klp_boot::Fault;
 use klp_capture::Capture;
 use klp_capture_answer::report_of;
+use klp_capture_catalog::KnownPatches;
 use klp_capture_report::Report;
 use klp_capture_run::{Explained, explain};
 use klp_messages::Escaped;
@@ -38,9 +39,10 @@ pub(crate) fn explain_log<'a, E: Write>(
     alloc: Global,
     path: &str,
     capture: &Capture<'a>,
+    known: &'a KnownPatches,
     err: &mut E,
 ) -> Result<Explained<'a>, u8> {
-    match explain(alloc, capture) {
+    match explain(alloc, capture, known) {
         Ok(found) => Ok(found),
         Err(Fault::NoMemory) => Err(no_memory(path, err)),
         Err(fault) => {
