@@ -185,7 +185,7 @@ pub struct NotExplainedReport {
     pub to_us: u64,
     /// The state in the log.
     pub log: Option<String>,
-    /// The state of the run that was tried first, and why it is so.
+    /// The state of a run that was tried, and why it is so.
     pub rules: Option<String>,
 }
 

@@ -293,7 +293,7 @@ impl Report {
         }
     }
 
-    /// Writes the sample to which no tried run leads, with the states of the log and of the first of these runs.
+    /// Writes the sample to which no tried run leads, with the states of the log and of one of these runs.
     fn print_not_explained<W: Write>(
         &self,
         lacking: &NotExplainedReport,
@@ -309,7 +309,7 @@ impl Report {
             writeln!(out, "  the log has {}", shown(log))?;
         }
         if let Some(rules) = &lacking.rules {
-            writeln!(out, "  in the run that was tried first, {}", shown(rules))?;
+            writeln!(out, "  in a run that was tried, {}", shown(rules))?;
         }
         if let Some(at) = self.first_forced_us {
             let at = times.at(at);
