@@ -89,11 +89,12 @@ _klplint() {
 _klpsee() {
   local klp_words klp_before klp_option klp_word
   _klp_words || return 0
-  if _klp_options -o; then _klp_files log "$klp_word"
+  if _klp_options -o --catalog; then _klp_files log "$klp_word"
+  elif [ "$klp_option" = --catalog ]; then _klp_files catalog "$klp_word"
   elif [ "$klp_option" = -o ]; then
     compopt -o filenames 2>/dev/null
     mapfile -t COMPREPLY < <(compgen -d -- "$klp_word")
-  else _klp_offer '-o --json --follow --metrics --help --version'; fi
+  else _klp_offer '-o --json --catalog --follow --metrics --help --version'; fi
 }
 
 _klpko() {

@@ -11,7 +11,7 @@ USAGE = {
     "klpwatch": "klpwatch CATALOG TRACE",
     "klppage": "klppage CATALOG SCRIPT|--trace TRACE [NAMES]",
     "klplint": "klplint [--json] CATALOG [SCRIPT]",
-    "klpsee": "klpsee [-o FOLDER] [--json|--follow] LOG|[--metrics] LOG..",
+    "klpsee": "klpsee [-o FOLDER] [--json|--follow] [--catalog FILE] LOG|[--metrics] LOG..",
     "klpko": "klpko [--symbols FILE] [--module FILE].. [--traceable FILE] [--cut] PATCH..|--list|--matrix [--json] PATCH..",
 }
 REFUSED = {
@@ -30,6 +30,7 @@ REFUSED = {
         (), ("x", "-o"), ("x", "-o", "-y"), ("x", "-y"), ("-o", "y"), ("x", "-o", "y", "-o", "z"), ("x", "--json", "--json"),
         ("x", "-o", "y", "z"), ("x", "y", "--json"), ("x", "y", "--follow"), ("x", "--follow", "--json"), ("x", "--follow", "-o", "y"),
         ("x", "--follow", "--metrics"), ("x", "--metrics", "--json"), ("x", "--metrics", "-o", "y"), ("--metrics",), (b"\xff",),
+        ("x", "--catalog"), ("--catalog", "y"), ("x", "--catalog", "y", "--catalog", "y"), ("x", "--follow", "--json", "--catalog", "y"),
     ],
     "klpko": [
         (), ("--list",), ("--matrix", "--json"), ("x", "--json"), ("--list", "--matrix", "x"), ("--list", "--list", "x"), ("--list=x", "x"),
@@ -56,7 +57,10 @@ ALIKE = {
         (("--json", "lint/clean.catalog"), ("lint/clean.catalog", "--json")),
         (("--json", "lint/trace.catalog", "lint/trace.script"), ("lint/trace.catalog", "--json", "lint/trace.script")),
     ],
-    "klpsee": [(("captures/enable.log", "--json"), ("--json", "captures/enable.log"))],
+    "klpsee": [
+        (("captures/enable.log", "--json"), ("--json", "captures/enable.log")),
+        (("--catalog", "k.catalog", "captures/enable.log"), ("captures/enable.log", "--catalog", "k.catalog"), ("--catalog=k.catalog", "captures/enable.log")),
+    ],
     "klpko": [(
         ("--matrix", "--json", "modules/two_objects.ko", "modules/cumulative.ko"), ("modules/two_objects.ko", "--json", "modules/cumulative.ko", "--matrix"),
         ("--json", "--matrix", "--", "modules/two_objects.ko", "modules/cumulative.ko"),

@@ -1,6 +1,6 @@
 -- What a cut leaves of a livepatch's tables.
-use Rattle.std.specs.Prelude.{◌+◌, ◌==◌, ◌&&◌, not, ◌||◌, bytes_eq, if◌then◌else◌, Bool, true, false, List, [], ◌∷◌, length, option_map}
-use Rattle.std.specs.List.{list_any}
+use Rattle.std.specs.Prelude.{ℕ, ◌+◌, ◌==◌, ◌++◌, ◌&&◌, not, ◌||◌, bytes_eq, drop, take, if◌then◌else◌, Bool, true, false, List, [], ◌∷◌, length, option_map}
+use Rattle.std.specs.List.{flat_map, list_any}
 use Rattle.klp_tables.specs.declared.patch.Callbacks.{Callbacks}
 use Rattle.klp_tables.specs.declared.patch.Function.{Function}
 use Rattle.klp_tables.specs.declared.patch.Object.{Object}
@@ -8,7 +8,7 @@ use Rattle.klp_tables.specs.declared.patch.ObjectRow.{ObjectRow}
 use Rattle.klp_tables.specs.declared.patch.Replaces.{Replaces}
 use Rattle.klp_tables.specs.declared.patch.Replaces.TheVariants.{No, Yes, Unknown}
 use Rattle.klp_tables.specs.declared.patch.State.{State}
-use Rattle.klp_module_matrix.specs.Changes.{changed_in, is_same_change, meaning}
+use Rattle.klp_module_matrix.specs.Changes.{Change, changed_by, changed_in, is_same_change, meaning}
 use Rattle.klp_module_matrix.specs.Names.{name_of_row}
 use Rattle.klp_module_matrix.specs.declared.functions.Changed.{Changed}
 use Rattle.klp_module_fit.specs.Fit.{function_count}
@@ -92,3 +92,11 @@ is_cut_of others cut whole =
     && are_same_states cut.patch.now.states.items whole.patch.now.states.items
     && are_parts_of others cut.patch.now.objects.items whole.patch.now.objects.items
     && counts_left_out cut whole.patch.now.objects.items
+
+-- the functions that some patches change, in the order of their tables
+abbrev pub changed_by_all : List NamedPatch → List Change
+changed_by_all patches = flat_map (λ (named : NamedPatch). changed_by named.patch.now.objects.items) patches
+
+-- those that all patches but the one of this number change
+abbrev pub changed_by_others : List NamedPatch → ℕ → List Change
+changed_by_others patches number = changed_by_all (take number patches) ++ changed_by_all (drop (number + 1) patches)

@@ -1,4 +1,8 @@
 //! Cuts a patch down.
+ghost use Rattle.std.specs.Prelude.{◌≡◌, ◌++◌, map, IfOk};
+ghost use Rattle.klp_module_matrix.specs.Changes.{meaning};
+ghost use Rattle.klp_module_cut.specs.Cut.{changed_by_all, changed_by_others};
+
 use crate::check::count_functions;
 use crate::choice::Choice;
 use klp_module_fit::{LeftOut, NamedPatch};
@@ -63,17 +67,32 @@ fn left_out(objects: &[Object<'_>], parts: &[Object<'_>]) -> LeftOut {
     }
 }
 
+/// Adds all functions that some patches change. Returns `Err` if memory runs out; then some may have been added.
+fn append_all<'a>(
+    changed: &mut Vec<Changed<'a>>,
+    patches: &[NamedPatch<'_, 'a>],
+) -> Result<(), AllocError>
+    ensures { IfOk result (λ _. map meaning changed.new.items ≡ map meaning changed.old.items ++ changed_by_all patches.now) }
+{
+    for named in patches {
+        append_changed(changed, &named.patch.objects)?;
+    }
+    Ok(())
+}
+
 /// Returns all functions that patches other than the one of this number change. Numbers count from 0.
 pub fn changed_by_others<'a>(
     alloc: Global,
     patches: &[NamedPatch<'_, 'a>],
     number: usize,
-) -> Result<Vec<Changed<'a>>, AllocError> {
+) -> Result<Vec<Changed<'a>>, AllocError>
+    ensures { IfOk result (λ changed. map meaning changed.items ≡ changed_by_others patches.now number) }
+{
     let mut changed = Vec::new(alloc);
-    for (other, named) in patches.iter().enumerate() {
-        if other != number {
-            append_changed(&mut changed, &named.patch.objects)?;
-        }
+    let (front, rest) = patches.split_at(number.min(patches.len()));
+    append_all(&mut changed, front)?;
+    if let [_own, behind @ ..] = rest {
+        append_all(&mut changed, behind)?;
     }
     Ok(changed)
 }
