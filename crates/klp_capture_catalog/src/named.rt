@@ -370,7 +370,8 @@ impl<'a> Functions<'a> {
             self.cut.push(function.name)?;
         }
         let object = self.objects.get(function.object).copied().unwrap_or(b"");
-        let known = self.known.new_name(patch.name, object, function);
+        let catalog = self.known;
+        let known = catalog.new_name(patch.name, object, function);
         let symbol = match known {
             Some(name) => module_symbol(&capture.symbols, patch.name, name),
             None => new_symbol_of(&capture.symbols, patch.name, function.name),
