@@ -1,5 +1,5 @@
 //! Whether a patch is another one, with some of it left out.
-ghost use Rattle.std.specs.Prelude.{◌≡◌, ◌+◌, ◌==◌, ◌≤◌, ◌^◌, true, MatchOption};
+ghost use Rattle.std.specs.Prelude.{◌≡◌, ◌+◌, ◌==◌, ◌<◌, ◌≤◌, ◌^◌, true, MatchOption};
 ghost use Rattle.std.specs.List.{list_any};
 ghost use Rattle.klp_module_fit.specs.Fit.{function_count};
 ghost use Rattle.klp_module_cut.specs.Cut.{are_among, are_parts_of, are_same_callbacks, are_same_states, counts_left_out, has_callbacks};
@@ -163,7 +163,9 @@ fn is_sum(one: usize, other: usize, sum: usize) -> bool
 
 /// Whether a patch has as many objects and functions as some objects, with those that are left out.
 fn counts_left_out(cut: &NamedPatch<'_, '_>, wholes: &[Object<'_>]) -> bool
-    ensures { result ≡ true → counts_left_out cut.now wholes.now ≡ true }
+    ensures yes { result ≡ true → counts_left_out cut.now wholes.now ≡ true }
+    ensures exact { function_count cut.now.patch.now.objects.items < 2 ^ 64 → function_count wholes.now < 2 ^ 64
+        → result ≡ counts_left_out cut.now wholes.now }
 {
     let parts = &cut.patch.objects;
     let (Some(kept), Some(all)) = (count_functions(parts), count_functions(wholes)) else {
@@ -181,7 +183,9 @@ pub fn is_cut_of(
     cut: &NamedPatch<'_, '_>,
     whole: &NamedPatch<'_, '_>,
 ) -> bool
-    ensures { result ≡ true → is_cut_of others.now cut.now whole.now ≡ true }
+    ensures yes { result ≡ true → is_cut_of others.now cut.now whole.now ≡ true }
+    ensures exact { function_count cut.now.patch.now.objects.items < 2 ^ 64 → function_count whole.now.patch.now.objects.items < 2 ^ 64
+        → result ≡ is_cut_of others.now cut.now whole.now }
 {
     cut.name == whole.name
         && is_same_replacing(cut.patch.replaces, whole.patch.replaces)
