@@ -77,7 +77,7 @@ def followed():
 def json():
     """For programs, the answer names the catalog."""
     out = seen("--json", "--catalog", "my.catalog", "a.log")[1]
-    return differs((b'"catalog":"my.catalog"' in out, True), (b'"catalog":null' in seen("--json", "a.log")[1], True))
+    return differs((b'"catalog": "my.catalog"' in out, True), (b'"catalog": null' in seen("--json", "a.log")[1], True))
 
 
 def written(lines, wanted, absent=()):
@@ -110,7 +110,7 @@ def lacking():
 def twice_standard_input():
     """Log and catalog can't both be standard input."""
     status, out, _ = seen("-", "--catalog", "-")
-    return differs((status, 2), (out, b""))
+    return differs((status, 1), (out, b""))
 
 
 def cases():

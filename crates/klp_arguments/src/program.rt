@@ -96,7 +96,8 @@ impl Program {
             Program::Klpwatch => "klpwatch CATALOG TRACE",
             Program::Klppage => "klppage CATALOG SCRIPT|--trace TRACE [NAMES]",
             Program::Klplint => "klplint [--json] CATALOG [SCRIPT]",
-            Program::Klpsee => "klpsee [-o FOLDER] [--json|--follow] [--catalog FILE] LOG|[--metrics] LOG..",
+            Program::Klpsee =>
+                "klpsee [-o FOLDER] [--json|--follow] [--catalog FILE] LOG|[--metrics] LOG..",
             Program::Klpko =>
                 "klpko [--symbols FILE] [--module FILE].. [--traceable FILE] [--cut] PATCH..|--list|--matrix [--json] PATCH..",
         }

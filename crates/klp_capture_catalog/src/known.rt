@@ -70,8 +70,7 @@ impl KnownPatches {
     ) -> Option<&[u8]> {
         let target = self.target(patch, object)?;
         let found = target.functions.iter().find(|own| {
-            own.symbol.as_bytes() == function.name
-                && own.sympos.max(1) == function.position.max(1)
+            own.symbol.as_bytes() == function.name && own.sympos.max(1) == function.position.max(1)
         })?;
         Some(found.new_name.as_bytes())
     }

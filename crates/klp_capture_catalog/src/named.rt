@@ -254,9 +254,7 @@ fn module_symbol<'a>(
     patch: &[u8],
     name: &[u8],
 ) -> Option<SymbolLine<'a>> {
-    let found = symbols
-        .iter()
-        .find(|symbol| symbol.module == Some(patch) && symbol.name == name)?;
+    let found = symbols.iter().find(|symbol| symbol.module == Some(patch) && symbol.name == name)?;
     Some(*found)
 }
 

@@ -86,7 +86,8 @@ fn verdict_words(verdict: VerdictReport) -> &'static str {
     match verdict {
         VerdictReport::Explained =>
             "explained again: the livepatch rules allow what this sample and the one before show",
-        VerdictReport::Broken => "broken: the livepatch rules don't allow what this sample and the one before show",
+        VerdictReport::Broken =>
+            "broken: the livepatch rules don't allow what this sample and the one before show",
         VerdictReport::NotExplained => {
             "not explained: no run was found that shows this sample and the one before"
         }
