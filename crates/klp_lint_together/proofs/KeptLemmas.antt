@@ -1,7 +1,7 @@
 -- Patches are tried, and all events since are taken back.
-use Rattle.std.proofs.Common.{◌≡◌, ℕ, ◌<◌, ◌≤◌, ◌+◌, ◌-◌, List, [], ◌∷◌, ◌++◌, take, length, Result, Ok, Err, refl, sym, ap, subst, ◌∙◌, append_assoc, append-nil, arith, length-append}
+use Rattle.std.proofs.Common.{◌≡◌, ℕ, Option, ◌<◌, ◌≤◌, ◌+◌, ◌-◌, List, [], ◌∷◌, ◌++◌, take, length, Result, Ok, Err, refl, sym, ap, subst, ◌∙◌, append_assoc, append-nil, arith, length-append}
 use Rattle.std.proofs.Math.Seq.{take-append_seam, take-append-add}
-use Rattle.std.specs.Prelude.{IfOk, IfErr, OnErr}
+use Rattle.std.specs.Prelude.{IfOk, IfErr, IfSome, OnErr}
 use Rattle.klp_model.specs.declared.event.Event.{Event}
 use Rattle.klp_model.specs.declared.event.Reply.{Reply}
 use Rattle.klp_model.specs.declared.event.Refusal.{Refusal}
@@ -12,8 +12,12 @@ use Rattle.klp_core.specs.declared.fault.BadMark.{BadMark}
 use Rattle.klp_core.specs.Journaled.{Journaled, history_in, IsWellFormed}
 use Rattle.klp_core.specs.Rewinding.{IsRewound}
 use Rattle.klp_core.specs.Taking.{IsTaken, AreTaken, groups_left}
-use Rattle.klp_core.specs.Withdrawal.{GoesOn}
 use Rattle.klp_lint.specs.Behind.{IsBack}
+use Rattle.klp_lint_findings.specs.declared.finding.Finding.{Finding}
+use Rattle.klp_lint_findings.specs.declared.findings.Findings.{Findings}
+use Rattle.klp_lint_findings.specs.declared.linted.Linted.{Linted}
+use Rattle.klp_lint_findings.specs.Claims.{IsTrue, AddsTrue}
+use Rattle.klp_lint_findings.specs.Standing.{Standing, standing}
 use Rattle.klp_lint_together.specs.Kept.{IsAsBefore, IsFurther}
 
 pub kept_still : (manager : Journaled) → IsAsBefore manager manager
@@ -108,3 +112,16 @@ still_further last after mark (Ok done) back stayed same start later further = r
   setting = same ∙ further.setting;
 }
 still_further last after mark (Err fault) back stayed same start later further = subst (IsFurther start) (sym stayed) further
+
+-- findings are about the same of both managers
+pub same_standing : {before now : Journaled} → IsAsBefore before now → standing now ≡ standing before
+same_standing kept = λ i. record { setting = kept.setting i; state = kept.state i; groups = kept.groups i }
+
+-- what is true of the one is true of the other
+pub adds_before : {before now : Journaled} {one two : Findings} → IsAsBefore before now → AddsTrue (standing now) one two
+    → AddsTrue (standing before) one two
+adds_before {one = one} {two = two} kept adds = subst (λ (here : Standing). AddsTrue here one two) (same_standing kept) adds
+
+pub true_before : {before now : Journaled} (linted : Linted) (finding : Option Finding) → IsAsBefore before now
+    → IfSome finding (IsTrue linted (standing now)) → IfSome finding (IsTrue linted (standing before))
+true_before linted finding kept claim = subst (λ (here : Standing). IfSome finding (IsTrue linted here)) (same_standing kept) claim

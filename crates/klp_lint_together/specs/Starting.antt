@@ -11,7 +11,7 @@ use Rattle.klp_model.specs.State.{State, is_installed}
 use Rattle.klp_lint_findings.specs.declared.findings.Findings.{Findings}
 use Rattle.klp_lint_findings.specs.Sound.{one_decides}
 use Rattle.klp_lint_together.specs.declared.loading.LoadOutcome.{LoadOutcome}
-use Rattle.klp_lint_together.specs.declared.loading.LoadOutcome.TheVariants.{Started, Failed, Incompatible, NoSymbol, Full, Pinned, Refused}
+use Rattle.klp_lint_together.specs.declared.loading.LoadOutcome.TheVariants.{Started, Failed, Exists, Incompatible, NoSymbol, Full, Pinned, Refused}
 
 -- the outcome of loading a patch, by the answer
 abbrev pub outcome_of : Result Reply Refusal → LoadOutcome
@@ -23,6 +23,18 @@ outcome_of (Err refusal.NoSymbol) = NoSymbol
 outcome_of (Err refusal.Full) = Full
 outcome_of (Err refusal.Pinned) = Pinned
 outcome_of (Err other) = Refused
+
+-- What an outcome tells of the answer to an `Enable`. Where marks say that a call fails, it tells nothing, since the rules know no
+-- such call.
+abbrev pub Tells : Result Reply Refusal → LoadOutcome → Type 0
+Tells answer Started = answer ≡ Ok reply.Started
+Tells answer (Failed object status) = (patch : ℕ) × (answer ≡ Ok (reply.PreFailed patch object status))
+Tells answer (Exists object key) = Unit {0}
+Tells answer Incompatible = answer ≡ Err refusal.Incompatible
+Tells answer NoSymbol = answer ≡ Err refusal.NoSymbol
+Tells answer Full = answer ≡ Err refusal.Full
+Tells answer Pinned = answer ≡ Err refusal.Pinned
+Tells answer Refused = answer ≡ Ok reply.Started → ⊥
 
 -- the patch can be loaded now: its transition starts
 abbrev pub CanStart : Setting → State → ℕ → Type 0

@@ -1,6 +1,8 @@
 //! Finds functions that two patches change. A function is known by its site: the symbol that it replaces.
-ghost use Rattle.std.specs.Prelude.{IfOk};
-ghost use Rattle.klp_lint_findings.specs.Sound.{Grows};
+ghost use Rattle.std.specs.Prelude.{IfOk, IfSome};
+ghost use Rattle.klp_lint_findings.specs.Claims.{IsTrue, AddsTrue};
+ghost use Rattle.klp_lint_findings.specs.Saying.{Adds};
+ghost use Rattle.klp_lint_findings.specs.Standing.{standing};
 
 use crate::loading::Outcomes;
 use klp_catalog_text::PlanTarget;
@@ -81,30 +83,42 @@ impl Compared<'_, '_, '_, '_> {
         functions
     }
 
+    /// The finding that rivals change this function of the target too, and all others that the same rivals change. `None` if
+    /// none does, or if the function is in `done`, to which those of the finding are added.
+    #[tactic(auto, unfolding(klp_lint_findings::specs::Claims::IsTrue))]
+    fn same(&self, target: &PlanTarget, function: usize, done: &mut FunctionSet) -> Option<Finding>
+        ensures { IfSome result (IsTrue self.now.linted (standing self.now.manager.now)) }
+    {
+        let (patch, place) = (self.patch, self.place);
+        let others = self.others(function);
+        if others.as_slice().is_empty() || done.contains(function) {
+            return None;
+        }
+        let functions = self.functions(target, &others);
+        done.insert_all(&functions);
+        let same = LoadFinding::SameFunctions {
+            others,
+            place,
+            functions,
+        };
+        Some(Finding::Load(patch, same))
+    }
+
     /// Adds the functions of the target that rivals change too. Functions that the same rivals change are one finding.
     fn find(&self, found: &mut Findings<'_>, target: &PlanTarget) -> Result<(), AllocError>
-        ensures { IfOk result (λ done. Grows found.old found.new) }
+        ensures { IfOk result
+            (λ done. Adds (IsTrue self.now.linted (standing self.now.manager.now)) found.old found.new) }
     {
         let mut done = FunctionSet::new();
-        let (patch, place) = (self.patch, self.place);
         for number in 0..target.functions.len() {
-            let others = self.others(number);
-            if !others.as_slice().is_empty() && !done.contains(number) {
-                let functions = self.functions(target, &others);
-                done.insert_all(&functions);
-                let same = LoadFinding::SameFunctions {
-                    others,
-                    place,
-                    functions,
-                };
-                found.add(Finding::Load(patch, same))?;
-            }
+            found.add_some(self.same(target, number, &mut done))?;
         }
         Ok(())
     }
 }
 
 /// Adds the functions that a patch and others change both, if neither is cumulative and both may be installed.
+#[tactic(auto, using(klp_lint_findings::proofs::SayLemmas::adds_still))]
 pub(crate) fn find_same_functions(
     found: &mut Findings<'_>,
     manager: &Manager,
@@ -112,7 +126,7 @@ pub(crate) fn find_same_functions(
     changed: &ChangedSites,
     patch: PatchId,
 ) -> Result<(), AllocError>
-    ensures { IfOk result (λ done. Grows found.old found.new) }
+    ensures { IfOk result (λ done. AddsTrue (standing manager.now) found.old found.new) }
 {
     let linted = found.linted;
     let Some(own) = linted.patch(patch) else {

@@ -1,13 +1,14 @@
 //! Loads patches one after another, and takes the loading back. Afterwards the manager's state is as before, except for
 //! the counts of its callbacks.
-ghost use Rattle.std.specs.Prelude.{◌≡◌, ◌≤◌, length, IfOk};
+ghost use Rattle.std.specs.Prelude.{◌≡◌, ◌≤◌, true, length, IfOk};
 ghost use Rattle.klp_core.specs.Journaled.{IsWellFormed, Journaled};
 ghost use Rattle.klp_core.specs.Taking.{answer_in};
 ghost use Rattle.klp_manager_state.specs.Managed.{setting_of};
 ghost use Rattle.klp_model.specs.declared.event.Event.TheVariants as AnyEvent;
 ghost use Rattle.klp_lint_together.specs.declared.loading.LoadOutcome.TheVariants as AnyOutcome;
+ghost use Rattle.klp_lint_findings.specs.Standing.{standing, answer_at};
 ghost use Rattle.klp_lint_together.specs.Kept.{IsAsBefore, IsFurther};
-ghost use Rattle.klp_lint_together.specs.Starting.{outcome_of, CanStart};
+ghost use Rattle.klp_lint_together.specs.Starting.{outcome_of, Tells, CanStart};
 
 use crate::twice::{TwiceAdded, twice_added};
 use klp_core::Manager;
@@ -80,6 +81,16 @@ pub(crate) struct Tried {
 /// The types that are parts of a try. The borrow checker covers a function that owns a list of tries only if the function
 /// names all these types.
 type Parts = (LoadOutcome, End, ObjId, ShadowKey);
+
+impl LoadOutcome {
+    /// Whether the transition started.
+    pub(crate) fn is_started(self) -> bool
+        ensures started { result ≡ true → self ≡ AnyOutcome.Started }
+        ensures others { self ≡ AnyOutcome.Started → result ≡ true }
+    {
+        matches!(self, LoadOutcome::Started)
+    }
+}
 
 impl Tried {
     /// Whether the patch is loaded, and its transition completes.
@@ -186,6 +197,7 @@ pub(crate) fn finish(manager: &mut Manager) -> End
 
 /// The outcome of loading a patch now by the rules alone, and how its transition ends.
 fn try_ruled(manager: &mut Manager, patch: PatchId) -> Tried
+    ensures tells { Tells (answer_at (standing manager.old) (AnyEvent.Enable patch)) result.outcome }
     ensures starts { result.outcome ≡ AnyOutcome.Started
         → CanStart (setting_of manager.old.managed) manager.old.managed.state patch }
     ensures kept { IsAsBefore manager.old manager.new }
@@ -201,6 +213,7 @@ fn try_ruled(manager: &mut Manager, patch: PatchId) -> Tried
 
 /// The outcome of loading a patch now, by the rules and by marks, and how its transition ends.
 pub(crate) fn try_now(linted: &Linted<'_>, manager: &mut Manager, patch: PatchId) -> Tried
+    ensures tells { Tells (answer_at (standing manager.old) (AnyEvent.Enable patch)) result.outcome }
     ensures starts { result.outcome ≡ AnyOutcome.Started
         → CanStart (setting_of manager.old.managed) manager.old.managed.state patch }
     ensures kept { IsAsBefore manager.old manager.new }

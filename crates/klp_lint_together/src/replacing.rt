@@ -1,6 +1,7 @@
 //! Finds what a cumulative patch does to the patches that it takes out.
-ghost use Rattle.std.specs.Prelude.{◌≡◌, IfOk};
-ghost use Rattle.klp_lint_findings.specs.Sound.{Grows};
+ghost use Rattle.std.specs.Prelude.{◌≡◌, IfOk, IfSome};
+ghost use Rattle.klp_lint_findings.specs.Claims.{IsTrue, AddsTrue};
+ghost use Rattle.klp_lint_findings.specs.Standing.{standing};
 ghost use Rattle.klp_lint_together.specs.Kept.{IsAsBefore};
 
 use crate::loading::{End, Loading, Outcomes, end_of, events_for, run, take_back};
@@ -8,7 +9,9 @@ use crate::twice::{TwiceAdded, is_there, twice_added};
 use klp_catalog_text::PlanPatch;
 use klp_core::Manager;
 use klp_lint_changes::{Change, ChangedSites, change_of, keys_changed, lost_functions};
-use klp_lint_findings::{Finding, Findings, PatchList, ReplaceFinding, is_understood, names_state};
+use klp_lint_findings::{
+    Finding, Findings, Linted, PatchList, ReplaceFinding, is_understood, names_state,
+};
 use klp_model::Event;
 use klp_types::{PatchId, ShadowKey};
 use std::alloc::{AllocError, Global};
@@ -51,7 +54,7 @@ fn patches_taken_out(manager: &Manager, outcomes: &Outcomes, patch: PatchId) -> 
 /// Whether a patch that is taken out is the one whose value the cumulative patch takes over: no newer installed patch
 /// names the state.
 fn is_newest_with(
-    found: &Findings<'_>,
+    linted: &Linted<'_>,
     manager: &Manager,
     outcomes: &Outcomes,
     other: PatchId,
@@ -60,7 +63,6 @@ fn is_newest_with(
     if outcomes.free.contains(other) {
         return true;
     }
-    let linted = found.linted;
     let installed = manager.installed();
     let newest = installed
         .as_slice()
@@ -85,38 +87,97 @@ fn value_lost(manager: &mut Manager, outcomes: &Outcomes, other: PatchId, id: u6
 }
 
 /// Whether all callbacks of both patches for loaded objects are understood.
-fn are_understood(found: &Findings<'_>, manager: &Manager, patch: PatchId, other: PatchId) -> bool {
-    let linted = found.linted;
-    is_understood(&linted, manager, patch) && is_understood(&linted, manager, other)
+fn are_understood(linted: &Linted<'_>, manager: &Manager, patch: PatchId, other: PatchId) -> bool {
+    is_understood(linted, manager, patch) && is_understood(linted, manager, other)
 }
 
-/// Adds what becomes of a system state of a patch that is taken out: it is taken over, or forgotten. It is forgotten if
-/// the patch has changed it from 0, and no callback of the cumulative patch changes it.
-fn find_state(
-    found: &mut Findings<'_>,
+/// The finding that a cumulative patch takes over the value that a patch which it takes out has of a system state. `None` if
+/// a newer installed patch names the state.
+#[tactic(auto, unfolding(klp_lint_findings::specs::Claims::IsTrue))]
+fn takes_over(
+    linted: &Linted<'_>,
+    manager: &Manager,
+    outcomes: &Outcomes,
+    patch: PatchId,
+    other: PatchId,
+    id: u64,
+) -> Option<Finding>
+    ensures { IfSome result (IsTrue linted.now (standing manager.now)) }
+{
+    if !is_newest_with(linted, manager, outcomes, other, id) {
+        return None;
+    }
+    Some(Finding::Replace(patch, ReplaceFinding::TakesOver { other, id }))
+}
+
+/// The finding that a cumulative patch forgets the value that a patch which it takes out has of a system state. `None` if the
+/// value is 0.
+#[tactic(auto, unfolding(klp_lint_findings::specs::Claims::IsTrue))]
+fn forgets(
+    linted: &Linted<'_>,
+    manager: &mut Manager,
+    outcomes: &Outcomes,
+    patch: PatchId,
+    other: PatchId,
+    id: u64,
+) -> Option<Finding>
+    ensures claims { IfSome result (IsTrue linted.now (standing manager.old)) }
+    ensures kept { IsAsBefore manager.old manager.new }
+{
+    let is_sure = are_understood(linted, manager, patch, other);
+    if value_lost(manager, outcomes, other, id).unwrap_or(0) == 0 {
+        return None;
+    }
+    Some(Finding::Replace(patch, ReplaceFinding::Forgets { other, id, is_sure }))
+}
+
+/// What becomes of a system state of a patch that is taken out: it is taken over, or forgotten. It is forgotten if the patch
+/// has changed it from 0, and no callback of the cumulative patch changes it. `None` if neither.
+fn state_lost(
+    linted: &Linted<'_>,
     manager: &mut Manager,
     outcomes: &Outcomes,
     own: &Cumulative<'_>,
     other: PatchId,
     id: u64,
-) -> Result<(), AllocError>
-    ensures grows { IfOk result (λ done. Grows found.old found.new) }
-    ensures kept { IfOk result (λ done. IsAsBefore manager.old manager.new) }
+) -> Option<Finding>
+    ensures claims { IfSome result (IsTrue linted.now (standing manager.old)) }
+    ensures kept { IsAsBefore manager.old manager.new }
 {
     let Cumulative { patch, plan } = *own;
     if !names_state(plan, id) {
-        return Ok(());
+        return None;
     }
     match change_of(manager, plan, id) {
-        Change::TakesOver if is_newest_with(found, manager, outcomes, other, id) => found.add(
-            Finding::Replace(patch, ReplaceFinding::TakesOver { other, id }),
-        ),
-        Change::Nothing if value_lost(manager, outcomes, other, id).unwrap_or(0) != 0 => {
-            let is_sure = are_understood(found, manager, patch, other);
-            found.add(Finding::Replace(patch, ReplaceFinding::Forgets { other, id, is_sure }))
-        }
-        _ => Ok(()),
+        Change::TakesOver => takes_over(linted, manager, outcomes, patch, other, id),
+        Change::Nothing => forgets(linted, manager, outcomes, patch, other, id),
+        Change::Sets => None,
     }
+}
+
+/// The finding that a cumulative patch doesn't change functions of a target of a patch that it takes out. `None` if it changes
+/// all of them.
+#[tactic(auto, unfolding(klp_lint_findings::specs::Claims::IsTrue))]
+fn functions_lost(
+    linted: &Linted<'_>,
+    manager: &Manager,
+    changed: &ChangedSites,
+    patch: PatchId,
+    other: PatchId,
+    place: usize,
+) -> Option<Finding>
+    ensures { IfSome result (IsTrue linted.now (standing manager.now)) }
+{
+    let functions = lost_functions(linted, manager, changed, other, place, patch);
+    if functions.count() == 0 {
+        return None;
+    }
+    let loses = ReplaceFinding::LosesFunctions {
+        other,
+        place,
+        functions,
+    };
+    Some(Finding::Replace(patch, loses))
 }
 
 /// Adds the functions of a patch that is taken out which the cumulative patch doesn't change, by object.
@@ -127,22 +188,14 @@ fn find_lost_functions(
     patch: PatchId,
     other: PatchId,
 ) -> Result<(), AllocError>
-    ensures { IfOk result (λ done. Grows found.old found.new) }
+    ensures { IfOk result (λ done. AddsTrue (standing manager.now) found.old found.new) }
 {
     let linted = found.linted;
     let Some(gone) = linted.patch(other) else {
         return Ok(());
     };
     for place in 0..gone.targets.len() {
-        let functions = lost_functions(&linted, manager, changed, other, place, patch);
-        if functions.count() > 0 {
-            let loses = ReplaceFinding::LosesFunctions {
-                other,
-                place,
-                functions,
-            };
-            found.add(Finding::Replace(patch, loses))?;
-        }
+        found.add_some(functions_lost(&linted, manager, changed, patch, other, place))?;
     }
     Ok(())
 }
@@ -180,89 +233,111 @@ fn stays_so(manager: &mut Manager, events: &Loading, key: ShadowKey, is_wanted: 
     true
 }
 
+/// A cumulative patch, and one that it takes out.
+#[derive(Clone, Copy)]
+struct Replacing {
+    patch: PatchId,
+    other: PatchId,
+    /// Whether all callbacks of both are understood.
+    is_sure: bool,
+}
+
 /// What becomes of a variable that a patch changes, if another patch takes it out and is then itself taken out. `None`
 /// if it is as before, or not as the first patch left it.
+#[tactic(auto, unfolding(klp_lint_findings::specs::Claims::IsTrue))]
 fn variable_lost(
+    linted: &Linted<'_>,
     manager: &mut Manager,
     events: &Loading,
-    other: PatchId,
+    replacing: &Replacing,
     key: ShadowKey,
-    is_sure: bool,
-) -> Option<ReplaceFinding>
-    ensures { IsAsBefore manager.old manager.new }
+) -> Option<Finding>
+    ensures claims { IfSome result (IsTrue linted.now (standing manager.old)) }
+    ensures kept { IsAsBefore manager.old manager.new }
 {
+    let Replacing {
+        patch,
+        other,
+        is_sure,
+    } = *replacing;
     let was_there = manager.shadow_get(key).is_some();
     if !stays_so(manager, events, key, !was_there) {
         return None;
     }
     if !was_there {
-        return Some(ReplaceFinding::Leaves {
+        let leaves = ReplaceFinding::Leaves {
             other,
             key,
             is_sure,
-        });
+        };
+        return Some(Finding::Replace(patch, leaves));
     }
     let alone = events_withdrawing(other);
-
-    if is_there(manager, alone.events(), key) {
-        Some(ReplaceFinding::Loses {
-            other,
-            key,
-            is_sure,
-        })
-    } else {
-        None
+    if !is_there(manager, alone.events(), key) {
+        return None;
     }
+    let loses = ReplaceFinding::Loses {
+        other,
+        key,
+        is_sure,
+    };
+    Some(Finding::Replace(patch, loses))
 }
 
-/// Adds that a patch which was taken out can't be loaded again after these events, since a variable is left that its
-/// pre-patch adds.
-fn find_not_again(
-    found: &mut Findings<'_>,
+/// The finding that a patch which was taken out can't be loaded again after these events, since a variable is left that its
+/// pre-patch adds. `None` if it can.
+#[tactic(auto, unfolding(klp_lint_findings::specs::Claims::IsTrue))]
+fn not_again(
+    linted: &Linted<'_>,
     manager: &mut Manager,
     events: &Loading,
-    patch: PatchId,
-    other: PatchId,
-) -> Result<(), AllocError>
-    ensures grows { IfOk result (λ done. Grows found.old found.new) }
-    ensures kept { IfOk result (λ done. IsAsBefore manager.old manager.new) }
+    replacing: &Replacing,
+) -> Option<Finding>
+    ensures claims { IfSome result (IsTrue linted.now (standing manager.old)) }
+    ensures kept { IsAsBefore manager.old manager.new }
 {
-    let linted = found.linted;
-    match twice_added(&linted, manager, events.events(), other) {
-        Some(TwiceAdded { key, .. }) => {
-            found.add(Finding::Replace(patch, ReplaceFinding::NotAgain { other, key }))
-        }
-        None => Ok(()),
-    }
+    let Replacing { patch, other, .. } = *replacing;
+    let TwiceAdded { key, .. } = twice_added(linted, manager, events.events(), other)?;
+    Some(Finding::Replace(patch, ReplaceFinding::NotAgain { other, key }))
 }
 
 /// Adds the variables that a patch changes, and that stay changed since its own callbacks don't run when it is taken
-/// out. Adds nothing if the cumulative patch can't be removed.
+/// out. Adds nothing if the patch is installed already, or if the cumulative patch can't be removed.
+#[tactic(auto, using(klp_lint_findings::proofs::SayLemmas::adds_still))]
 fn find_lost_variables(
     alloc: Global,
     found: &mut Findings<'_>,
     manager: &mut Manager,
+    outcomes: &Outcomes,
     patch: PatchId,
     other: PatchId,
     gone: &PlanPatch,
 ) -> Result<(), AllocError>
-    ensures grows { IfOk result (λ done. Grows found.old found.new) }
+    ensures adds { IfOk result (λ done. AddsTrue (standing manager.old) found.old found.new) }
     ensures kept { IfOk result (λ done. IsAsBefore manager.old manager.new) }
 {
+    if !outcomes.free.contains(other) {
+        return Ok(());
+    }
+    let linted = found.linted;
     let mut events = events_replacing(other, patch);
     if end_of(manager, events.events()) != End::Completed {
         return Ok(());
     }
     // `end_of` took its poll back, and the callbacks that could free a variable run in this poll
     events.push(Event::Poll);
-    let is_sure = are_understood(found, manager, patch, other);
+    let is_sure = are_understood(&linted, manager, patch, other);
+    let replacing = Replacing {
+        patch,
+        other,
+        is_sure,
+    };
     let keys = keys_changed(alloc, manager, gone)?;
     for key in keys.as_slice() {
-        if let Some(lost) = variable_lost(manager, &events, other, *key, is_sure) {
-            found.add(Finding::Replace(patch, lost))?;
-        }
+        found.add_some(variable_lost(&linted, manager, &events, &replacing, *key))?;
     }
-    find_not_again(found, manager, &events, patch, other)
+    found.add_some(not_again(&linted, manager, &events, &replacing))?;
+    Ok(())
 }
 
 /// Adds what is lost of a patch that is taken out.
@@ -275,7 +350,7 @@ fn find_lost(
     own: &Cumulative<'_>,
     other: PatchId,
 ) -> Result<(), AllocError>
-    ensures grows { IfOk result (λ done. Grows found.old found.new) }
+    ensures adds { IfOk result (λ done. AddsTrue (standing manager.old) found.old found.new) }
     ensures kept { IfOk result (λ done. IsAsBefore manager.old manager.new) }
 {
     let linted = found.linted;
@@ -283,16 +358,15 @@ fn find_lost(
         return Ok(());
     };
     for state in gone.states.iter() {
-        find_state(found, manager, outcomes, own, other, state.id)?;
+        found.add_some(state_lost(&linted, manager, outcomes, own, other, state.id))?;
     }
     find_lost_functions(found, manager, changed, own.patch, other)?;
-    if outcomes.free.contains(other) {
-        find_lost_variables(alloc, found, manager, own.patch, other, gone)?;
-    }
+    find_lost_variables(alloc, found, manager, outcomes, own.patch, other, gone)?;
     Ok(())
 }
 
 /// Adds which patches a cumulative patch takes out, and what is lost of them.
+#[tactic(auto, using(klp_lint_findings::proofs::SayLemmas::adds_still))]
 pub(crate) fn find_replacing(
     alloc: Global,
     found: &mut Findings<'_>,
@@ -301,7 +375,7 @@ pub(crate) fn find_replacing(
     changed: &ChangedSites,
     patch: PatchId,
 ) -> Result<(), AllocError>
-    ensures grows { IfOk result (λ done. Grows found.old found.new) }
+    ensures adds { IfOk result (λ done. AddsTrue (standing manager.old) found.old found.new) }
     ensures kept { IfOk result (λ done. IsAsBefore manager.old manager.new) }
 {
     let linted = found.linted;

@@ -1,8 +1,9 @@
 //! Finds out what happens to patches that are loaded over others. Each patch is loaded alone, over one other patch, and
 //! over two others.
-ghost use Rattle.std.specs.Prelude.{◌≡◌, ℕ, ◌<◌, ◌≤◌, length, None, IfOk};
+ghost use Rattle.std.specs.Prelude.{◌≡◌, ℕ, ◌<◌, ◌≤◌, length, None, IfOk, IfSome};
 ghost use Rattle.klp_manager_state.specs.Managed.{setting_of};
-ghost use Rattle.klp_lint_findings.specs.Sound.{Grows};
+ghost use Rattle.klp_lint_findings.specs.Claims.{IsTrue, AddsTrue};
+ghost use Rattle.klp_lint_findings.specs.Standing.{standing};
 ghost use Rattle.klp_lint_together.specs.Kept.{IsAsBefore};
 ghost use Rattle.klp_lint_together.specs.Starting.{StartsUnlessReported};
 
@@ -20,45 +21,40 @@ use klp_lint_findings::{
 use klp_types::PatchId;
 use std::alloc::{AllocError, Global};
 
-/// Adds that a patch can't be loaded over the patches in `below`, if it can't.
-fn find_not_loaded(
-    found: &mut Findings<'_>,
+/// The finding that a patch can't be loaded over the patches in `below`. `None` if it can.
+#[tactic(auto, unfolding(klp_lint_findings::specs::Claims::IsTrue))]
+fn not_loaded(
+    linted: &Linted<'_>,
     manager: &Manager,
     below: &[PatchId],
     patch: PatchId,
     outcome: LoadOutcome,
-) -> Result<(), AllocError>
-    ensures { IfOk result (λ done. Grows found.old found.new) }
+) -> Option<Finding>
+    ensures { IfSome result (IsTrue linted.now (standing manager.now)) }
 {
-    let Some(why) = why_of(&found.linted, manager, below, patch, outcome) else {
-        return Ok(());
-    };
+    let why = why_of(linted, manager, below, patch, outcome)?;
     let below = PatchList::of(below);
-    found.add(Finding::Load(patch, LoadFinding::NotOver { below, why }))
+    Some(Finding::Load(patch, LoadFinding::NotOver { below, why }))
 }
 
-/// Adds that a patch can't be loaded over another one, if it can't. Adds nothing if the outcome is the same alone.
-fn find_over_one(
-    found: &mut Findings<'_>,
+/// The finding that a patch can't be loaded over another one. `None` if it can, or if the outcome is the same alone.
+fn over_one(
+    linted: &Linted<'_>,
     manager: &Manager,
     outcomes: &Outcomes,
     below: PatchId,
     patch: PatchId,
     tally: &mut Tally,
-) -> Result<(), AllocError>
-    ensures { IfOk result (λ done. Grows found.old found.new) }
+) -> Option<Finding>
+    ensures { IfSome result (IsTrue linted.now (standing manager.now)) }
 {
-    let (Some(alone), Some(over)) = (
-        outcomes.over(None, patch),
-        outcomes.over(Some(below), patch),
-    ) else {
-        return Ok(());
-    };
+    let alone = outcomes.over(None, patch)?;
+    let over = outcomes.over(Some(below), patch)?;
     tally.add(over.outcome == LoadOutcome::Started);
     if over.outcome == alone.outcome {
-        return Ok(());
+        return None;
     }
-    find_not_loaded(found, manager, &[below], patch, over.outcome)
+    not_loaded(linted, manager, &[below], patch, over.outcome)
 }
 
 /// Adds what happens to a patch over each other one.
@@ -69,10 +65,11 @@ fn find_for(
     patch: PatchId,
     tally: &mut Tally,
 ) -> Result<(), AllocError>
-    ensures { IfOk result (λ done. Grows found.old found.new) }
+    ensures { IfOk result (λ done. AddsTrue (standing manager.now) found.old found.new) }
 {
+    let linted = found.linted;
     for below in outcomes.free.as_slice() {
-        find_over_one(found, manager, outcomes, *below, patch, tally)?;
+        found.add_some(over_one(&linted, manager, outcomes, *below, patch, tally))?;
     }
     Ok(())
 }
@@ -94,33 +91,53 @@ fn has_outcome(outcomes: &Outcomes, below: PatchId, patch: PatchId, outcome: &Lo
     }
 }
 
-/// Loads each patch that isn't in the pair over the pair. Adds those that can't be loaded, unless the outcome is the
-/// same over one of the two.
+/// The finding that a patch can't be loaded over a pair of others. `None` if it can, or if the outcome is the same over one
+/// of the two.
+fn over_pair(
+    linted: &Linted<'_>,
+    manager: &Manager,
+    outcomes: &Outcomes,
+    pair: &PatchList,
+    patch: PatchId,
+    outcome: LoadOutcome,
+) -> Option<Finding>
+    ensures { IfSome result (IsTrue linted.now (standing manager.now)) }
+{
+    let below = pair.as_slice();
+    if below
+        .iter()
+        .any(|it| has_outcome(outcomes, *it, patch, &outcome))
+    {
+        return None;
+    }
+    not_loaded(linted, manager, below, patch, outcome)
+}
+
+/// Loads each other patch over a pair of patches, if these stay loaded together. Adds those that can't be loaded, unless
+/// the outcome is the same over one of the two.
+#[tactic(auto, using(klp_lint_findings::proofs::SayLemmas::adds_still))]
 fn find_over_pair(
     alloc: Global,
     found: &mut Findings<'_>,
     manager: &mut Manager,
     outcomes: &Outcomes,
-    pair: &PatchList,
+    first: PatchId,
+    second: PatchId,
     tally: &mut Tally,
 ) -> Result<(), AllocError>
-    ensures grows { IfOk result (λ done. Grows found.old found.new) }
+    ensures adds { IfOk result (λ done. AddsTrue (standing manager.old) found.old found.new) }
     ensures kept { IfOk result (λ done. IsAsBefore manager.old manager.new) }
 {
     let linted = found.linted;
+    if !is_pair(&linted, outcomes, first, second) {
+        return Ok(());
+    }
+    let pair = PatchList::of(&[first, second]);
     let others = all_but(&outcomes.free, pair.as_slice());
     let row = try_each(alloc, &linted, manager, pair.as_slice(), &others)?;
     for (patch, tried) in others.as_slice().iter().zip(row.as_slice().iter()) {
         tally.add(tried.outcome == LoadOutcome::Started);
-        let is_known = pair.as_slice().iter().any(|below| has_outcome(
-            outcomes,
-            *below,
-            *patch,
-            &tried.outcome,
-        ));
-        if !is_known {
-            find_not_loaded(found, manager, pair.as_slice(), *patch, tried.outcome)?;
-        }
+        found.add_some(over_pair(&linted, manager, outcomes, &pair, *patch, tried.outcome))?;
     }
     Ok(())
 }
@@ -133,15 +150,12 @@ fn find_over_pairs(
     outcomes: &Outcomes,
     tally: &mut Tally,
 ) -> Result<(), AllocError>
-    ensures grows { IfOk result (λ done. Grows found.old found.new) }
+    ensures adds { IfOk result (λ done. AddsTrue (standing manager.old) found.old found.new) }
     ensures kept { IfOk result (λ done. IsAsBefore manager.old manager.new) }
 {
     for first in outcomes.free.as_slice() {
         for second in outcomes.free.as_slice() {
-            if is_pair(&found.linted, outcomes, *first, *second) {
-                let pair = PatchList::of(&[*first, *second]);
-                find_over_pair(alloc, found, manager, outcomes, &pair, tally)?;
-            }
+            find_over_pair(alloc, found, manager, outcomes, *first, *second, tally)?;
         }
     }
     Ok(())
@@ -155,7 +169,7 @@ fn find_over_ones(
     outcomes: &Outcomes,
     tally: &mut Tally,
 ) -> Result<(), AllocError>
-    ensures grows { IfOk result (λ done. Grows found.old found.new) }
+    ensures adds { IfOk result (λ done. AddsTrue (standing manager.old) found.old found.new) }
     ensures kept { IfOk result (λ done. IsAsBefore manager.old manager.new) }
 {
     let changed = ChangedSites::new(alloc, manager, found.linted.patches.len())?;
@@ -174,7 +188,7 @@ fn find_orders(
     outcomes: &Outcomes,
     mut together: Together,
 ) -> Result<(), AllocError>
-    ensures grows { IfOk result (λ done. Grows found.old found.new) }
+    ensures adds { IfOk result (λ done. AddsTrue (standing manager.old) found.old found.new) }
     ensures kept { IfOk result (λ done. IsAsBefore manager.old manager.new) }
 {
     if outcomes.free.as_slice().len() < 2 {
@@ -197,7 +211,7 @@ pub fn judge_together(
         → length found.old.linted.patches.now ≤ 256
         → (patch : ℕ) → patch < length found.old.linted.patches.now
         → StartsUnlessReported (setting_of manager.old.managed) manager.old.managed.state patch found.new) }
-    ensures grows { IfOk result (λ done. Grows found.old found.new) }
+    ensures adds { IfOk result (λ done. AddsTrue (standing manager.old) found.old found.new) }
     ensures kept { IfOk result (λ done. IsAsBefore manager.old manager.new) }
 {
     if manager.moving().is_some() {

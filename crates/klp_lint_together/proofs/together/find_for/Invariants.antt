@@ -1,6 +1,7 @@
--- What was found so far is kept.
-use Rattle.klp_lint_findings.specs.Sound.{Grows}
+-- What was found so far is true.
+use Rattle.klp_lint_findings.specs.Claims.{AddsTrue}
+use Rattle.klp_lint_findings.specs.Standing.{standing}
 use Rattle.klp_lint_together.proofs.together.find_for.Given as goal
 
 abbrev pub invariant-loop-below : goal.invariant-loop-below
-invariant-loop-below g l = Grows l.fn.found l.found
+invariant-loop-below g l = AddsTrue (standing l.fn.manager) l.fn.found l.found

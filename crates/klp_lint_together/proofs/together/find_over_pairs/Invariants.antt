@@ -1,10 +1,11 @@
--- What was found so far is kept, and the manager is as before.
-use Rattle.klp_lint_findings.specs.Sound.{Grows}
+-- What was found so far is true, and the manager is as before.
+use Rattle.klp_lint_findings.specs.Claims.{AddsTrue}
+use Rattle.klp_lint_findings.specs.Standing.{standing}
 use Rattle.klp_lint_together.specs.Kept.{IsAsBefore}
 use Rattle.klp_lint_together.proofs.together.find_over_pairs.Given as goal
 
 abbrev pub invariant-loop-first : goal.invariant-loop-first
-invariant-loop-first g l = record { grows : Grows l.fn.found l.found; kept : IsAsBefore l.fn.manager l.manager }
+invariant-loop-first g l = record { adds : AddsTrue (standing l.fn.manager) l.fn.found l.found; kept : IsAsBefore l.fn.manager l.manager }
 
 abbrev pub invariant-loop-second : goal.invariant-loop-second
-invariant-loop-second g l = record { grows : Grows l.fn.found l.found; kept : IsAsBefore l.fn.manager l.manager }
+invariant-loop-second g l = record { adds : AddsTrue (standing l.fn.manager) l.fn.found l.found; kept : IsAsBefore l.fn.manager l.manager }
