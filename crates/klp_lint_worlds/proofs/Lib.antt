@@ -1,5 +1,6 @@
 pub mod LineLemmas
 pub mod ModuleLemmas
 pub mod ReadyLemmas
+pub mod TruthLemmas
 pub mod ScriptLemmas
 pub mod WholeLemmas

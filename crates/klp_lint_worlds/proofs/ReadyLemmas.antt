@@ -15,7 +15,7 @@ use Rattle.klp_lint_findings.specs.Sound.{one_decides, Grows, IsRight, VouchesBe
 use Rattle.klp_lint_together.specs.Starting.{CanStart, StartsUnlessReported}
 use Rattle.klp_core.specs.Journaled.{Journaled}
 use Rattle.klp_lint_findings.specs.declared.linted.NamedText.{NamedText}
-use Rattle.klp_lint_worlds.specs.Worlds.{with_modules, IsReady, Assures, AssuresAll, IsScripted, Keeps}
+use Rattle.klp_lint_worlds.specs.Worlds.{with_modules, IsReady, Assures, AssuresAll, IsScripted}
 
 -- the first of two tests that both fail fails
 first_fails : (said unknown : Bool) → (not said && not unknown) ≡ true → said ≡ false
@@ -81,7 +81,7 @@ assured_now before sealed zero one two same vouches first second starts few =
     (λ still patch below. starts still (subst (λ (n : ℕ). n ≤ 256) (sym counted) few) patch (subst (λ (n : ℕ). patch < n) (sym counted) below)) in
     subst (λ (m : Managed). Assures (setting_of m) m.state (length zero.linted.patches.now) two) same own
 
-scripted_on : (start there : Journaled) (script : List ℕ) (one two : Findings) → (one_decides one.said.items ≡ true → one_decides two.said.items ≡ true)
+pub scripted_on : (start there : Journaled) (script : List ℕ) (one two : Findings) → (one_decides one.said.items ≡ true → one_decides two.said.items ≡ true)
     → IsScripted start there script one → IsScripted start there script two
 scripted_on start there script one two kept scripted = record {
   answers = scripted.answers;

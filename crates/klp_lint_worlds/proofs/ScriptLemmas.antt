@@ -17,9 +17,13 @@ use Rattle.klp_console_commands.specs.declared.request.Request.TheVariants.{Take
 use Rattle.klp_console_commands.specs.Lines.{request_of}
 use Rattle.klp_console.specs.Answered.{Answer, IsAnswered, IsDoneIf, IsRewoundAs, names_in}
 use Rattle.klp_console.specs.Lines.{lines_of, AreAnswered}
+use Rattle.klp_lint_findings.specs.declared.finding.Finding.TheVariants.{Line}
+use Rattle.klp_lint_findings.specs.declared.finding.RefusedLine.{RefusedLine}
 use Rattle.klp_lint_findings.specs.declared.findings.Findings.{Findings}
+use Rattle.klp_lint_findings.specs.Saying.{Adds}
 use Rattle.klp_lint_findings.specs.Sound.{one_decides, Grows}
-use Rattle.klp_lint_worlds.specs.Worlds.{one_is_refused, IsLineDone, IsLineReported, IsScripted}
+use Rattle.klp_lint_findings.proofs.SayLemmas.{adds_as}
+use Rattle.klp_lint_worlds.specs.Worlds.{one_is_refused, IsLine, IsLineDone, IsLineReported, IsScripted}
 
 same_setting : (before after : Journaled) → after ≡ before → setting_of after.managed ≡ setting_of before.managed
 same_setting before after same = ap (λ (m : Journaled). setting_of m.managed) same
@@ -57,6 +61,10 @@ answered_on start now next (first ∷ lines) [] line answer wrong one = absurd w
 answered_on start now next (first ∷ lines) (sent ∷ answers) line answer (there, done, more) one =
     (there, done, answered_on there now next lines answers line answer more one)
 
+-- a line that is refused is a finding about a line
+pub line_added : (one two : Findings) (line : RefusedLine) → Adds (λ other. other ≡ Line line) one two → Adds IsLine one two
+line_added one two line adds = adds_as {P = λ other. other ≡ Line line} {Q = IsLine} (λ other is. (line, is)) adds
+
 last_alone : (last : Bool) → (last || false) ≡ true → last ≡ true
 last_alone true h = refl
 last_alone false h = absurd (cc)
@@ -71,13 +79,6 @@ refused_on : (answers : List Answer) (answer : Answer) → one_is_refused (answe
 refused_on [] answer h = inr (last_alone answer.is_refused h)
 refused_on (first ∷ answers) answer h =
     one_or_last first.is_refused (one_is_refused answers) (one_is_refused (answers ++ answer ∷ [])) answer.is_refused (refused_on answers answer) h
-
-pub grows_on : {one two three : Findings} → Grows one two → Grows two three → Grows one three
-grows_on first second = record {
-  linted = second.linted ∙ first.linted;
-  world = second.world ∙ first.world;
-  kept = λ h. second.kept (first.kept h);
-}
 
 -- The first lines of a script were done, and the rest wasn't yet.
 pub record IsDoneSoFar (start now : Journaled) (script rest : List ℕ) (found : Findings) : Type 0 where

@@ -26,8 +26,10 @@ use Rattle.klp_lint_findings.specs.declared.marks.Mark.{Mark}
 use Rattle.klp_lint_findings.specs.Deciding.{decides, is_unknown, is_clean}
 use Rattle.klp_lint_findings.specs.Marking.{has_unknown}
 use Rattle.klp_lint_findings.specs.Sound.{one_decides}
-use Rattle.klp_lint_worlds.specs.Worlds.{with_modules, one_is_refused, IsReady, Assures, AssuresAll, IsScripted}
-use Rattle.klp_lint_worlds.specs.Whole.{setting_of_plan, modules_in, AreReady, IsClean, IsBehind, IsCleanText, IsReadFrom}
+use Rattle.klp_lint_worlds.specs.Worlds.{with_modules, world_state, one_is_refused, IsReady, Assures, AssuresAll, IsScripted, AreAllTrue}
+use Rattle.klp_lint_worlds.specs.Whole.{setting_of_plan, modules_in, AreReady, IsClean, IsBehind, IsCleanText, IsReadFrom, AreSo, AreSoOver, AreSoOfText}
+use Rattle.klp_lint_findings.specs.Standing.{sealed}
+use Rattle.klp_lint_worlds.proofs.TruthLemmas.{so_of}
 
 -- what a booted manager has is what its plan says
 setting_is : (plan : Plan) (booted : Journaled) → IsBootedOver plan booted → ArePatchesOf (setting_of booted.managed) plan.patches
@@ -129,3 +131,55 @@ found_clean input read linted modules plan booted found law given patches marks 
     (ap (λ (l : Linted). list_any is_unknown l.marks.now) same ∙ ap (list_any is_unknown) marks ∙ from.unknown)
     (λ few. subst (λ (i : LintInput). AssuresAll booted i.script modules (length linted.patches.now) found) given (assures few))
     clean
+
+-- each finding is so of the text, if it is true of the manager that was booted over the text
+so_over : (plan : Plan) (booted : Journaled) (script : Option NamedText) (found : Findings) → IsBootedOver plan booted
+    → setting_of booted.managed ≡ setting_of_plan plan
+    → ArePatchesOf (setting_of booted.managed) found.linted.patches.now
+    → AreAllTrue booted script (modules_in plan) found → AreSoOver plan script found
+so_over plan booted None found is same patches truth =
+    let modules = modules_in plan in
+    let first : booted.managed.state ≡ opening_state (setting_of_plan plan) = is.state ∙ ap opening_state same in
+    subst (λ (s : State). AreSo (λ full. sealed (setting_of_plan plan) (world_state (setting_of_plan plan) s modules full)) found) first
+    (subst (λ (s : Setting). AreSo (λ full. sealed s (world_state s booted.managed.state modules full)) found) same
+    (so_of (λ full. sealed (setting_of booted.managed) (world_state (setting_of booted.managed) booted.managed.state modules full)) found
+    (λ full. patches) truth))
+so_over plan booted (Some script) found is same patches (there, scripted, kept, truth) = (
+  there.managed.state,
+  record {
+    booted = booted;
+    is_booted = is;
+    there = there;
+    answers = scripted.answers;
+    answered = scripted.answered;
+    is_state = refl;
+  },
+  subst (λ (s : Setting). AreSo (λ full. sealed s there.managed.state) found) same
+      (so_of (λ full. sealed (setting_of booted.managed) there.managed.state) found (λ full. patches) truth),
+)
+
+-- the same of a manager that was booted for it, over the text that was read
+pub found_so : (input : LintInput) (read : LintPlan) (linted : Linted) (modules : ℕ) (plan : Plan) (booted : Journaled) (found : Findings)
+    → ((managed : Managed) (patches : List PlanPatch) → managed.catalog.names ≡ names_of managed.image.objects
+    → map without_scripts managed.catalog.patches ≡ map without_scripts patches
+    → scripts_of managed.catalog.patches ≡ scripts_of patches → ArePatchesOf (setting_of managed) patches)
+    → linted.input ≡ input → linted.patches.now ≡ read.patches.items → modules ≡ length read.objects.items - 1
+    → plan_of input.catalog.bytes.now ≡ Ok plan → IsBootedOver plan booted → found.linted ≡ linted
+    → AreAllTrue booted linted.input.script modules found
+    → IsReadFrom input.catalog.bytes.now read → AreSoOfText input.catalog.bytes.now input.script found
+found_so input read linted modules plan booted found law given patches counted planned is same truth from =
+    let text = input.catalog.bytes.now in
+    let one : from.plan ≡ plan = same_plan text from.plan plan from.is_plan planned in
+    let over = law booted.managed plan.patches (is.names ∙ sym (ap (λ (i : Image). names_of i.objects) is.image)) is.patches is.scripts in
+    let read_as : found.linted.patches.now ≡ plan.patches =
+    ap (λ (l : Linted). l.patches.now) same ∙ patches ∙ from.patches ∙ ap (λ (p : Plan). p.patches) one in
+    let own : ArePatchesOf (setting_of booted.managed) found.linted.patches.now = subst (ArePatchesOf (setting_of booted.managed)) (sym read_as) over in
+    let many : modules ≡ modules_in plan =
+    counted ∙ ap (λ (os : List Object). length os - 1) (from.objects ∙ ap (λ (p : Plan). p.objects) one) in
+    record {
+      plan = plan;
+      is_plan = planned;
+      so = so_over plan booted input.script found is (setting_is plan booted is over) own
+          (subst (λ (m : ℕ). AreAllTrue booted input.script m found) many
+          (subst (λ (i : LintInput). AreAllTrue booted i.script modules found) given truth));
+    }

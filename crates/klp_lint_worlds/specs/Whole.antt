@@ -14,10 +14,15 @@ use Rattle.klp_console.specs.Answered.{Answer}
 use Rattle.klp_console.specs.Lines.{lines_of, AreAnswered}
 use Rattle.klp_boot.specs.Booted.{IsBootedOver, image_of}
 use Rattle.klp_lint_findings.specs.declared.linted.NamedText.{NamedText}
+use Rattle.klp_lint_findings.specs.declared.finding.Finding.{Finding}
+use Rattle.klp_lint_findings.specs.declared.findings.Findings.{Findings}
+use Rattle.klp_lint_findings.specs.Claims.{Claims}
 use Rattle.klp_lint_findings.specs.Deciding.{is_unknown}
+use Rattle.klp_lint_findings.specs.Saying.{Says}
+use Rattle.klp_lint_findings.specs.Standing.{Standing, sealed}
 use Rattle.klp_lint_findings.specs.Marking.{has_unknown}
 use Rattle.klp_lint_worlds.specs.declared.lint_plan.LintPlan.{LintPlan}
-use Rattle.klp_lint_worlds.specs.Worlds.{with_modules, one_is_refused, IsReady}
+use Rattle.klp_lint_worlds.specs.Worlds.{with_modules, world_state, one_is_refused, IsReady}
 
 -- what stays of a manager that is booted over a plan: its image, and its patches over the names of that image
 abbrev pub setting_of_plan : Plan → Setting
@@ -55,6 +60,36 @@ pub record IsCleanText (text : List ℕ) (script : Option NamedText) : Type 0 wh
   pub is_plan : plan_of text ≡ Ok plan
   pub clean : IsClean plan script
   pub all_known : has_unknown text ≡ false
+
+-- The state is the one that a script leaves of a manager that was booted over the plan. Some of its lines may be refused.
+pub record IsLeftBy (plan : Plan) (script : List ℕ) (state : State) : Type 0 where
+  pub booted : Journaled
+  pub is_booted : IsBootedOver plan booted
+  pub there : Journaled
+  pub answers : List Answer
+  pub answered : AreAnswered booted there (lines_of script) answers
+  pub is_state : state ≡ there.managed.state
+
+-- each finding claims what is so of the world of which it is said
+abbrev pub AreSo : (Bool → Standing) → Findings → Type 0
+AreSo world found = (full : Bool) (finding : Finding) → Says found.said.items full finding → Claims found.linted (world full) finding
+
+-- Each finding claims what is so: without a script, of the world without modules or the one with all modules; with a script, of the
+-- state that it leaves.
+abbrev pub AreSoOver : Plan → Option NamedText → Findings → Type 0
+AreSoOver plan None found =
+    AreSo
+    (λ full. sealed (setting_of_plan plan)
+    (world_state (setting_of_plan plan) (opening_state (setting_of_plan plan)) (modules_in plan) full))
+    found
+AreSoOver plan (Some script) found =
+    (state : State) × IsLeftBy plan script.bytes.now state × AreSo (λ full. sealed (setting_of_plan plan) state) found
+
+-- the text is a catalog, and each finding of the list claims what is so of it
+pub record AreSoOfText (text : List ℕ) (script : Option NamedText) (found : Findings) : Type 0 where
+  pub plan : Plan
+  pub is_plan : plan_of text ≡ Ok plan
+  pub so : AreSoOver plan script found
 
 -- what was read is what the text says
 pub record IsReadFrom (text : List ℕ) (read : LintPlan) : Type 0 where

@@ -1,5 +1,5 @@
 -- The worlds in which the patches of a catalog are judged.
-use Rattle.std.specs.Prelude.{◌≡◌, ◌⊎◌, ℕ, zero, suc, ◌<◌, Bool, true, List, Option, Some, None}
+use Rattle.std.specs.Prelude.{◌≡◌, ◌⊎◌, ℕ, zero, suc, ◌<◌, Bool, true, false, List, Option, Some, None}
 use Rattle.std.specs.List.{list_any}
 use Rattle.klp_types.specs.Setting.{Setting}
 use Rattle.klp_model.specs.declared.event.Event.TheVariants.{Coming}
@@ -13,7 +13,14 @@ use Rattle.klp_console.specs.Lines.{lines_of, AreAnswered}
 use Rattle.klp_lint_findings.specs.declared.linted.NamedText.{NamedText}
 use Rattle.klp_lint_findings.specs.declared.findings.Findings.{Findings}
 use Rattle.klp_lint.specs.Premises.{ArePatchesOf}
+use Rattle.klp_lint_findings.specs.declared.finding.Finding.{Finding}
+use Rattle.klp_lint_findings.specs.declared.finding.Finding.TheVariants.{Line}
+use Rattle.klp_lint_findings.specs.declared.finding.RefusedLine.{RefusedLine}
+use Rattle.klp_lint_findings.specs.declared.findings.World.{World}
+use Rattle.klp_lint_findings.specs.Claims.{IsTrue}
 use Rattle.klp_lint_findings.specs.Deciding.{is_clean}
+use Rattle.klp_lint_findings.specs.Saying.{is_said_of, Says}
+use Rattle.klp_lint_findings.specs.Standing.{Standing, sealed}
 use Rattle.klp_lint_findings.specs.Sound.{one_decides}
 use Rattle.klp_lint_together.specs.Starting.{CanStart}
 
@@ -53,10 +60,35 @@ pub record Assures (setting : Setting) (state : State) (patches : ℕ) (found : 
   pub ready : ArePatchesOf setting found.linted.patches.now → is_clean found.said.items found.linted.marks.now ≡ true
       → (patch : ℕ) → patch < patches → IsReady setting state patch
 
--- The list goes on about the same catalog, and keeps what makes the status 3.
-pub record Keeps (before after : Findings) : Type 0 where
+-- The list goes on about the same catalog, and keeps what makes the status 3. What it says more is of this world, and true of
+-- this manager.
+pub record AddsIn (world : World) (here : Standing) (before after : Findings) : Type 0 where
   pub linted : after.linted ≡ before.linted
   pub kept : one_decides before.said.items ≡ true → one_decides after.said.items ≡ true
+  pub more : (full : Bool) (finding : Finding) → Says after.said.items full finding
+      → Says before.said.items full finding ⊎ ((is_said_of world full ≡ true) × IsTrue before.linted here finding)
+
+-- the state of the world with all modules, if `full`, or else of the one without modules
+abbrev pub world_state : Setting → State → ℕ → Bool → State
+world_state setting state modules true = with_modules setting state modules
+world_state setting state modules false = state
+
+-- each finding is true of the world of which it is said
+abbrev pub AreTrue : (Bool → Standing) → Findings → Type 0
+AreTrue world found = (full : Bool) (finding : Finding) → Says found.said.items full finding → IsTrue found.linted (world full) finding
+
+-- Each finding is true: without a script, of the world without modules or the one with all modules; with a script, of the state
+-- that its lines left.
+abbrev pub AreAllTrue : Journaled → Option NamedText → ℕ → Findings → Type 0
+AreAllTrue start None modules found =
+    AreTrue (λ full. sealed (setting_of start.managed) (world_state (setting_of start.managed) start.managed.state modules full)) found
+AreAllTrue start (Some script) modules found =
+    (there : Journaled) × IsScripted start there script.bytes.now found × (setting_of there.managed ≡ setting_of start.managed)
+    × AreTrue (λ full. sealed (setting_of start.managed) there.managed.state) found
+
+-- the finding is about a line of the script
+abbrev pub IsLine : Finding → Type 0
+IsLine finding = (line : RefusedLine) × (finding ≡ Line line)
 
 -- What the list assures of this many patches: without a script, as long as no module is loaded, and with all modules loaded;
 -- with a script, in the state that its lines left.

@@ -1,13 +1,15 @@
 //! Boots a manager over a catalog, and judges the patches: behind a script, or without one in two worlds.
-ghost use Rattle.std.specs.Prelude.{◌≡◌, ◌+◌, ◌-◌, ◌≤◌, length, true, IfOk};
+ghost use Rattle.std.specs.Prelude.{◌≡◌, ◌+◌, ◌-◌, ◌≤◌, [], length, true, IfOk};
 ghost use Rattle.klp_model.specs.declared.event.Event.{Event as AnyEvent};
 ghost use Rattle.klp_model.specs.Run.{next};
 ghost use Rattle.klp_core.specs.Journaled.{IsWellFormed};
 ghost use Rattle.klp_manager_state.specs.Managed.{setting_of};
+ghost use Rattle.klp_lint_findings.specs.Claims.{AddsTrue};
 ghost use Rattle.klp_lint_findings.specs.Deciding.{is_clean};
-ghost use Rattle.klp_lint_findings.specs.Sound.{Grows};
-ghost use Rattle.klp_lint_worlds.specs.Worlds.{with_modules, Assures, AssuresAll, Keeps};
-ghost use Rattle.klp_lint_worlds.specs.Whole.{IsReadFrom, IsCleanText};
+ghost use Rattle.klp_lint_findings.specs.Standing.{Standing, sealed};
+ghost use Rattle.klp_lint_worlds.specs.Worlds.{with_modules, world_state, Assures, AssuresAll};
+ghost use Rattle.klp_lint_worlds.specs.Worlds.{AddsIn, AreTrue, AreAllTrue};
+ghost use Rattle.klp_lint_worlds.specs.Whole.{IsReadFrom, AreSoOfText, IsCleanText};
 
 use crate::lint_plan::LintPlan;
 use crate::script::do_lines;
@@ -51,12 +53,14 @@ fn load_modules(manager: &mut Manager, modules: u8)
 /// Makes room in the journal for the events that are tried. The events so far can't be taken back any more.
 fn seal(manager: &mut Manager)
     requires { IsWellFormed manager.old }
-    ensures { manager.new.managed ≡ manager.old.managed }
+    ensures same { manager.new.managed ≡ manager.old.managed }
+    ensures empty { manager.new.groups ≡ [] }
 {
     manager.seal();
 }
 
-/// Judges the patches in the state of the manager. If the list makes the status 0, each patch is ready in this state.
+/// Judges the patches in the state of the manager. What is added is true of it. If the list makes the status 0, each patch is
+/// ready in this state.
 fn judge_now(
     alloc: Global,
     found: &mut Findings<'_>,
@@ -66,7 +70,8 @@ fn judge_now(
     ensures assures { IfOk result (λ done. length found.old.linted.patches.now ≤ 256
         → Assures (setting_of manager.old.managed) manager.old.managed.state
         (length found.old.linted.patches.now) found.new) }
-    ensures grows { IfOk result (λ done. Grows found.old found.new) }
+    ensures adds { IfOk result (λ done. AddsTrue
+        (sealed (setting_of manager.old.managed) manager.old.managed.state) found.old found.new) }
     ensures setting { IfOk result (λ done. setting_of manager.new.managed ≡ setting_of manager.old.managed) }
     ensures state { IfOk result (λ done. manager.new.managed.state ≡ manager.old.managed.state) }
 {
@@ -86,7 +91,8 @@ fn judge_world(
     ensures assures { IfOk result (λ done. length found.old.linted.patches.now ≤ 256
         → Assures (setting_of manager.old.managed) manager.old.managed.state
         (length found.old.linted.patches.now) found.new) }
-    ensures keeps { IfOk result (λ done. Keeps found.old found.new) }
+    ensures adds { IfOk result (λ done. AddsIn world
+        (sealed (setting_of manager.old.managed) manager.old.managed.state) found.old found.new) }
     ensures setting { IfOk result (λ done. setting_of manager.new.managed ≡ setting_of manager.old.managed) }
     ensures state { IfOk result (λ done. manager.new.managed.state ≡ manager.old.managed.state) }
 {
@@ -112,6 +118,10 @@ fn judge_in_both(
         → Assures (setting_of manager.old.managed)
         (with_modules (setting_of manager.old.managed) manager.old.managed.state modules)
         (length found.old.linted.patches.now) found.new) }
+    ensures truth { IfOk result (λ worlds. AreTrue (λ full. sealed (setting_of manager.old.managed)
+        (world_state (setting_of manager.old.managed) manager.old.managed.state modules full)) found.old
+        → AreTrue (λ full. sealed (setting_of manager.old.managed)
+        (world_state (setting_of manager.old.managed) manager.old.managed.state modules full)) found.new) }
     ensures linted { IfOk result (λ worlds. found.new.linted ≡ found.old.linted) }
 {
     if modules == 0 {
@@ -136,6 +146,8 @@ fn judge(
     ensures assures { IfOk result (λ worlds. length found.old.linted.patches.now ≤ 256
         → AssuresAll manager.old found.old.linted.input.script modules
         (length found.old.linted.patches.now) found.new) }
+    ensures truth { IfOk result (λ worlds. found.old.said.items ≡ []
+        → AreAllTrue manager.old found.old.linted.input.script modules found.new) }
     ensures linted { IfOk result (λ worlds. found.new.linted ≡ found.old.linted) }
 {
     match found.linted.input.script {
@@ -155,7 +167,7 @@ fn find_judged_count(
     manager: &Manager,
     worlds: JudgedWorlds,
 ) -> Result<(), AllocError>
-    ensures { IfOk result (λ done. Grows found.old found.new) }
+    ensures { IfOk result (λ done. (here : Standing) → AddsTrue here found.old found.new) }
 {
     let patches = found.linted.patches.len();
     let free = not_installed(manager, patches);
@@ -183,6 +195,8 @@ impl ManagerUse for Linting<'_> {
 
     ghost comes_to = { λ before after booted ended. IfOk ended
         (λ done. (after.found.linted ≡ before.found.linted)
+        × (before.found.said.items ≡ []
+        → AreAllTrue booted before.found.linted.input.script before.modules after.found)
         × (length before.found.linted.patches.now ≤ 256
         → AssuresAll booted before.found.linted.input.script before.modules
         (length before.found.linted.patches.now) after.found)) };
@@ -196,13 +210,16 @@ impl ManagerUse for Linting<'_> {
 }
 
 /// The list of what is found about the patches of a catalog, behind the script if there is one. If `plan` was read from
-/// the same catalog, and the list makes the status 0, each patch is ready in the worlds that are judged.
+/// the same catalog, each finding claims what is so of the world that it names. If the list makes the status 0, each patch is
+/// ready in the worlds that are judged.
 pub fn find_all<'a>(
     alloc: Global,
     input: LintInput<'a>,
     plan: &'a LintPlan,
 ) -> Result<Findings<'a>, Fault>
-    ensures { IfOk result (λ found. IsReadFrom input.entry.catalog.bytes.now plan.now
+    ensures so { IfOk result (λ found. IsReadFrom input.entry.catalog.bytes.now plan.now
+        → AreSoOfText input.entry.catalog.bytes.now input.entry.script found) }
+    ensures clean { IfOk result (λ found. IsReadFrom input.entry.catalog.bytes.now plan.now
         → is_clean found.said.items found.linted.marks.now ≡ true
         → IsCleanText input.entry.catalog.bytes.now input.entry.script) }
 {

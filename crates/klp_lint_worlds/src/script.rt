@@ -3,8 +3,8 @@ ghost use Rattle.std.specs.Prelude.{◌≡◌, ◌<◌, ◌≤◌, [], ◌∷◌
 ghost use Rattle.klp_console_io.specs.Lines.{is_line_feed};
 ghost use Rattle.klp_console.specs.Lines.{lines_of};
 ghost use Rattle.klp_manager_state.specs.Managed.{setting_of};
-ghost use Rattle.klp_lint_findings.specs.Sound.{Grows};
-ghost use Rattle.klp_lint_worlds.specs.Worlds.{IsLineDone, IsLineReported, IsScripted};
+ghost use Rattle.klp_lint_findings.specs.Saying.{Adds};
+ghost use Rattle.klp_lint_worlds.specs.Worlds.{IsLine, IsLineDone, IsLineReported, IsScripted};
 
 use klp_boot::Fault;
 use klp_console::{ServeFault, answer_line};
@@ -89,7 +89,7 @@ fn find_line<M: Ledger>(
 ) -> Result<(), Fault>
     requires { (writes.name ≡ M.name) × (writes.parts ≡ M.parts) × (2 ≤ writes.parts) }
     ensures reported { IfOk result (λ done. IsLineReported manager.old manager.new line.now found.new) }
-    ensures grows { IfOk result (λ done. Grows found.old found.new) }
+    ensures adds { IfOk result (λ done. Adds IsLine found.old found.new) }
 {
     let Some(error) = do_line::<M>(alloc, manager, line, writes)? else {
         return Ok(());
@@ -107,7 +107,7 @@ pub(crate) fn do_lines(
 ) -> Result<(), Fault>
     ensures scripted { IfOk result (λ done. IsScripted manager.old manager.new script.now found.new) }
     ensures setting { IfOk result (λ done. setting_of manager.new.managed ≡ setting_of manager.old.managed) }
-    ensures grows { IfOk result (λ done. Grows found.old found.new) }
+    ensures adds { IfOk result (λ done. Adds IsLine found.old found.new) }
 {
     let mut rest = script;
     let mut number = 0u64;
