@@ -5,7 +5,7 @@ ghost use Rattle.klp_lint_alone.specs.Judged.{IsPartOf};
 
 use klp_catalog_text::{PlanCallback, PlanPatch, PlanTarget};
 use klp_lint_findings::{
-    Finding, Findings, IdleReason, Linted, PartFinding, is_assumed, names_state,
+    Finding, Findings, IdleReason, Linted, PartFinding, is_assumed, is_data, names_state,
 };
 use klp_modules::place_in;
 use klp_types::{Edit, PatchId};
@@ -110,7 +110,33 @@ fn no_symbol(
     }
 }
 
-/// Adds the functions of a patch whose name and position pick no symbol.
+/// The finding about a function of a target whose name and position pick a variable, by a mark. `None` if they pick a
+/// function, or no symbol.
+fn no_function(
+    linted: &Linted<'_>,
+    target: &PlanTarget,
+    patch: PatchId,
+    place: usize,
+    function: usize,
+) -> Option<Finding>
+    ensures { IfSome result (IsPartOf patch) }
+{
+    let number = usize::from(target.object.0);
+    let object = linted.objects.get(number)?;
+    let own = target.functions.as_slice().get(function)?;
+    let symbol = place_in(object, own.symbol.as_str(), own.sympos).ok()?;
+    if !is_data(linted.marks, number, symbol) {
+        return None;
+    }
+    let no_function = PartFinding::NoFunction {
+        place,
+        function,
+        is_assumed: is_assumed(linted.marks, number),
+    };
+    Some(Finding::Part(patch, no_function))
+}
+
+/// Adds the functions of a patch whose name and position pick no symbol, or a variable.
 pub fn find_unpicked(found: &mut Findings<'_>, patch: PatchId) -> Result<(), AllocError>
     ensures { IfOk result (λ done. Adds (IsPartOf patch) found.old found.new) }
 {
@@ -121,6 +147,7 @@ pub fn find_unpicked(found: &mut Findings<'_>, patch: PatchId) -> Result<(), All
     for (place, target) in own.targets.iter().enumerate() {
         for function in 0..target.functions.len() {
             found.add_some(no_symbol(&linted, target, patch, place, function))?;
+            found.add_some(no_function(&linted, target, patch, place, function))?;
         }
     }
     Ok(())

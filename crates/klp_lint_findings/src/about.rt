@@ -137,12 +137,12 @@ fn about_trace(linted: &Linted<'_>, patch: PatchId, finding: TraceFinding) -> Ab
     }
 }
 
-/// The kind of a finding about a function that picks no symbol.
-fn no_symbol_kind(is_assumed: bool) -> FindingKind {
+/// The kind of a finding about a function that no kernel finds: this one, or another one if the symbols are made up.
+fn unless_assumed(kind: FindingKind, is_assumed: bool) -> FindingKind {
     if is_assumed {
         FindingKind::NotJudged
     } else {
-        FindingKind::NoSymbol
+        kind
     }
 }
 
@@ -178,7 +178,18 @@ fn about_part(linted: &Linted<'_>, patch: PatchId, finding: PartFinding) -> Abou
             function,
             is_assumed,
             ..
-        } => at_function(linted, no_symbol_kind(is_assumed), patch, place, function),
+        } => {
+            let kind = unless_assumed(FindingKind::NoSymbol, is_assumed);
+            at_function(linted, kind, patch, place, function)
+        }
+        PartFinding::NoFunction {
+            place,
+            function,
+            is_assumed,
+        } => {
+            let kind = unless_assumed(FindingKind::NoFunction, is_assumed);
+            at_function(linted, kind, patch, place, function)
+        }
         PartFinding::NearLimit {
             place,
             function,

@@ -23,6 +23,7 @@ pub enum FindingKind {
     NotApart,
     Idle,
     NoSymbol,
+    NoFunction,
     NearLimit,
     Room,
     Alike,
@@ -128,6 +129,13 @@ pub enum PartFinding {
         place: usize,
         function: usize,
         fault: SymbolFault,
+        is_assumed: bool,
+    },
+    /// The name and the position of this function pick a variable, by a mark. If `is_assumed`, a mark says that symbols
+    /// of the object are made up.
+    NoFunction {
+        place: usize,
+        function: usize,
         is_assumed: bool,
     },
     /// The call of the handler at this function's symbol is this many bytes short of the end of its reach.

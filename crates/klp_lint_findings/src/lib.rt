@@ -29,7 +29,7 @@ pub use known::{KINDS, MarkedCallback, callback_mark, first_marked, is_understoo
 pub use linted::{LintInput, Linted, NamedText, names_state, patch_id};
 pub use lists::{FunctionSet, PatchList};
 pub use marks::{
-    MARK_PREFIX, Mark, MarkFault, MarkFaultKind, MarkWord, NoMarks, is_assumed, left_out_by,
-    mark_at, read_marks,
+    MARK_PREFIX, Mark, MarkFault, MarkFaultKind, MarkWord, NoMarks, is_assumed, is_data,
+    left_out_by, mark_at, read_marks,
 };
 pub use scripts::{count_added, count_all_added, edits_for};

@@ -30,7 +30,7 @@ pub enum MarkWord {
     Assumed,
     /// This many functions and targets of the patch aren't in the catalog.
     LeftOut { functions: u64, targets: u64 },
-    /// The symbol is no function.
+    /// The symbol is a variable.
     Data,
 }
 
@@ -44,6 +44,8 @@ pub struct Mark {
     pub about: u64,
     /// The number of the last object of the catalog before the mark, from 0.
     pub object: usize,
+    /// The number of the last symbol of this object before the mark, from 0.
+    pub symbol: usize,
 }
 
 /// What is wrong with a mark.
@@ -190,6 +192,8 @@ struct Place<'a> {
     about: u64,
     /// How many objects came before.
     objects: usize,
+    /// How many symbols of the last object came before.
+    symbols: usize,
 }
 
 /// The words of a mark: what is behind [`MARK_PREFIX`]. `None` if the line is no mark.
@@ -226,6 +230,7 @@ fn mark_in(line: &[u8], place: &Place<'_>) -> Result<Option<Mark>, MarkFault>
         line: number,
         about: place.about,
         object: place.objects.saturating_sub(1),
+        symbol: place.symbols.saturating_sub(1),
     }))
 }
 
@@ -249,17 +254,20 @@ fn behind<'a>(place: Place<'a>, line: &'a [u8]) -> Place<'a> {
     if line.first() == Some(&b'#') {
         return place;
     }
-    let is_object = is_word(word_at(words_of(line), 1), b"object");
-    let objects = if is_object {
-        place.objects.saturating_add(1)
+    let first = word_at(words_of(line), 1);
+    let (objects, symbols) = if is_word(first, b"object") {
+        (place.objects.saturating_add(1), 0)
+    } else if is_word(first, b"symbol") {
+        (place.objects, place.symbols.saturating_add(1))
     } else {
-        place.objects
+        (place.objects, place.symbols)
     };
     Place {
         number: place.number,
         last: line,
         about: place.number,
         objects,
+        symbols,
     }
 }
 
@@ -274,6 +282,7 @@ pub fn read_marks(alloc: Global, text: &[u8]) -> Result<Vec<Mark>, NoMarks>
         last: &[],
         about: 0,
         objects: 0,
+        symbols: 0,
     };
     let mut rest = Lines::new(text);
     while let Some(line) = rest.next() {
@@ -297,6 +306,13 @@ pub fn is_assumed(marks: &[Mark], object: usize) -> bool {
     marks
         .iter()
         .any(|it| it.word == MarkWord::Assumed && it.object == object)
+}
+
+/// Whether the symbol with this number of an object is a variable, by a mark.
+pub fn is_data(marks: &[Mark], object: usize, symbol: usize) -> bool {
+    marks.iter().any(|it| {
+        it.word == MarkWord::Data && it.object == object && it.symbol == symbol
+    })
 }
 
 /// How many functions and targets were left out of the catalog, by its marks.

@@ -285,16 +285,18 @@ impl fmt::Display for FunctionWords<'_> {
         match self.finding {
             PartFinding::NoSymbol {
                 place,
-                function,
-                fault,
                 is_assumed,
+                ..
+            }
+            | PartFinding::NoFunction {
+                place,
+                is_assumed,
+                ..
             } => {
-                let words = NoSymbolWords {
+                let words = UnpickedWords {
                     linted,
                     patch,
-                    place,
-                    function,
-                    fault,
+                    finding: self.finding,
                 };
                 let object = linted.target_name(patch, place);
                 if is_assumed {
@@ -339,6 +341,50 @@ fn position_of(linted: &Linted<'_>, patch: PatchId, place: usize, function: usiz
     match target.functions.as_slice().get(function) {
         Some(found) => found.sympos,
         None => 0,
+    }
+}
+
+/// A function whose name and position pick no symbol, or a variable.
+#[derive(Clone, Copy)]
+struct UnpickedWords<'a> {
+    linted: Linted<'a>,
+    patch: PatchId,
+    finding: PartFinding,
+}
+
+impl fmt::Display for UnpickedWords<'_> {
+    fn fmt<W: fmt::Write>(&self, f: &mut fmt::Formatter<W>) -> fmt::Result {
+        let (linted, patch) = (self.linted, self.patch);
+        match self.finding {
+            PartFinding::NoSymbol {
+                place,
+                function,
+                fault,
+                ..
+            } => {
+                let words = NoSymbolWords {
+                    linted,
+                    patch,
+                    place,
+                    function,
+                    fault,
+                };
+                write!(f, "{words}")
+            }
+            PartFinding::NoFunction {
+                place,
+                function,
+                ..
+            } => {
+                let object = linted.target_name(patch, place);
+                let symbol = symbol_name(&linted, patch, place, function);
+                match position_of(&linted, patch, place, function) {
+                    0 => write!(f, "{symbol} of {object} is a variable"),
+                    position => write!(f, "{symbol},{position} of {object} is a variable"),
+                }
+            }
+            _ => Ok(()),
+        }
     }
 }
 
