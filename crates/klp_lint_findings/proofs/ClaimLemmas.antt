@@ -12,7 +12,7 @@ use Rattle.klp_lint_findings.specs.declared.finding.RefusedLine.{RefusedLine}
 use Rattle.klp_lint_findings.specs.declared.finding.TraceFinding.{TraceFinding}
 use Rattle.klp_lint_findings.specs.declared.findings.Findings.{Findings}
 use Rattle.klp_lint_findings.specs.declared.linted.Linted.{Linted}
-use Rattle.klp_lint_findings.specs.Claims.{ClaimsTrace, ClaimsLoad, IsTrue, AddsTrue}
+use Rattle.klp_lint_findings.specs.Claims.{ClaimsTrace, ClaimsLoad, ClaimsReplace, IsTrue, AddsTrue}
 use Rattle.klp_lint_findings.specs.Saying.{Adds}
 use Rattle.klp_lint_findings.specs.Standing.{Standing}
 use Rattle.klp_lint_findings.proofs.SayLemmas.{adds_on, adds_it, adds_as}
@@ -31,9 +31,10 @@ pub part_true : (linted : Linted) (here : Standing) (patch : ℕ) (finding : Par
 unfolding IsTrue
 part_true linted here patch finding = λ _. tt
 
-pub replace_true : (linted : Linted) (here : Standing) (patch : ℕ) (finding : ReplaceFinding) → IsTrue linted here (Replace patch finding)
+pub replace_true : (linted : Linted) (here : Standing) (patch : ℕ) (finding : ReplaceFinding)
+    → ClaimsReplace here patch finding → IsTrue linted here (Replace patch finding)
 unfolding IsTrue
-replace_true linted here patch finding = λ _. tt
+replace_true linted here patch finding claims = λ _. claims
 
 pub line_true : (linted : Linted) (here : Standing) (line : RefusedLine) → IsTrue linted here (Line line)
 unfolding IsTrue

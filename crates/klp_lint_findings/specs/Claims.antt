@@ -1,14 +1,17 @@
 -- What a finding claims, of the catalog and of the manager over which it is found.
-use Rattle.std.specs.Prelude.{◌≡◌, ◌⊎◌, ℕ, true, false, List, [], Some, Result, Ok, Err}
-use Rattle.klp_types.specs.World.{variable}
+use Rattle.std.specs.Prelude.{◌≡◌, ◌⊎◌, ℕ, ◌≤◌, Bool, true, false, List, [], ◌∷◌, length, take, is_some, Option, Some, None, Result, Ok, Err}
+use Rattle.klp_types.specs.declared.shadow.ShadowKey.{ShadowKey}
+use Rattle.klp_types.specs.World.{variable, state_value}
 use Rattle.klp_catalog_text.specs.Plan.{PlanPatch, PlanTarget}
-use Rattle.klp_model.specs.declared.event.Event.TheVariants.{Enable}
+use Rattle.klp_model.specs.declared.event.Event.{Event}
+use Rattle.klp_model.specs.declared.event.Event.TheVariants.{Enable, Poll, SetEnabled}
 use Rattle.klp_model.specs.declared.event.Reply.{Reply}
 use Rattle.klp_model.specs.declared.event.Reply.TheVariants.{Started, PreFailed}
 use Rattle.klp_model.specs.declared.event.Refusal.{Refusal}
 use Rattle.klp_model.specs.declared.event.Refusal.TheVariants as refusal
 use Rattle.klp_model.specs.State.{is_loaded}
 use Rattle.klp_model.specs.Company.{IsFairStart}
+use Rattle.klp_core.specs.Journaled.{Journaled}
 use Rattle.klp_lint.specs.Premises.{ArePatchesOf, Fails, HoldEverywhere}
 use Rattle.klp_lint.specs.Undone.{found_by, left_behind}
 use Rattle.klp_lint.specs.declared.premise.Premise.TheVariants as premise
@@ -17,6 +20,8 @@ use Rattle.klp_lint_findings.specs.declared.finding.Finding.TheVariants.{Line, T
 use Rattle.klp_lint_findings.specs.declared.findings.Findings.{Findings}
 use Rattle.klp_lint_findings.specs.declared.finding.LoadFinding.{LoadFinding}
 use Rattle.klp_lint_findings.specs.declared.finding.LoadFinding.TheVariants.{NotStarted}
+use Rattle.klp_lint_findings.specs.declared.finding.ReplaceFinding.{ReplaceFinding}
+use Rattle.klp_lint_findings.specs.declared.finding.ReplaceFinding.TheVariants.{Forgets, Leaves, Loses}
 use Rattle.klp_lint_findings.specs.declared.finding.TraceFinding.{TraceFinding}
 use Rattle.klp_lint_findings.specs.declared.finding.TraceFinding.TheVariants.{Clean, Guessed, Installed, Moving, NotLoaded, NotUnderstood, MaybeCumulative, NotUndone, NotApart}
 use Rattle.klp_lint_findings.specs.declared.finding.WhyNotLoaded.{WhyNotLoaded}
@@ -25,7 +30,7 @@ use Rattle.klp_lint_findings.specs.declared.linted.Linted.{Linted}
 use Rattle.klp_lint_findings.specs.declared.marks.MarkWord.TheVariants as word
 use Rattle.klp_lint_findings.specs.Marking.{IsMarked}
 use Rattle.klp_lint_findings.specs.Saying.{Adds}
-use Rattle.klp_lint_findings.specs.Standing.{Standing, answer_at}
+use Rattle.klp_lint_findings.specs.Standing.{Standing, answer_at, LeadsTo}
 use Rattle.klp_lint_findings.specs.Targets.{target_at, callbacks_for}
 
 -- the patch has a target at this place, which has the property
@@ -72,13 +77,58 @@ abbrev pub ClaimsLoad : Standing → ℕ → LoadFinding → Type 0
 ClaimsLoad here patch (NotStarted why) = ClaimsWhy (answer_at here (Enable patch)) why
 ClaimsLoad here patch finding = Unit {0}
 
--- nothing is claimed here of lines of the script, parts of a patch, patches that are taken out, and counts
+-- the events that load a patch
+abbrev pub loading : ℕ → List Event
+loading patch = Enable patch ∷ Poll ∷ []
+
+-- the events that load a patch, load a cumulative one over it, and withdraw the cumulative one
+abbrev pub replacing : ℕ → ℕ → List Event
+replacing other patch = Enable other ∷ Poll ∷ Enable patch ∷ Poll ∷ SetEnabled patch false ∷ Poll ∷ []
+
+-- the events that load a patch, and withdraw it
+abbrev pub withdrawing : ℕ → List Event
+withdrawing patch = Enable patch ∷ Poll ∷ SetEnabled patch false ∷ Poll ∷ []
+
+-- behind these events, the variable is there, or it is missing
+abbrev pub IsThereBehind : Standing → List Event → ShadowKey → Bool → Type 0
+IsThereBehind here events key there =
+    (last : Journaled) × LeadsTo here events last × (is_some (variable last.managed.state.world key) ≡ there)
+
+-- from the end of the first patch's transition to the end of the events, the variable is there, or it is missing
+abbrev pub StaysSo : Standing → List Event → ShadowKey → Bool → Type 0
+StaysSo here events key there = (count : ℕ) → 2 ≤ count → count ≤ length events → IsThereBehind here (take count events) key there
+
+-- the system state is there, and isn't 0
+abbrev pub IsSet : Option ℕ → Type 0
+IsSet None = ⊥
+IsSet (Some value) = value ≡ 0 → ⊥
+
+-- behind these events, the system state of the patch isn't 0
+abbrev pub IsSetBehind : Standing → List Event → ℕ → ℕ → Type 0
+IsSetBehind here events patch id =
+    (last : Journaled) × LeadsTo here events last × IsSet (state_value last.managed.state.world patch id)
+
+-- A system state that is forgotten isn't 0 now, or isn't 0 once the other patch is loaded. A variable that is left wasn't there
+-- before, and is there all the time from when the other patch is loaded to when the cumulative one is withdrawn. One that is lost was
+-- there, is missing all that time, and is there where the other patch is withdrawn by itself. Nothing is claimed here of patches that
+-- are taken out, their functions, the states that are taken over, and patches that can't be loaded again.
+abbrev pub ClaimsReplace : Standing → ℕ → ReplaceFinding → Type 0
+ClaimsReplace here patch (Forgets other id is_sure) =
+    IsSet (state_value here.state.world other id) ⊎ IsSetBehind here (loading other) other id
+ClaimsReplace here patch (Leaves other key is_sure) =
+    (variable here.state.world key ≡ None) × StaysSo here (replacing other patch) key true
+ClaimsReplace here patch (Loses other key is_sure) =
+    (is_some (variable here.state.world key) ≡ true) × StaysSo here (replacing other patch) key false
+    × IsThereBehind here (withdrawing other) key true
+ClaimsReplace here patch finding = Unit {0}
+
+-- nothing is claimed here of lines of the script, parts of a patch, and counts
 abbrev pub Claims : Linted → Standing → Finding → Type 0
 Claims linted here (Line line) = Unit {0}
 Claims linted here (Trace patch finding) = ClaimsTrace linted here patch finding
 Claims linted here (Part patch finding) = Unit {0}
 Claims linted here (Load patch finding) = ClaimsLoad here patch finding
-Claims linted here (Replace patch finding) = Unit {0}
+Claims linted here (Replace patch finding) = ClaimsReplace here patch finding
 Claims linted here (Count finding) = Unit {0}
 
 -- The finding is true of such a manager, if it was booted over the catalog: what the finding claims is so.

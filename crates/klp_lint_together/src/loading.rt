@@ -6,7 +6,7 @@ ghost use Rattle.klp_core.specs.Taking.{answer_in};
 ghost use Rattle.klp_manager_state.specs.Managed.{setting_of};
 ghost use Rattle.klp_model.specs.declared.event.Event.TheVariants as AnyEvent;
 ghost use Rattle.klp_lint_together.specs.declared.loading.LoadOutcome.TheVariants as AnyOutcome;
-ghost use Rattle.klp_lint_findings.specs.Standing.{standing, answer_at};
+ghost use Rattle.klp_lint_findings.specs.Standing.{standing, answer_at, LeadsTo};
 ghost use Rattle.klp_lint_together.specs.Kept.{IsAsBefore, IsFurther};
 ghost use Rattle.klp_lint_together.specs.Starting.{outcome_of, Tells, CanStart};
 
@@ -18,8 +18,8 @@ use klp_model::{Event, Refusal, Reply};
 use klp_types::{MAX_PATCHES, ObjId, PatchId, ShadowKey};
 use std::alloc::{AllocError, Global};
 
-/// The most events with which patches are loaded: an `Enable` and a poll for each patch, and four further events.
-const MAX_LOADING: usize = 2 * MAX_PATCHES + 4;
+/// The most events with which patches are loaded: an `Enable` and a poll for each patch.
+const MAX_LOADING: usize = 2 * MAX_PATCHES;
 
 /// Events that load patches.
 #[derive(Drop)]
@@ -40,12 +40,6 @@ impl Loading {
     /// The events, in their order.
     pub(crate) fn events(&self) -> &[Event] {
         self.events.get(..self.len).unwrap_or(&[])
-    }
-
-    /// The first events. If there are fewer than `count`, all of them.
-    pub(crate) fn first(&self, count: usize) -> &[Event] {
-        let events = self.events();
-        events.get(..count).unwrap_or(events)
     }
 }
 
@@ -160,7 +154,8 @@ pub(crate) fn end_of(manager: &mut Manager, events: &[Event]) -> End
 /// the manager afterwards, so the answers are left out. What was done can be taken back.
 pub(crate) fn run(manager: &mut Manager, events: &[Event])
     requires { IsWellFormed manager.old }
-    ensures { IsFurther manager.old manager.new }
+    ensures leads { LeadsTo (standing manager.old) events.now manager.new }
+    ensures further { IsFurther manager.old manager.new }
 {
     let _ = manager.run(events);
 }

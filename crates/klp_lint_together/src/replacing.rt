@@ -1,10 +1,11 @@
 //! Finds what a cumulative patch does to the patches that it takes out.
-ghost use Rattle.std.specs.Prelude.{◌≡◌, IfOk, IfSome};
-ghost use Rattle.klp_lint_findings.specs.Claims.{IsTrue, AddsTrue};
+ghost use Rattle.std.specs.Prelude.{◌≡◌, true, IfOk, IfSome};
+ghost use Rattle.klp_lint_findings.specs.Claims.{replacing, withdrawing, IsThereBehind, StaysSo, IsTrue, AddsTrue};
 ghost use Rattle.klp_lint_findings.specs.Standing.{standing};
 ghost use Rattle.klp_lint_together.specs.Kept.{IsAsBefore};
+ghost use Rattle.klp_lint_together.specs.Lost.{IsValueLost};
 
-use crate::loading::{End, Loading, Outcomes, end_of, events_for, run, take_back};
+use crate::loading::{End, Outcomes, end_of, run, take_back};
 use crate::twice::{TwiceAdded, is_there, twice_added};
 use klp_catalog_text::PlanPatch;
 use klp_core::Manager;
@@ -23,13 +24,14 @@ struct Cumulative<'a> {
     plan: &'a PlanPatch,
 }
 
-/// The value that a system state of a patch would have after these events. `None` if the patch isn't installed then, or
-/// doesn't name the state.
-fn state_after(manager: &mut Manager, events: &[Event], patch: PatchId, id: u64) -> Option<u64>
-    ensures { IsAsBefore manager.old manager.new }
+/// The value that a system state of a patch would have once the patch is loaded. `None` if it isn't installed then, or doesn't
+/// name the state.
+fn state_loaded(manager: &mut Manager, patch: PatchId, id: u64) -> Option<u64>
+    ensures value { IsValueLost (standing manager.old) patch id result }
+    ensures kept { IsAsBefore manager.old manager.new }
 {
     let mark = manager.mark();
-    run(manager, events);
+    run(manager, &[Event::Enable(patch), Event::Poll]);
     let value = manager.state_of(patch, id);
     let _for_its_clause = manager.mark();
     take_back(manager, mark);
@@ -77,13 +79,13 @@ fn is_newest_with(
 
 /// The value that a system state of `other` has when a cumulative patch takes `other` out.
 fn value_lost(manager: &mut Manager, outcomes: &Outcomes, other: PatchId, id: u64) -> Option<u64>
-    ensures { IsAsBefore manager.old manager.new }
+    ensures value { IsValueLost (standing manager.old) other id result }
+    ensures kept { IsAsBefore manager.old manager.new }
 {
     if !outcomes.free.contains(other) {
         return manager.state_of(other, id);
     }
-    let events = events_for(&[other]);
-    state_after(manager, events.events(), other, id)
+    state_loaded(manager, other, id)
 }
 
 /// Whether all callbacks of both patches for loaded objects are understood.
@@ -112,7 +114,6 @@ fn takes_over(
 
 /// The finding that a cumulative patch forgets the value that a patch which it takes out has of a system state. `None` if the
 /// value is 0.
-#[tactic(auto, unfolding(klp_lint_findings::specs::Claims::IsTrue))]
 fn forgets(
     linted: &Linted<'_>,
     manager: &mut Manager,
@@ -203,30 +204,49 @@ fn find_lost_functions(
 /// How many events load a patch and complete its transition.
 const LOADED: usize = 2;
 
-/// Events that load `other`, load `patch` over it, and then disable `patch`. The poll that removes `patch` isn't among
-/// them.
-fn events_replacing(other: PatchId, patch: PatchId) -> Loading {
-    let mut events = events_for(&[other, patch]);
-    events.push(Event::SetEnabled(patch, false));
-    events
+/// Events that load `other`, load `patch` over it, and then withdraw `patch`.
+fn events_replacing(other: PatchId, patch: PatchId) -> [Event; 6]
+    ensures { result ≡ replacing other patch }
+{
+    [
+        Event::Enable(other),
+        Event::Poll,
+        Event::Enable(patch),
+        Event::Poll,
+        Event::SetEnabled(patch, false),
+        Event::Poll,
+    ]
 }
 
 /// Events that load a patch and take it out by itself.
-fn events_withdrawing(patch: PatchId) -> Loading {
-    let mut events = events_for(&[patch]);
-    events.push(Event::SetEnabled(patch, false));
-    events.push(Event::Poll);
-    events
+fn events_withdrawing(patch: PatchId) -> [Event; 4]
+    ensures { result ≡ withdrawing patch }
+{
+    [
+        Event::Enable(patch),
+        Event::Poll,
+        Event::SetEnabled(patch, false),
+        Event::Poll,
+    ]
+}
+
+/// Whether a variable is there after these events, if `is_wanted`, or else missing.
+fn is_so(manager: &mut Manager, events: &[Event], key: ShadowKey, is_wanted: bool) -> bool
+    ensures so { result ≡ true → IsThereBehind (standing manager.old) events.now key is_wanted }
+    ensures kept { IsAsBefore manager.old manager.new }
+{
+    let has_it = is_there(manager, events, key);
+    if is_wanted { has_it } else { !has_it }
 }
 
 /// Whether a variable is there, or missing, all the time from the end of the first patch's transition to the end of the
 /// events.
-fn stays_so(manager: &mut Manager, events: &Loading, key: ShadowKey, is_wanted: bool) -> bool
-    ensures { IsAsBefore manager.old manager.new }
+fn stays_so(manager: &mut Manager, events: &[Event], key: ShadowKey, is_wanted: bool) -> bool
+    ensures stays { result ≡ true → StaysSo (standing manager.old) events.now key is_wanted }
+    ensures kept { IsAsBefore manager.old manager.new }
 {
-    let all = events.events().len();
-    for count in LOADED..all.saturating_add(1) {
-        if is_there(manager, events.first(count), key) != is_wanted {
+    for count in LOADED..events.len() + 1 {
+        if !is_so(manager, &events[..count], key, is_wanted) {
             return false;
         }
     }
@@ -244,11 +264,9 @@ struct Replacing {
 
 /// What becomes of a variable that a patch changes, if another patch takes it out and is then itself taken out. `None`
 /// if it is as before, or not as the first patch left it.
-#[tactic(auto, unfolding(klp_lint_findings::specs::Claims::IsTrue))]
 fn variable_lost(
     linted: &Linted<'_>,
     manager: &mut Manager,
-    events: &Loading,
     replacing: &Replacing,
     key: ShadowKey,
 ) -> Option<Finding>
@@ -261,7 +279,8 @@ fn variable_lost(
         is_sure,
     } = *replacing;
     let was_there = manager.shadow_get(key).is_some();
-    if !stays_so(manager, events, key, !was_there) {
+    let events = events_replacing(other, patch);
+    if !stays_so(manager, &events, key, !was_there) {
         return None;
     }
     if !was_there {
@@ -273,7 +292,7 @@ fn variable_lost(
         return Some(Finding::Replace(patch, leaves));
     }
     let alone = events_withdrawing(other);
-    if !is_there(manager, alone.events(), key) {
+    if !is_there(manager, &alone, key) {
         return None;
     }
     let loses = ReplaceFinding::Loses {
@@ -287,17 +306,17 @@ fn variable_lost(
 /// The finding that a patch which was taken out can't be loaded again after these events, since a variable is left that its
 /// pre-patch adds. `None` if it can.
 #[tactic(auto, unfolding(klp_lint_findings::specs::Claims::IsTrue))]
-fn not_again(
-    linted: &Linted<'_>,
-    manager: &mut Manager,
-    events: &Loading,
-    replacing: &Replacing,
-) -> Option<Finding>
+fn not_again(linted: &Linted<'_>, manager: &mut Manager, replacing: &Replacing) -> Option<Finding>
     ensures claims { IfSome result (IsTrue linted.now (standing manager.old)) }
     ensures kept { IsAsBefore manager.old manager.new }
 {
     let Replacing { patch, other, .. } = *replacing;
-    let TwiceAdded { key, .. } = twice_added(linted, manager, events.events(), other)?;
+    let TwiceAdded { key, .. } = twice_added(
+        linted,
+        manager,
+        &events_replacing(other, patch),
+        other,
+    )?;
     Some(Finding::Replace(patch, ReplaceFinding::NotAgain { other, key }))
 }
 
@@ -320,12 +339,11 @@ fn find_lost_variables(
         return Ok(());
     }
     let linted = found.linted;
-    let mut events = events_replacing(other, patch);
-    if end_of(manager, events.events()) != End::Completed {
+    // the last event is the poll that `end_of` does
+    let events = events_replacing(other, patch);
+    if end_of(manager, &events[..events.len() - 1]) != End::Completed {
         return Ok(());
     }
-    // `end_of` took its poll back, and the callbacks that could free a variable run in this poll
-    events.push(Event::Poll);
     let is_sure = are_understood(&linted, manager, patch, other);
     let replacing = Replacing {
         patch,
@@ -334,9 +352,9 @@ fn find_lost_variables(
     };
     let keys = keys_changed(alloc, manager, gone)?;
     for key in keys.as_slice() {
-        found.add_some(variable_lost(&linted, manager, &events, &replacing, *key))?;
+        found.add_some(variable_lost(&linted, manager, &replacing, *key))?;
     }
-    found.add_some(not_again(&linted, manager, &events, &replacing))?;
+    found.add_some(not_again(&linted, manager, &replacing))?;
     Ok(())
 }
 

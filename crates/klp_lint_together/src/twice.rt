@@ -1,6 +1,8 @@
 //! Finds variables that keep a patch from being loaded: its pre-patch adds them by a call that fails if they are there.
 ghost use Rattle.std.specs.Prelude.{◌≡◌};
 ghost use Rattle.klp_core.specs.Journaled.{IsWellFormed};
+ghost use Rattle.klp_lint_findings.specs.Claims.{IsThereBehind};
+ghost use Rattle.klp_lint_findings.specs.Standing.{standing};
 ghost use Rattle.klp_lint_together.specs.Kept.{IsAsBefore};
 
 use klp_core::Manager;
@@ -11,7 +13,8 @@ use klp_types::{Edit, ObjId, PatchId, ShadowKey, Which};
 
 /// Whether a shadow variable would be there after these events. The events are taken back.
 pub(crate) fn is_there(manager: &mut Manager, events: &[Event], key: ShadowKey) -> bool
-    ensures { IsAsBefore manager.old manager.new }
+    ensures behind { IsThereBehind (standing manager.old) events.now key result }
+    ensures kept { IsAsBefore manager.old manager.new }
 {
     let _for_its_clause = manager.mark();
     is_there_behind(manager, events, key)
@@ -20,7 +23,8 @@ pub(crate) fn is_there(manager: &mut Manager, events: &[Event], key: ShadowKey) 
 /// The same, of a manager that is known to be well formed.
 fn is_there_behind(manager: &mut Manager, events: &[Event], key: ShadowKey) -> bool
     requires { IsWellFormed manager.old }
-    ensures { IsAsBefore manager.old manager.new }
+    ensures behind { IsThereBehind (standing manager.old) events.now key result }
+    ensures kept { IsAsBefore manager.old manager.new }
 {
     value_behind(manager, events, key).is_some()
 }

@@ -1,4 +1,5 @@
 use Rattle.klp_lint_findings.specs.declared.finding.Finding.TheVariants.{Replace}
+use Rattle.klp_lint_findings.specs.declared.finding.ReplaceFinding.TheVariants.{TakesOut}
 use Rattle.klp_lint_findings.specs.Standing.{standing}
 use Rattle.klp_lint_findings.proofs.SayLemmas.{adds_it}
 use Rattle.klp_lint_findings.proofs.ClaimLemmas.{adds_true_on, replace_true}
@@ -7,7 +8,9 @@ use Rattle.klp_lint_together.proofs.replacing.find_replacing.Goals as goal
 
 pub loop-other-init : goal.loop-other-init
 loop-other-init g c = record {
-  adds = adds_it (Replace c.args.patch _) (replace_true c.args.found.now.linted (standing c.args.manager.now) c.args.patch _) c.in_ok-add.ensures.adds;
+  adds = adds_it (Replace c.args.patch (TakesOut c.patches_taken_out-gone.result))
+      (replace_true c.args.found.now.linted (standing c.args.manager.now) c.args.patch (TakesOut c.patches_taken_out-gone.result) tt)
+      c.in_ok-add.ensures.adds;
   kept = kept_still c.args.manager.now;
 }
 
