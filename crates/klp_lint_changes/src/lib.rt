@@ -8,4 +8,4 @@ mod changes;
 mod sites;
 
 pub use changes::{Change, Keys, change_of, keys_changed};
-pub use sites::{ChangedSites, lost_functions, site_in};
+pub use sites::{changes_site, lost_functions, site_in};

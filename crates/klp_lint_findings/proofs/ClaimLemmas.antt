@@ -32,7 +32,7 @@ unfolding IsTrue
 part_true linted here patch finding = λ _. tt
 
 pub replace_true : (linted : Linted) (here : Standing) (patch : ℕ) (finding : ReplaceFinding)
-    → ClaimsReplace here patch finding → IsTrue linted here (Replace patch finding)
+    → ClaimsReplace linted here patch finding → IsTrue linted here (Replace patch finding)
 unfolding IsTrue
 replace_true linted here patch finding claims = λ _. claims
 

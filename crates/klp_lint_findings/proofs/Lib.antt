@@ -2,3 +2,4 @@ pub mod SaidLemmas
 pub mod SayLemmas
 pub mod ClaimLemmas
 pub mod MarkLemmas
+mod SetLemmas

@@ -1,7 +1,9 @@
 -- What a finding claims, of the catalog and of the manager over which it is found.
 use Rattle.std.specs.Prelude.{◌≡◌, ◌⊎◌, ℕ, ◌≤◌, Bool, true, false, List, [], ◌∷◌, length, take, is_some, Option, Some, None, Result, Ok, Err}
 use Rattle.klp_types.specs.declared.shadow.ShadowKey.{ShadowKey}
+use Rattle.klp_types.specs.Entries.{patches_site}
 use Rattle.klp_types.specs.World.{variable, state_value}
+use Rattle.klp_modules.specs.Names.{names_of}
 use Rattle.klp_catalog_text.specs.Plan.{PlanPatch, PlanTarget}
 use Rattle.klp_model.specs.declared.event.Event.{Event}
 use Rattle.klp_model.specs.declared.event.Event.TheVariants.{Enable, Poll, SetEnabled}
@@ -21,7 +23,7 @@ use Rattle.klp_lint_findings.specs.declared.findings.Findings.{Findings}
 use Rattle.klp_lint_findings.specs.declared.finding.LoadFinding.{LoadFinding}
 use Rattle.klp_lint_findings.specs.declared.finding.LoadFinding.TheVariants.{NotStarted}
 use Rattle.klp_lint_findings.specs.declared.finding.ReplaceFinding.{ReplaceFinding}
-use Rattle.klp_lint_findings.specs.declared.finding.ReplaceFinding.TheVariants.{Forgets, Leaves, Loses}
+use Rattle.klp_lint_findings.specs.declared.finding.ReplaceFinding.TheVariants.{Forgets, LosesFunctions, Leaves, Loses}
 use Rattle.klp_lint_findings.specs.declared.finding.TraceFinding.{TraceFinding}
 use Rattle.klp_lint_findings.specs.declared.finding.TraceFinding.TheVariants.{Clean, Guessed, Installed, Moving, NotLoaded, NotUnderstood, MaybeCumulative, NotUndone, NotApart}
 use Rattle.klp_lint_findings.specs.declared.finding.WhyNotLoaded.{WhyNotLoaded}
@@ -31,7 +33,7 @@ use Rattle.klp_lint_findings.specs.declared.marks.MarkWord.TheVariants as word
 use Rattle.klp_lint_findings.specs.Marking.{IsMarked}
 use Rattle.klp_lint_findings.specs.Saying.{Adds}
 use Rattle.klp_lint_findings.specs.Standing.{Standing, answer_at, LeadsTo}
-use Rattle.klp_lint_findings.specs.Targets.{target_at, callbacks_for}
+use Rattle.klp_lint_findings.specs.Targets.{target_at, callbacks_for, site_at, has_function}
 
 -- the patch has a target at this place, which has the property
 abbrev pub HasTarget : List PlanPatch → ℕ → ℕ → (PlanTarget → Type 0) → Type 0
@@ -108,19 +110,29 @@ abbrev pub IsSetBehind : Standing → List Event → ℕ → ℕ → Type 0
 IsSetBehind here events patch id =
     (last : Journaled) × LeadsTo here events last × IsSet (state_value last.managed.state.world patch id)
 
--- A system state that is forgotten isn't 0 now, or isn't 0 once the other patch is loaded. A variable that is left wasn't there
--- before, and is there all the time from when the other patch is loaded to when the cumulative one is withdrawn. One that is lost was
--- there, is missing all that time, and is there where the other patch is withdrawn by itself. Nothing is claimed here of patches that
--- are taken out, their functions, the states that are taken over, and patches that can't be loaded again.
-abbrev pub ClaimsReplace : Standing → ℕ → ReplaceFinding → Type 0
-ClaimsReplace here patch (Forgets other id is_sure) =
+-- the function with this number, of a target of the other patch, replaces a symbol at whose site the patch has no function
+abbrev pub IsLost : Linted → Standing → ℕ → ℕ → ℕ → ℕ → Type 0
+IsLost linted here patch other place number =
+    (site : ℕ)
+    × (site_at (names_of here.setting.image.objects) (target_at linted.patches.now other place) number ≡ Some site)
+    × (patches_site here.setting site patch ≡ false)
+
+-- A system state that is forgotten isn't 0 now, or isn't 0 once the other patch is loaded. The patch changes none of the functions that
+-- it loses. A variable that is left wasn't there before, and is there all the time from when the other patch is loaded to when the
+-- cumulative one is withdrawn. One that is lost was there, is missing all that time, and is there where the other patch is withdrawn by
+-- itself. Nothing is claimed here of which patches are taken out, of the states that are taken over, and of patches that can't be
+-- loaded again.
+abbrev pub ClaimsReplace : Linted → Standing → ℕ → ReplaceFinding → Type 0
+ClaimsReplace linted here patch (Forgets other id is_sure) =
     IsSet (state_value here.state.world other id) ⊎ IsSetBehind here (loading other) other id
-ClaimsReplace here patch (Leaves other key is_sure) =
+ClaimsReplace linted here patch (LosesFunctions other place functions) =
+    (number : ℕ) → has_function functions number ≡ true → IsLost linted here patch other place number
+ClaimsReplace linted here patch (Leaves other key is_sure) =
     (variable here.state.world key ≡ None) × StaysSo here (replacing other patch) key true
-ClaimsReplace here patch (Loses other key is_sure) =
+ClaimsReplace linted here patch (Loses other key is_sure) =
     (is_some (variable here.state.world key) ≡ true) × StaysSo here (replacing other patch) key false
     × IsThereBehind here (withdrawing other) key true
-ClaimsReplace here patch finding = Unit {0}
+ClaimsReplace linted here patch finding = Unit {0}
 
 -- nothing is claimed here of lines of the script, parts of a patch, and counts
 abbrev pub Claims : Linted → Standing → Finding → Type 0
@@ -128,7 +140,7 @@ Claims linted here (Line line) = Unit {0}
 Claims linted here (Trace patch finding) = ClaimsTrace linted here patch finding
 Claims linted here (Part patch finding) = Unit {0}
 Claims linted here (Load patch finding) = ClaimsLoad here patch finding
-Claims linted here (Replace patch finding) = ClaimsReplace here patch finding
+Claims linted here (Replace patch finding) = ClaimsReplace linted here patch finding
 Claims linted here (Count finding) = Unit {0}
 
 -- The finding is true of such a manager, if it was booted over the catalog: what the finding claims is so.

@@ -1,9 +1,9 @@
 //! The catalog that is judged, with the names and the lines of its parts.
 ghost use Rattle.std.specs.Prelude.{◌≡◌, ◌<◌, option_map, slice_get};
-ghost use Rattle.klp_lint_findings.specs.Targets.{target_at};
+ghost use Rattle.klp_lint_findings.specs.Targets.{target_at, function_at};
 
 use crate::marks::Mark;
-use klp_catalog_text::{PlanCallback, PlanPatch, PlanTarget};
+use klp_catalog_text::{PlanCallback, PlanFunction, PlanPatch, PlanTarget};
 use klp_types::{ObjId, ObjectText, PatchId, Which};
 
 /// A file: its name and its bytes.
@@ -55,6 +55,15 @@ impl<'a> Linted<'a> {
     {
         let patch = self.patch(patch)?;
         patch.targets.get(place)
+    }
+
+    /// A function of a target. `number` counts the target's functions from 0. `None` if there is no such function.
+    pub fn function(&self, patch: PatchId, place: usize, number: usize) -> Option<&'a PlanFunction>
+        ensures { option_map (λ own. own.now) result
+            ≡ function_at (target_at self.now.patches.now patch place) number }
+    {
+        let target = self.target(patch, place)?;
+        target.functions.as_slice().get(number)
     }
 
     /// The object of a target. `None` if there is no such target.
@@ -131,12 +140,9 @@ impl<'a> Linted<'a> {
     /// The line of a function of a target. `function` counts the target's functions from 0. If there is no such
     /// function, the line of the target.
     pub fn function_line(&self, patch: PatchId, place: usize, function: usize) -> u64 {
-        let Some(target) = self.target(patch, place) else {
-            return self.patch_line(patch);
-        };
-        match target.functions.as_slice().get(function) {
+        match self.function(patch, place, function) {
             Some(found) => found.line,
-            None => target.line,
+            None => self.target_line(patch, place),
         }
     }
 }

@@ -1,4 +1,6 @@
 //! Short lists that are copied as a whole: patches in an order, and some of a target's functions.
+ghost use Rattle.std.specs.Prelude.{◌≡◌, ◌⊎◌, ℕ, true, false};
+ghost use Rattle.klp_lint_findings.specs.Targets.{has_function};
 
 use klp_types::{MAX_FUNCTIONS, MAX_PATCHES, PatchId};
 
@@ -61,16 +63,31 @@ pub struct FunctionSet {
 
 impl FunctionSet {
     /// A set without functions.
-    pub fn new() -> FunctionSet {
+    pub fn new() -> FunctionSet
+        ensures { (number : ℕ) → has_function result number ≡ false }
+    {
         FunctionSet {
             flags: [false; MAX_FUNCTIONS],
         }
     }
 
     /// Adds the function with this number. A target has no function with a number of [`MAX_FUNCTIONS`] or more.
-    pub fn insert(&mut self, number: usize) {
-        if let Some(flag) = self.flags.get_mut(number) {
-            *flag = true;
+    pub fn insert(&mut self, number: usize)
+        ensures { (other : ℕ) → has_function self.new other ≡ true
+            → (has_function self.old other ≡ true) ⊎ (other ≡ number) }
+    {
+        if number < MAX_FUNCTIONS {
+            self.flags[number] = true;
+        }
+    }
+
+    /// Adds the function with this number, if it belongs there.
+    pub fn insert_if(&mut self, number: usize, belongs: bool)
+        ensures { (other : ℕ) → has_function self.new other ≡ true
+            → (has_function self.old other ≡ true) ⊎ ((other ≡ number) × (belongs ≡ true)) }
+    {
+        if belongs {
+            self.insert(number);
         }
     }
 

@@ -7,7 +7,7 @@ ghost use Rattle.klp_lint_findings.specs.Standing.{standing};
 use crate::loading::Outcomes;
 use klp_catalog_text::PlanTarget;
 use klp_core::Manager;
-use klp_lint_changes::{ChangedSites, site_in};
+use klp_lint_changes::{changes_site, site_in};
 use klp_lint_findings::{Finding, Findings, FunctionSet, Linted, LoadFinding, PatchList, patch_id};
 use klp_types::{PatchId, Site};
 use std::alloc::AllocError;
@@ -41,11 +41,11 @@ fn rivals_of(
 }
 
 /// Those of these patches that change a site.
-fn changing(changed: &ChangedSites, rivals: &PatchList, site: Option<Site>) -> PatchList {
+fn changing(manager: &Manager, rivals: &PatchList, site: Option<Site>) -> PatchList {
     let mut others = PatchList::new();
     if let Some(site) = site {
         for rival in rivals.as_slice() {
-            if changed.has(*rival, site) {
+            if changes_site(manager, *rival, site) {
                 others.push(*rival);
             }
         }
@@ -55,21 +55,20 @@ fn changing(changed: &ChangedSites, rivals: &PatchList, site: Option<Site>) -> P
 
 /// A target of a patch, and what its functions are compared with.
 #[derive(Clone, Copy)]
-struct Compared<'l, 'm, 'c, 'r> {
+struct Compared<'l, 'm, 'r> {
     linted: Linted<'l>,
     manager: &'m Manager,
-    changed: &'c ChangedSites,
     rivals: &'r PatchList,
     patch: PatchId,
     place: usize,
 }
 
-impl Compared<'_, '_, '_, '_> {
+impl Compared<'_, '_, '_> {
     /// The rivals that change what a function of the target changes.
     fn others(&self, function: usize) -> PatchList {
         let linted = self.linted;
         let site = site_in(&linted, self.manager, self.patch, self.place, function);
-        changing(self.changed, self.rivals, site)
+        changing(self.manager, self.rivals, site)
     }
 
     /// The functions of the target that these rivals change, and no other rival.
@@ -123,7 +122,6 @@ pub(crate) fn find_same_functions(
     found: &mut Findings<'_>,
     manager: &Manager,
     outcomes: &Outcomes,
-    changed: &ChangedSites,
     patch: PatchId,
 ) -> Result<(), AllocError>
     ensures { IfOk result (λ done. AddsTrue (standing manager.now) found.old found.new) }
@@ -140,7 +138,6 @@ pub(crate) fn find_same_functions(
         let compared = Compared {
             linted,
             manager,
-            changed,
             rivals: &rivals,
             patch,
             place,

@@ -9,7 +9,7 @@ use crate::loading::{End, Outcomes, end_of, run, take_back};
 use crate::twice::{TwiceAdded, is_there, twice_added};
 use klp_catalog_text::PlanPatch;
 use klp_core::Manager;
-use klp_lint_changes::{Change, ChangedSites, change_of, keys_changed, lost_functions};
+use klp_lint_changes::{Change, change_of, keys_changed, lost_functions};
 use klp_lint_findings::{
     Finding, Findings, Linted, PatchList, ReplaceFinding, is_understood, names_state,
 };
@@ -158,18 +158,16 @@ fn state_lost(
 
 /// The finding that a cumulative patch doesn't change functions of a target of a patch that it takes out. `None` if it changes
 /// all of them.
-#[tactic(auto, unfolding(klp_lint_findings::specs::Claims::IsTrue))]
 fn functions_lost(
     linted: &Linted<'_>,
     manager: &Manager,
-    changed: &ChangedSites,
     patch: PatchId,
     other: PatchId,
     place: usize,
 ) -> Option<Finding>
     ensures { IfSome result (IsTrue linted.now (standing manager.now)) }
 {
-    let functions = lost_functions(linted, manager, changed, other, place, patch);
+    let functions = lost_functions(linted, manager, other, place, patch);
     if functions.count() == 0 {
         return None;
     }
@@ -185,7 +183,6 @@ fn functions_lost(
 fn find_lost_functions(
     found: &mut Findings<'_>,
     manager: &Manager,
-    changed: &ChangedSites,
     patch: PatchId,
     other: PatchId,
 ) -> Result<(), AllocError>
@@ -196,7 +193,7 @@ fn find_lost_functions(
         return Ok(());
     };
     for place in 0..gone.targets.len() {
-        found.add_some(functions_lost(&linted, manager, changed, patch, other, place))?;
+        found.add_some(functions_lost(&linted, manager, patch, other, place))?;
     }
     Ok(())
 }
@@ -364,7 +361,6 @@ fn find_lost(
     found: &mut Findings<'_>,
     manager: &mut Manager,
     outcomes: &Outcomes,
-    changed: &ChangedSites,
     own: &Cumulative<'_>,
     other: PatchId,
 ) -> Result<(), AllocError>
@@ -378,7 +374,7 @@ fn find_lost(
     for state in gone.states.iter() {
         found.add_some(state_lost(&linted, manager, outcomes, own, other, state.id))?;
     }
-    find_lost_functions(found, manager, changed, own.patch, other)?;
+    find_lost_functions(found, manager, own.patch, other)?;
     find_lost_variables(alloc, found, manager, outcomes, own.patch, other, gone)?;
     Ok(())
 }
@@ -390,7 +386,6 @@ pub(crate) fn find_replacing(
     found: &mut Findings<'_>,
     manager: &mut Manager,
     outcomes: &Outcomes,
-    changed: &ChangedSites,
     patch: PatchId,
 ) -> Result<(), AllocError>
     ensures adds { IfOk result (λ done. AddsTrue (standing manager.old) found.old found.new) }
@@ -410,7 +405,7 @@ pub(crate) fn find_replacing(
     found.add(Finding::Replace(patch, ReplaceFinding::TakesOut { gone }))?;
     let own = Cumulative { patch, plan: own };
     for other in gone.as_slice() {
-        find_lost(alloc, found, manager, outcomes, changed, &own, *other)?;
+        find_lost(alloc, found, manager, outcomes, &own, *other)?;
     }
     Ok(())
 }

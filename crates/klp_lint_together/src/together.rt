@@ -14,7 +14,6 @@ use crate::replacing::find_replacing;
 use crate::starting::find_each_alone;
 use crate::why::why_of;
 use klp_core::Manager;
-use klp_lint_changes::ChangedSites;
 use klp_lint_findings::{
     CountFinding, Finding, Findings, Linted, LoadFinding, PatchList, Tally, Together,
 };
@@ -172,11 +171,10 @@ fn find_over_ones(
     ensures adds { IfOk result (λ done. AddsTrue (standing manager.old) found.old found.new) }
     ensures kept { IfOk result (λ done. IsAsBefore manager.old manager.new) }
 {
-    let changed = ChangedSites::new(alloc, manager, found.linted.patches.len())?;
     for patch in outcomes.free.as_slice() {
         find_for(found, manager, outcomes, *patch, tally)?;
-        find_same_functions(found, manager, outcomes, &changed, *patch)?;
-        find_replacing(alloc, found, manager, outcomes, &changed, *patch)?;
+        find_same_functions(found, manager, outcomes, *patch)?;
+        find_replacing(alloc, found, manager, outcomes, *patch)?;
     }
     Ok(())
 }
