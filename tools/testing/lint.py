@@ -130,8 +130,8 @@ def target(draw):
     return callbacks
 
 
-def catalog(patches, head=HEAD):
-    """The text of a catalog."""
+def catalog(patches, head=HEAD, variable=False):
+    """The text of a catalog. If `variable`, each patch of vmlinux changes its variable, too."""
     lines = []
     for number, own in enumerate(patches):
         lines += [f"patch p{number}" + " replace" * own.replace, *marked(own.mark)]
@@ -140,6 +140,7 @@ def catalog(patches, head=HEAD):
         for place, (name, callbacks) in enumerate(own.targets):
             symbol = "none" if own.missing else SYMBOLS[name]
             lines += [f"target {name}", f"func .klp.sym.{name}.{symbol},0 {symbol}_{number} ffffffffc{number:03x}{place:01x}000"]
+            lines += [f"func .klp.sym.vmlinux.d,0 d_{number} ffffffffc{number:03x}{place:01x}800"] * (variable and name == "vmlinux")
             lines += [line for kind in KINDS if kind in callbacks for line in callbacks[kind].spelled(kind)]
     return head + "\n".join(lines) + "\n"
 
@@ -464,9 +465,9 @@ def check_sure(patches, loaded, said, own, other):
     return wrong
 
 
-def check_marked(patches, assumed, said, status):
-    """What is wrong with the status of a catalog with something unknown, with what is left out of it, and with functions that have
-    no symbol."""
+def check_marked(patches, assumed, variable, said, status):
+    """What is wrong with the status of a catalog with something unknown, with what is left out of it, with functions that have no
+    symbol, and with patches of a variable."""
     callbacks = [callback for own in patches for _, kinds in own.targets for callback in kinds.values()]
     wrong = []
     if status == 0 and any(it.mark == "unknown" for it in (*patches, *callbacks)):
@@ -480,6 +481,10 @@ def check_marked(patches, assumed, said, status):
         wanted = ["not-judged" if assumed else "no-symbol"] * len(own.targets) if own.missing else []
         if kinds != wanted:
             wrong.append(f"p{number}: {kinds}, where {wanted} is wanted")
+        told = [it["sentence"] for it in said if it.get("patch") == f"p{number}" and it["kind"] == "no-function"]
+        refused = ["can't be enabled while vmlinux is loaded: d of vmlinux is a variable"]
+        if told != refused * (variable and "vmlinux" in dict(own.targets)):
+            wrong.append(f"p{number}: {told} is told of variables")
     return wrong
 
 
@@ -541,13 +546,13 @@ def check_all(count, seed):
         for number in range(count):
             patches = [patch(draw) for _ in range(draw.choice((1, 2, 3)))]
             loaded = ["vmlinux", *[it for it in ("m", "n") if draw.random() < 0.7]]
-            assumed = draw.random() < 0.3
+            assumed, variable = draw.random() < 0.3, number % 5 == 0
             if "n" not in loaded and draw.random() < 0.3:
                 patches[-1] = Patch([("n", {})], patches[-1].replace, patches[-1].states, missing=True)
             variables = {key: draw.choice(VALUES) for key in KEYS if draw.random() < 0.25}
             lines = [f"insmod {it}" for it in loaded[1:]] + [f"shadow alloc {o} {i} {v}" for (o, i), v in variables.items()]
             with open(f"{room}/own.catalog", "w", encoding="ascii") as it:
-                it.write(catalog(patches, head(assumed)))
+                it.write(catalog(patches, head(assumed), variable))
             with open(f"{room}/own.script", "w", encoding="ascii") as it:
                 it.write("".join(f"{line}\n" for line in lines))
             status, out, err = run_itself(["klplint", "--json", f"{room}/own.catalog", f"{room}/own.script"])
@@ -557,7 +562,7 @@ def check_all(count, seed):
             else:
                 faults, well, ill = check_one(room, patches, loaded, variables, said)
                 more, combined = check_together(room, patches, loaded, lines, said)
-                faults += more + check_worlds(room) + check_marked(patches, assumed, said, status)
+                faults += more + check_worlds(room) + check_marked(patches, assumed, variable, said, status)
                 clean, faulty, tried = clean + well, faulty + ill, tried + combined
             for it in faults:
                 wrong += 1

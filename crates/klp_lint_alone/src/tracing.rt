@@ -1,14 +1,15 @@
 //! Judges each patch by itself: whether it could be enabled now, and withdrawn later, without leaving a trace.
-ghost use Rattle.std.specs.Prelude.{◌≡◌, ◌≤◌, true, false, [], length, IfSome, IfNone, IfOk};
+ghost use Rattle.std.specs.Prelude.{◌≡◌, ◌⊎◌, ℕ, ◌<◌, ◌≤◌, Bool, true, false, [], length, IfSome, IfNone, IfOk, MatchOption};
 ghost use Rattle.std.specs.List.{list_any};
 ghost use Rattle.klp_manager_state.specs.Managed.{setting_of};
-ghost use Rattle.klp_model.specs.State.{is_loaded};
+ghost use Rattle.klp_model.specs.State.{is_installed, is_loaded};
 ghost use Rattle.klp_model.specs.Company.{IsFairStart};
 ghost use Rattle.klp_lint.specs.Premises.{ArePatchesOf, Fails, HoldEverywhere};
 ghost use Rattle.klp_lint.specs.declared.premise.Premise.TheVariants.{NotUndone};
 ghost use Rattle.klp_lint_findings.specs.Claims.{ClaimsTrace, IsTrue, AddsTrue};
 ghost use Rattle.klp_lint_findings.specs.Deciding.{is_unknown};
-ghost use Rattle.klp_lint_findings.specs.Saying.{Adds};
+ghost use Rattle.klp_lint_findings.specs.Listed.{is_fault, Lists};
+ghost use Rattle.klp_lint_findings.specs.Saying.{is_said_of, Adds};
 ghost use Rattle.klp_lint_findings.specs.Sound.{Grows, Vouches, VouchesBelow};
 ghost use Rattle.klp_lint_findings.specs.Standing.{standing};
 ghost use Rattle.klp_lint_findings.specs.Targets.{target_at, callbacks_for};
@@ -45,7 +46,8 @@ fn not_undone(
     pair: Pair,
     key: ShadowKey,
 ) -> TraceFinding
-    ensures { Fails (setting_of manager.now.managed) patch manager.now.managed.state (NotUndone place pair key)
+    ensures fault { is_fault result ≡ true }
+    ensures claims { Fails (setting_of manager.now.managed) patch manager.now.managed.state (NotUndone place pair key)
         → ClaimsTrace linted.now (standing manager.now) patch result }
 {
     let callbacks = callbacks_at(linted, patch, place);
@@ -62,8 +64,10 @@ fn not_undone(
 
 /// The finding about a premise that fails.
 fn failing(linted: &Linted<'_>, manager: &Manager, patch: PatchId, premise: Premise) -> TraceFinding
-    ensures { Fails (setting_of manager.now.managed) patch manager.now.managed.state premise
+    ensures claims { Fails (setting_of manager.now.managed) patch manager.now.managed.state premise
         → ClaimsTrace linted.now (standing manager.now) patch result }
+    ensures listed { Fails (setting_of manager.now.managed) patch manager.now.managed.state premise
+        → (is_installed manager.now.managed.state patch ≡ true) ⊎ (is_fault result ≡ true) }
 {
     match premise {
         Premise::Moving => TraceFinding::Moving,
@@ -147,6 +151,10 @@ fn trace_of(
 ) -> Option<TraceFinding>
     ensures claims { ArePatchesOf (setting_of manager.now.managed) linted.now.patches.now
         → IfSome result (ClaimsTrace linted.now (standing manager.now) patch) }
+    ensures listed { ArePatchesOf (setting_of manager.now.managed) linted.now.patches.now
+        → MatchOption result (IsFairStart (setting_of manager.now.managed) patch manager.now.managed.state)
+        (λ trace. IsFairStart (setting_of manager.now.managed) patch manager.now.managed.state
+        ⊎ ((is_installed manager.now.managed.state patch ≡ true) ⊎ (is_fault trace ≡ true))) }
     ensures unknown { IfNone result (list_any is_unknown linted.now.marks.now ≡ true) }
 {
     match leaves_no_trace(manager, linted.patches, patch) {
@@ -291,6 +299,8 @@ fn find_answer(
 ) -> Result<(), AllocError>
     ensures vouches { IfOk result
         (λ done. Vouches (setting_of manager.now.managed) manager.now.managed.state patch found.new) }
+    ensures listed { IfOk result (λ done. (full : Bool) → is_said_of found.old.world full ≡ true
+        → Lists (setting_of manager.now.managed) manager.now.managed.state patch full found.new) }
     ensures adds { IfOk result (λ done. AddsTrue (standing manager.now) found.old found.new) }
 {
     let is_scripted = found.world == World::Each;
@@ -304,6 +314,8 @@ fn find_answer(
 fn find_trace(found: &mut Findings<'_>, manager: &Manager, patch: PatchId) -> Result<(), AllocError>
     ensures vouches { IfOk result
         (λ done. Vouches (setting_of manager.now.managed) manager.now.managed.state patch found.new) }
+    ensures listed { IfOk result (λ done. (full : Bool) → is_said_of found.old.world full ≡ true
+        → Lists (setting_of manager.now.managed) manager.now.managed.state patch full found.new) }
     ensures adds { IfOk result (λ done. AddsTrue (standing manager.now) found.old found.new) }
 {
     find_answer(found, manager, patch)?;
@@ -325,11 +337,16 @@ fn find_parts(found: &mut Findings<'_>, patch: PatchId) -> Result<(), AllocError
     Ok(())
 }
 
-/// Judges each patch by itself. If the list makes the status 0, each patch leaves no trace, or is installed.
+/// Judges each patch by itself. Each patch leaves no trace, or is installed, or the list says that a premise fails. If the
+/// list makes the status 0, each patch leaves no trace, or is installed.
 pub fn judge_alone(found: &mut Findings<'_>, manager: &Manager) -> Result<(), AllocError>
     ensures vouches { IfOk result (λ done. length found.old.linted.patches.now ≤ 256
         → VouchesBelow (setting_of manager.now.managed) manager.now.managed.state
         (length found.old.linted.patches.now) found.new) }
+    ensures listed { IfOk result (λ done. length found.old.linted.patches.now ≤ 256
+        → (full : Bool) → is_said_of found.old.world full ≡ true
+        → (patch : ℕ) → patch < length found.old.linted.patches.now
+        → Lists (setting_of manager.now.managed) manager.now.managed.state patch full found.new) }
     ensures grows { IfOk result (λ done. Grows found.old found.new) }
     ensures adds { IfOk result (λ done. AddsTrue (standing manager.now) found.old found.new) }
 {

@@ -3,3 +3,4 @@ pub mod SayLemmas
 pub mod ClaimLemmas
 pub mod MarkLemmas
 mod SetLemmas
+pub mod ListedLemmas

@@ -5,3 +5,4 @@ pub mod Standing
 pub mod Claims
 pub mod Marking
 pub mod Targets
+pub mod Listed

@@ -32,7 +32,7 @@ true_in world this here one two adds same early full finding said =
 
 -- the same, where one world is judged
 pub now_in : (here : Standing) (one two : Findings) → AddsTrue here one two → AddsIn one.world here one two
-now_in here one two adds = record { linted = adds.grows.linted; kept = adds.grows.kept; more = adds.more }
+now_in here one two adds = record { linted = adds.grows.linted; kept = adds.grows.kept; still = adds.kept; more = adds.more }
 
 pub true_now : (here : Standing) (world : Bool → Standing) (one two : Findings) → AddsTrue here one two → ((full : Bool) → world full ≡ here)
     → AreTrue world one → AreTrue world two

@@ -26,8 +26,9 @@ use Rattle.klp_lint_findings.specs.declared.marks.Mark.{Mark}
 use Rattle.klp_lint_findings.specs.Deciding.{decides, is_unknown, is_clean}
 use Rattle.klp_lint_findings.specs.Marking.{has_unknown}
 use Rattle.klp_lint_findings.specs.Sound.{one_decides}
-use Rattle.klp_lint_worlds.specs.Worlds.{with_modules, world_state, one_is_refused, IsReady, Assures, AssuresAll, IsScripted, AreAllTrue}
-use Rattle.klp_lint_worlds.specs.Whole.{setting_of_plan, modules_in, AreReady, IsClean, IsBehind, IsCleanText, IsReadFrom, AreSo, AreSoOver, AreSoOfText}
+use Rattle.klp_lint_worlds.specs.Worlds.{with_modules, world_state, one_is_refused, IsReady, Assures, AssuresAll, IsScripted, AreAllTrue, AllListed}
+use Rattle.klp_lint_worlds.specs.Whole.{setting_of_plan, modules_in, AreReady, IsClean, IsBehind, IsCleanText, IsReadFrom, AreSo, AreSoOver, AreSoOfText, AreListedOver, AreListedOfText}
+use Rattle.klp_lint_findings.specs.Listed.{IsFairOrListed, Lists}
 use Rattle.klp_lint_findings.specs.Standing.{sealed}
 use Rattle.klp_lint_worlds.proofs.TruthLemmas.{so_of}
 
@@ -182,4 +183,58 @@ found_so input read linted modules plan booted found law given patches counted p
       so = so_over plan booted input.script found is (setting_is plan booted is over) own
           (subst (λ (m : ℕ). AreAllTrue booted input.script m found) many
           (subst (λ (i : LintInput). AreAllTrue booted i.script modules found) given truth));
+    }
+
+-- the list says of each patch of the text what it says of those of the manager that was booted over the text
+listed_over : (plan : Plan) (booted : Journaled) (script : Option NamedText) (found : Findings) → IsBootedOver plan booted
+    → setting_of booted.managed ≡ setting_of_plan plan
+    → ArePatchesOf (setting_of booted.managed) found.linted.patches.now
+    → AllListed booted script (modules_in plan) (length plan.patches) found → AreListedOver plan script found
+listed_over plan booted None found is same patches lists =
+    let modules = modules_in plan in
+    let first : booted.managed.state ≡ opening_state (setting_of_plan plan) = is.state ∙ ap opening_state same in
+    λ full patch below.
+    subst (λ (s : State). IsFairOrListed (setting_of_plan plan) (world_state (setting_of_plan plan) s modules full) patch full found) first
+    (subst (λ (s : Setting). IsFairOrListed s (world_state s booted.managed.state modules full) patch full found) same
+    ((lists full patch below).listed patches))
+listed_over plan booted (Some script) found is same patches (there, scripted, kept, lists) = (
+  there.managed.state,
+  record {
+    booted = booted;
+    is_booted = is;
+    there = there;
+    answers = scripted.answers;
+    answered = scripted.answered;
+    is_state = refl;
+  },
+  λ full patch below.
+      subst (λ (s : Setting). IsFairOrListed s there.managed.state patch full found) same ((lists full patch below).listed patches),
+)
+
+pub found_listed : (input : LintInput) (read : LintPlan) (linted : Linted) (modules : ℕ) (plan : Plan) (booted : Journaled) (found : Findings)
+    → ((managed : Managed) (patches : List PlanPatch) → managed.catalog.names ≡ names_of managed.image.objects
+    → map without_scripts managed.catalog.patches ≡ map without_scripts patches
+    → scripts_of managed.catalog.patches ≡ scripts_of patches → ArePatchesOf (setting_of managed) patches)
+    → linted.input ≡ input → linted.patches.now ≡ read.patches.items → modules ≡ length read.objects.items - 1
+    → plan_of input.catalog.bytes.now ≡ Ok plan → IsBootedOver plan booted → found.linted ≡ linted
+    → (length linted.patches.now ≤ 256 → AllListed booted linted.input.script modules (length linted.patches.now) found)
+    → IsReadFrom input.catalog.bytes.now read → AreListedOfText input.catalog.bytes.now input.script found
+found_listed input read linted modules plan booted found law given patches counted planned is same lists from =
+    let text = input.catalog.bytes.now in
+    let one : from.plan ≡ plan = same_plan text from.plan plan from.is_plan planned in
+    let over = law booted.managed plan.patches (is.names ∙ sym (ap (λ (i : Image). names_of i.objects) is.image)) is.patches is.scripts in
+    let read_as : linted.patches.now ≡ plan.patches = patches ∙ from.patches ∙ ap (λ (p : Plan). p.patches) one in
+    let own : ArePatchesOf (setting_of booted.managed) found.linted.patches.now =
+    subst (ArePatchesOf (setting_of booted.managed)) (sym (ap (λ (l : Linted). l.patches.now) same ∙ read_as)) over in
+    let many : modules ≡ modules_in plan =
+    counted ∙ ap (λ (os : List Object). length os - 1) (from.objects ∙ ap (λ (p : Plan). p.objects) one) in
+    let few : length plan.patches ≤ MAX_PATCHES = subst (λ (p : Plan). length p.patches ≤ MAX_PATCHES) one from.few in
+    let fits : length linted.patches.now ≤ 256 = omega (arith, few, ap length read_as) in
+    record {
+      plan = plan;
+      is_plan = planned;
+      listed = listed_over plan booted input.script found is (setting_is plan booted is over) own
+          (subst (λ (m : ℕ). AllListed booted input.script m (length plan.patches) found) many
+          (subst (λ (ps : List PlanPatch). AllListed booted input.script modules (length ps) found) read_as
+          (subst (λ (i : LintInput). AllListed booted i.script modules (length linted.patches.now) found) given (lists fits))));
     }

@@ -18,6 +18,7 @@ use Rattle.klp_lint_findings.specs.declared.finding.Finding.{Finding}
 use Rattle.klp_lint_findings.specs.declared.findings.Findings.{Findings}
 use Rattle.klp_lint_findings.specs.Claims.{Claims}
 use Rattle.klp_lint_findings.specs.Deciding.{is_unknown}
+use Rattle.klp_lint_findings.specs.Listed.{IsFairOrListed}
 use Rattle.klp_lint_findings.specs.Saying.{Says}
 use Rattle.klp_lint_findings.specs.Standing.{Standing, sealed}
 use Rattle.klp_lint_findings.specs.Marking.{has_unknown}
@@ -90,6 +91,23 @@ pub record AreSoOfText (text : List ℕ) (script : Option NamedText) (found : Fi
   pub plan : Plan
   pub is_plan : plan_of text ≡ Ok plan
   pub so : AreSoOver plan script found
+
+-- Each patch leaves no trace, or is installed, or the list says that a premise of the round trip fails for it: without a script, in the
+-- world without modules and in the one with all modules; with a script, in the state that it leaves.
+abbrev pub AreListedOver : Plan → Option NamedText → Findings → Type 0
+AreListedOver plan None found =
+    (full : Bool) (patch : ℕ) → patch < length plan.patches
+    → IsFairOrListed (setting_of_plan plan)
+    (world_state (setting_of_plan plan) (opening_state (setting_of_plan plan)) (modules_in plan) full) patch full found
+AreListedOver plan (Some script) found =
+    (state : State) × IsLeftBy plan script.bytes.now state
+    × ((full : Bool) (patch : ℕ) → patch < length plan.patches → IsFairOrListed (setting_of_plan plan) state patch full found)
+
+-- the text is a catalog, and the list says of each of its patches for which a premise of the round trip fails that it does
+pub record AreListedOfText (text : List ℕ) (script : Option NamedText) (found : Findings) : Type 0 where
+  pub plan : Plan
+  pub is_plan : plan_of text ≡ Ok plan
+  pub listed : AreListedOver plan script found
 
 -- what was read is what the text says
 pub record IsReadFrom (text : List ℕ) (read : LintPlan) : Type 0 where

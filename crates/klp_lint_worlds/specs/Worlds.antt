@@ -19,6 +19,7 @@ use Rattle.klp_lint_findings.specs.declared.finding.RefusedLine.{RefusedLine}
 use Rattle.klp_lint_findings.specs.declared.findings.World.{World}
 use Rattle.klp_lint_findings.specs.Claims.{IsTrue}
 use Rattle.klp_lint_findings.specs.Deciding.{is_clean}
+use Rattle.klp_lint_findings.specs.Listed.{Lists}
 use Rattle.klp_lint_findings.specs.Saying.{is_said_of, Says}
 use Rattle.klp_lint_findings.specs.Standing.{Standing, sealed}
 use Rattle.klp_lint_findings.specs.Sound.{one_decides}
@@ -60,11 +61,12 @@ pub record Assures (setting : Setting) (state : State) (patches : ℕ) (found : 
   pub ready : ArePatchesOf setting found.linted.patches.now → is_clean found.said.items found.linted.marks.now ≡ true
       → (patch : ℕ) → patch < patches → IsReady setting state patch
 
--- The list goes on about the same catalog, and keeps what makes the status 3. What it says more is of this world, and true of
--- this manager.
+-- The list goes on about the same catalog, and keeps what it says, and what makes the status 3. What it says more is of this world,
+-- and true of this manager.
 pub record AddsIn (world : World) (here : Standing) (before after : Findings) : Type 0 where
   pub linted : after.linted ≡ before.linted
   pub kept : one_decides before.said.items ≡ true → one_decides after.said.items ≡ true
+  pub still : (full : Bool) (finding : Finding) → Says before.said.items full finding → Says after.said.items full finding
   pub more : (full : Bool) (finding : Finding) → Says after.said.items full finding
       → Says before.said.items full finding ⊎ ((is_said_of world full ≡ true) × IsTrue before.linted here finding)
 
@@ -99,3 +101,13 @@ AssuresAll start None modules patches found =
 AssuresAll start (Some script) modules patches found =
     (there : Journaled) × IsScripted start there script.bytes.now found × (setting_of there.managed ≡ setting_of start.managed)
     × Assures (setting_of start.managed) there.managed.state patches found
+
+-- Each of this many patches leaves no trace in its world, or is installed, or the list says that a premise fails: without a script,
+-- as long as no module is loaded, and with all modules loaded; with a script, in the state that its lines left.
+abbrev pub AllListed : Journaled → Option NamedText → ℕ → ℕ → Findings → Type 0
+AllListed start None modules patches found =
+    (full : Bool) (patch : ℕ) → patch < patches
+    → Lists (setting_of start.managed) (world_state (setting_of start.managed) start.managed.state modules full) patch full found
+AllListed start (Some script) modules patches found =
+    (there : Journaled) × IsScripted start there script.bytes.now found × (setting_of there.managed ≡ setting_of start.managed)
+    × ((full : Bool) (patch : ℕ) → patch < patches → Lists (setting_of start.managed) there.managed.state patch full found)

@@ -1,15 +1,18 @@
 //! Boots a manager over a catalog, and judges the patches: behind a script, or without one in two worlds.
-ghost use Rattle.std.specs.Prelude.{◌≡◌, ◌+◌, ◌-◌, ◌≤◌, [], length, true, IfOk};
+ghost use Rattle.std.specs.Prelude.{◌≡◌, ℕ, ◌+◌, ◌-◌, ◌<◌, ◌≤◌, Bool, [], length, true, IfOk};
 ghost use Rattle.klp_model.specs.declared.event.Event.{Event as AnyEvent};
 ghost use Rattle.klp_model.specs.Run.{next};
 ghost use Rattle.klp_core.specs.Journaled.{IsWellFormed};
 ghost use Rattle.klp_manager_state.specs.Managed.{setting_of};
 ghost use Rattle.klp_lint_findings.specs.Claims.{AddsTrue};
 ghost use Rattle.klp_lint_findings.specs.Deciding.{is_clean};
+ghost use Rattle.klp_lint_findings.specs.declared.findings.World.TheVariants as AnyWorld;
+ghost use Rattle.klp_lint_findings.specs.Listed.{Lists};
+ghost use Rattle.klp_lint_findings.specs.Saying.{is_said_of};
 ghost use Rattle.klp_lint_findings.specs.Standing.{Standing, sealed};
 ghost use Rattle.klp_lint_worlds.specs.Worlds.{with_modules, world_state, Assures, AssuresAll};
-ghost use Rattle.klp_lint_worlds.specs.Worlds.{AddsIn, AreTrue, AreAllTrue};
-ghost use Rattle.klp_lint_worlds.specs.Whole.{IsReadFrom, AreSoOfText, IsCleanText};
+ghost use Rattle.klp_lint_worlds.specs.Worlds.{AddsIn, AreTrue, AreAllTrue, AllListed};
+ghost use Rattle.klp_lint_worlds.specs.Whole.{IsReadFrom, AreSoOfText, AreListedOfText, IsCleanText};
 
 use crate::lint_plan::LintPlan;
 use crate::script::do_lines;
@@ -70,6 +73,10 @@ fn judge_now(
     ensures assures { IfOk result (λ done. length found.old.linted.patches.now ≤ 256
         → Assures (setting_of manager.old.managed) manager.old.managed.state
         (length found.old.linted.patches.now) found.new) }
+    ensures listed { IfOk result (λ done. length found.old.linted.patches.now ≤ 256
+        → (full : Bool) → is_said_of found.old.world full ≡ true
+        → (patch : ℕ) → patch < length found.old.linted.patches.now
+        → Lists (setting_of manager.old.managed) manager.old.managed.state patch full found.new) }
     ensures adds { IfOk result (λ done. AddsTrue
         (sealed (setting_of manager.old.managed) manager.old.managed.state) found.old found.new) }
     ensures setting { IfOk result (λ done. setting_of manager.new.managed ≡ setting_of manager.old.managed) }
@@ -91,6 +98,10 @@ fn judge_world(
     ensures assures { IfOk result (λ done. length found.old.linted.patches.now ≤ 256
         → Assures (setting_of manager.old.managed) manager.old.managed.state
         (length found.old.linted.patches.now) found.new) }
+    ensures listed { IfOk result (λ done. length found.old.linted.patches.now ≤ 256
+        → (full : Bool) → is_said_of world full ≡ true
+        → (patch : ℕ) → patch < length found.old.linted.patches.now
+        → Lists (setting_of manager.old.managed) manager.old.managed.state patch full found.new) }
     ensures adds { IfOk result (λ done. AddsIn world
         (sealed (setting_of manager.old.managed) manager.old.managed.state) found.old found.new) }
     ensures setting { IfOk result (λ done. setting_of manager.new.managed ≡ setting_of manager.old.managed) }
@@ -118,6 +129,11 @@ fn judge_in_both(
         → Assures (setting_of manager.old.managed)
         (with_modules (setting_of manager.old.managed) manager.old.managed.state modules)
         (length found.old.linted.patches.now) found.new) }
+    ensures listed { IfOk result (λ worlds. found.old.world ≡ AnyWorld.Each
+        → length found.old.linted.patches.now ≤ 256
+        → (full : Bool) (patch : ℕ) → patch < length found.old.linted.patches.now
+        → Lists (setting_of manager.old.managed)
+        (world_state (setting_of manager.old.managed) manager.old.managed.state modules full) patch full found.new) }
     ensures truth { IfOk result (λ worlds. AreTrue (λ full. sealed (setting_of manager.old.managed)
         (world_state (setting_of manager.old.managed) manager.old.managed.state modules full)) found.old
         → AreTrue (λ full. sealed (setting_of manager.old.managed)
@@ -145,6 +161,10 @@ fn judge(
 ) -> Result<JudgedWorlds, Fault>
     ensures assures { IfOk result (λ worlds. length found.old.linted.patches.now ≤ 256
         → AssuresAll manager.old found.old.linted.input.script modules
+        (length found.old.linted.patches.now) found.new) }
+    ensures listed { IfOk result (λ worlds. found.old.world ≡ AnyWorld.Each
+        → length found.old.linted.patches.now ≤ 256
+        → AllListed manager.old found.old.linted.input.script modules
         (length found.old.linted.patches.now) found.new) }
     ensures truth { IfOk result (λ worlds. found.old.said.items ≡ []
         → AreAllTrue manager.old found.old.linted.input.script modules found.new) }
@@ -197,6 +217,9 @@ impl ManagerUse for Linting<'_> {
         (λ done. (after.found.linted ≡ before.found.linted)
         × (before.found.said.items ≡ []
         → AreAllTrue booted before.found.linted.input.script before.modules after.found)
+        × (before.found.world ≡ AnyWorld.Each → length before.found.linted.patches.now ≤ 256
+        → AllListed booted before.found.linted.input.script before.modules
+        (length before.found.linted.patches.now) after.found)
         × (length before.found.linted.patches.now ≤ 256
         → AssuresAll booted before.found.linted.input.script before.modules
         (length before.found.linted.patches.now) after.found)) };
@@ -210,8 +233,9 @@ impl ManagerUse for Linting<'_> {
 }
 
 /// The list of what is found about the patches of a catalog, behind the script if there is one. If `plan` was read from
-/// the same catalog, each finding claims what is so of the world that it names. If the list makes the status 0, each patch is
-/// ready in the worlds that are judged.
+/// the same catalog, each finding claims what is so of the world that it names, and each patch leaves no trace, or is
+/// installed, or the list says that a premise fails. If the list makes the status 0, each patch is ready in the worlds that
+/// are judged.
 pub fn find_all<'a>(
     alloc: Global,
     input: LintInput<'a>,
@@ -219,6 +243,8 @@ pub fn find_all<'a>(
 ) -> Result<Findings<'a>, Fault>
     ensures so { IfOk result (λ found. IsReadFrom input.entry.catalog.bytes.now plan.now
         → AreSoOfText input.entry.catalog.bytes.now input.entry.script found) }
+    ensures listed { IfOk result (λ found. IsReadFrom input.entry.catalog.bytes.now plan.now
+        → AreListedOfText input.entry.catalog.bytes.now input.entry.script found) }
     ensures clean { IfOk result (λ found. IsReadFrom input.entry.catalog.bytes.now plan.now
         → is_clean found.said.items found.linted.marks.now ≡ true
         → IsCleanText input.entry.catalog.bytes.now input.entry.script) }
