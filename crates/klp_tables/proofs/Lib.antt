@@ -1,2 +1,4 @@
 pub mod TableLemmas
 pub mod FaultLemmas
+pub mod CountedLemmas
+pub mod KpatchLemmas

@@ -19,6 +19,8 @@ use Rattle.klp_tables.specs.declared.fault.TableFault.{TableFault}
 use Rattle.klp_tables.specs.declared.fault.TableFault.TheVariants.{NoPatch, SeveralPatches}
 use Rattle.klp_tables.specs.declared.finding.Found.{Found}
 use Rattle.klp_tables.specs.declared.finding.Found.TheVariants.{Nothing, One, Several}
+use Rattle.klp_tables.specs.Rows.{moved}
+use Rattle.klp_tables.specs.declared.layout.PatchLayout.{PatchLayout}
 
 abbrev pub place_in_section : SymbolSection → ℕ → Option Place
 place_in_section (In section) value = Some (record { section = section; offset = value })
@@ -48,13 +50,15 @@ is_pointer_to wanted other = false
 abbrev pub points_to : Elf → Place → Place → Bool
 points_to elf at wanted = is_pointer_to wanted (pointer_at elf at)
 
-abbrev pub begins_with : Elf → Place → Option Place → Bool
-begins_with elf own None = false
-begins_with elf own (Some place) = points_to elf place own
+-- the word so many bytes behind a place points to the module itself
+abbrev pub names_module : Elf → Place → ℕ → Option Place → Bool
+names_module elf own by None = false
+names_module elf own by (Some place) = points_to elf (moved place by) own
 
--- a variable of the size of a struct klp_patch, 200 bytes, whose first word, mod, points to the module itself
-abbrev pub is_patch : Elf → Place → Symbol → Bool
-is_patch elf own symbol = is_object symbol.kind && (symbol.size == 200 && begins_with elf own (place_of symbol))
+-- a variable of the size of a struct klp_patch, whose field mod points to the module itself
+abbrev pub is_patch : Elf → PatchLayout → Place → Symbol → Bool
+is_patch elf layout own symbol =
+    is_object symbol.kind && (symbol.size == layout.size && names_module elf own layout.module (place_of symbol))
 
 abbrev pub found_by : List Symbol → Found
 found_by [] = Nothing
@@ -66,9 +70,9 @@ abbrev pub and_found : Found → Symbol → Found
 and_found Nothing symbol = One symbol
 and_found found symbol = Several
 
-abbrev pub patches_of : Elf → Option Place → Found
-patches_of elf None = Nothing
-patches_of elf (Some own) = found_by (filter (is_patch elf own) elf.symbols.items)
+abbrev pub patches_of : Elf → PatchLayout → Option Place → Found
+patches_of elf layout None = Nothing
+patches_of elf layout (Some own) = found_by (filter (is_patch elf layout own) elf.symbols.items)
 
 abbrev pub place_or_none : Option Place → Result Place TableFault
 place_or_none None = Err NoPatch
@@ -80,8 +84,8 @@ place_found (One symbol) = place_or_none (place_of symbol)
 place_found Several = Err SeveralPatches
 
 -- where the struct klp_patch of a file begins: the one variable that looks like it
-abbrev pub patch_of : Elf → Result Place TableFault
-patch_of elf = place_found (patches_of elf (module_place elf))
+abbrev pub patch_of : Elf → PatchLayout → Result Place TableFault
+patch_of elf layout = place_found (patches_of elf layout (module_place elf))
 
 -- SHF_EXECINSTR is 4
 abbrev pub is_code : Option Section → Bool
@@ -97,21 +101,22 @@ lag kind = 0
 abbrev pub distance : ℕ → ℕ → ℕ
 distance to from = (to + 2 ^ 64 - from) % 2 ^ 64
 
-abbrev pub is_behind : Place → ℕ → SymbolSection → Bool
-is_behind patch to (In section) =
-    section == patch.section && nat_lt 0 (distance to patch.offset) && nat_lt (distance to patch.offset) 200
-is_behind patch to elsewhere = false
+abbrev pub is_behind : Place → ℕ → ℕ → SymbolSection → Bool
+is_behind patch size to (In section) =
+    section == patch.section && nat_lt 0 (distance to patch.offset) && nat_lt (distance to patch.offset) size
+is_behind patch size to elsewhere = false
 
-abbrev pub names_symbol_inside : Place → Relocation → Option Symbol → Bool
-names_symbol_inside patch relocation None = false
-names_symbol_inside patch relocation (Some symbol) = is_behind patch ((symbol.value + relocation.addend + lag relocation.kind) % 2 ^ 64) symbol.section
+abbrev pub names_symbol_inside : Place → ℕ → Relocation → Option Symbol → Bool
+names_symbol_inside patch size relocation None = false
+names_symbol_inside patch size relocation (Some symbol) =
+    is_behind patch size ((symbol.value + relocation.addend + lag relocation.kind) % 2 ^ 64) symbol.section
 
--- an instruction names a field of the struct behind its first one
-abbrev pub names_inside : Elf → Place → Relocation → Bool
-names_inside elf patch relocation =
+-- an instruction names a field of the struct, which has so many bytes, behind its first one
+abbrev pub names_inside : Elf → Place → ℕ → Relocation → Bool
+names_inside elf patch size relocation =
     is_code (slice_get elf.sections.items relocation.section)
-    && names_symbol_inside patch relocation (slice_get elf.symbols.items relocation.symbol)
+    && names_symbol_inside patch size relocation (slice_get elf.symbols.items relocation.symbol)
 
 -- code may change the struct before it is passed on
-abbrev pub is_changed : Elf → Place → Bool
-is_changed elf patch = list_any (names_inside elf patch) elf.relocations.items
+abbrev pub is_changed : Elf → PatchLayout → Place → Bool
+is_changed elf layout patch = list_any (names_inside elf patch layout.size) elf.relocations.items

@@ -1,5 +1,9 @@
 pub mod Steps
 pub mod Rows
 pub mod Finding
+pub mod Counted
+pub mod Kpatch
+pub mod KlpBuild
+pub mod Forms
 pub mod Patches
 pub mod Faults

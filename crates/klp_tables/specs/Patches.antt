@@ -1,15 +1,24 @@
 -- What the tables of a livepatch say.
-use Rattle.std.specs.Prelude.{ℕ, ◌≡◌, ◌==◌, if◌then◌else◌, Bool, true, false, List, [], Result, Ok, Err}
+use Rattle.std.specs.Prelude.{ℕ, ◌≡◌, ◌==◌, if◌then◌else◌, Bool, true, false, List, [], map, Result, Ok, Err}
 use Rattle.klp_elf.specs.Looks.{pointer_at}
 use Rattle.klp_elf.specs.declared.elf.Elf.{Elf}
 use Rattle.klp_elf.specs.declared.fault.LookFault.{LookFault}
 use Rattle.klp_elf.specs.declared.look.Place.{Place}
 use Rattle.klp_elf.specs.declared.look.Pointer.{Pointer}
 use Rattle.klp_elf.specs.declared.look.Pointer.TheVariants.{Null, To}
-use Rattle.klp_tables.specs.Finding.{is_changed, patch_of}
+use Rattle.klp_tables.specs.Counted.{TargetFacts, target_meaning}
+use Rattle.klp_tables.specs.Finding.{is_changed}
+use Rattle.klp_tables.specs.Forms.{form_of}
+use Rattle.klp_tables.specs.KlpBuild.{built_targets}
+use Rattle.klp_tables.specs.Kpatch.{kpatch_targets}
 use Rattle.klp_tables.specs.Rows.{moved, number_in, IsObjectTable, IsStateTable}
 use Rattle.klp_tables.specs.Steps.{◌>>=◌}
 use Rattle.klp_tables.specs.declared.fault.TableFault.{TableFault}
+use Rattle.klp_tables.specs.declared.finding.Form.{Form}
+use Rattle.klp_tables.specs.declared.finding.Form.TheVariants.{Static, Kpatch, KlpBuild}
+use Rattle.klp_tables.specs.declared.layout.Layout.{Layout}
+use Rattle.klp_tables.specs.declared.layout.PatchLayout.{PatchLayout}
+use Rattle.klp_tables.specs.declared.layout.StateLayout.{StateLayout}
 use Rattle.klp_tables.specs.declared.patch.Patch.{Patch}
 use Rattle.klp_tables.specs.declared.patch.Replaces.{Replaces}
 use Rattle.klp_tables.specs.declared.patch.Replaces.TheVariants.{No, Yes, Unknown}
@@ -20,25 +29,37 @@ abbrev pub replaces_by : ℕ → Bool → Replaces
 replaces_by byte true = Unknown
 replaces_by byte false = if byte == 0 then No else Yes
 
--- `replace` is the byte 24 of a struct klp_patch
-abbrev pub replaces_of : Elf → Place → Result Replaces TableFault
-replaces_of elf patch = number_in 1 elf (moved patch 24) >>= λ byte. Ok (replaces_by byte (is_changed elf patch))
+-- `replace` is a byte of a struct klp_patch
+abbrev pub replaces_of : Elf → PatchLayout → Place → Result Replaces TableFault
+replaces_of elf layout patch = number_in 1 elf (moved patch layout.replace) >>= λ byte. Ok (replaces_by byte (is_changed elf layout patch))
 
 -- the states to which a pointer points, if it points to some
-abbrev pub IsStates : Elf → Result Pointer LookFault → List State → Type 0
-IsStates elf (Ok (To table)) states = IsStateTable elf table states
-IsStates elf other states = (other ≡ Ok Null) × (states ≡ [])
+abbrev pub IsStates : Elf → StateLayout → Result Pointer LookFault → List State → Type 0
+IsStates elf layout (Ok (To table)) states = IsStateTable elf layout table states
+IsStates elf layout other states = (other ≡ Ok Null) × (states ≡ [])
 
--- a patch is what its struct and the tables say to which it points: objs is at 8, states at 16
-pub record IsStaticPatch (elf : Elf) (place : Place) (patch : Patch) : Type 0 where
+-- a patch is what its struct and the tables say to which it points
+pub record IsStaticPatch (elf : Elf) (layout : Layout) (place : Place) (patch : Patch) : Type 0 where
   pub table : Place
-  pub points : pointer_at elf (moved place 8) ≡ Ok (To table)
-  pub objects : IsObjectTable elf table patch.objects.items
-  pub states : IsStates elf (pointer_at elf (moved place 16)) patch.states.items
-  pub replaces : replaces_of elf place ≡ Ok patch.replaces
+  pub points : pointer_at elf (moved place layout.patch.objects) ≡ Ok (To table)
+  pub objects : IsObjectTable elf layout table patch.objects.items
+  pub states : IsStates elf layout.state (pointer_at elf (moved place layout.patch.states)) patch.states.items
+  pub replaces : replaces_of elf layout.patch place ≡ Ok patch.replaces
+
+-- a patch whose struct init makes has these objects. The tables have no states, and init sets whether it replaces others
+pub record IsMadeByInit (targets : Result (List TargetFacts) TableFault) (patch : Patch) : Type 0 where
+  pub objects : targets ≡ Ok (map target_meaning patch.objects.items)
+  pub states : patch.states.items ≡ []
+  pub replaces : patch.replaces ≡ Unknown
+
+-- a patch is what the tables say, in the form in which they are
+abbrev pub IsPatchIn : Elf → Layout → Form → Patch → Type 0
+IsPatchIn elf layout (Static place) patch = IsStaticPatch elf layout place patch
+IsPatchIn elf layout (Kpatch table) patch = IsMadeByInit (kpatch_targets elf table) patch
+IsPatchIn elf layout (KlpBuild table) patch = IsMadeByInit (built_targets elf table) patch
 
 -- the patch of a file
-pub record IsPatch (elf : Elf) (patch : Patch) : Type 0 where
-  pub place : Place
-  pub found : patch_of elf ≡ Ok place
-  pub is : IsStaticPatch elf place patch
+pub record IsPatch (elf : Elf) (layout : Layout) (patch : Patch) : Type 0 where
+  pub form : Form
+  pub found : form_of elf layout.patch ≡ Ok form
+  pub is : IsPatchIn elf layout form patch

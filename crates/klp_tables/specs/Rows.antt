@@ -10,6 +10,11 @@ use Rattle.klp_elf.specs.declared.row.Symbol.{Symbol}
 use Rattle.klp_tables.specs.Steps.{◌>>=◌, looked}
 use Rattle.klp_tables.specs.declared.fault.TableFault.{TableFault}
 use Rattle.klp_tables.specs.declared.fault.TableFault.TheVariants.{NoName, NoFunction, NoRows}
+use Rattle.klp_tables.specs.declared.layout.CallbackPlaces.{CallbackPlaces}
+use Rattle.klp_tables.specs.declared.layout.FunctionLayout.{FunctionLayout}
+use Rattle.klp_tables.specs.declared.layout.Layout.{Layout}
+use Rattle.klp_tables.specs.declared.layout.ObjectLayout.{ObjectLayout}
+use Rattle.klp_tables.specs.declared.layout.StateLayout.{StateLayout}
 use Rattle.klp_tables.specs.declared.patch.Callbacks.{Callbacks}
 use Rattle.klp_tables.specs.declared.patch.Function.{Function}
 use Rattle.klp_tables.specs.declared.patch.Object.{Object}
@@ -65,24 +70,25 @@ pub record FunctionRow : Type 0 where
 abbrev pub function_meaning : Function → FunctionRow
 function_meaning function = record { old_name = function.old_name.now; position = function.position; new_name = function.new_name.now }
 
-abbrev pub named_function : Elf → Place → Pointer → Pointer → ℕ → Result FunctionRow TableFault
-named_function elf place old new number =
-    name_to elf place old >>= λ old_name. function_name_to elf (moved place 8) new >>= λ new_name.
+abbrev pub named_function : Elf → FunctionLayout → Place → Pointer → Pointer → ℕ → Result FunctionRow TableFault
+named_function elf layout place old new number =
+    name_to elf (moved place layout.old_name) old >>= λ old_name.
+    function_name_to elf (moved place layout.new_function) new >>= λ new_name.
     Ok (record { old_name = old_name; position = number; new_name = new_name })
 
 abbrev pub some_row : {R : Type 0} → R → Result (Option R) TableFault
 some_row row = Ok (Some row)
 
 -- an empty row ends the table
-abbrev pub function_unless_empty : Elf → Place → Pointer → Pointer → ℕ → Result (Option FunctionRow) TableFault
-function_unless_empty elf place old new number =
-    if is_null old && is_null new && number == 0 then Ok None else named_function elf place old new number >>= some_row
+abbrev pub function_unless_empty : Elf → FunctionLayout → Place → Pointer → Pointer → ℕ → Result (Option FunctionRow) TableFault
+function_unless_empty elf layout place old new number =
+    if is_null old && is_null new && number == 0 then Ok None else named_function elf layout place old new number >>= some_row
 
 -- the row of a function: old_name, new_func and old_sympos have eight bytes each
-abbrev pub function_at : Elf → Place → Result (Option FunctionRow) TableFault
-function_at elf place =
-    pointer_in elf place >>= λ old. pointer_in elf (moved place 8) >>= λ new. number_in 8 elf (moved place 16) >>= λ number.
-    function_unless_empty elf place old new number
+abbrev pub function_at : Elf → FunctionLayout → Place → Result (Option FunctionRow) TableFault
+function_at elf layout place =
+    pointer_in elf (moved place layout.old_name) >>= λ old. pointer_in elf (moved place layout.new_function) >>= λ new.
+    number_in 8 elf (moved place layout.position) >>= λ number. function_unless_empty elf layout place old new number
 
 -- the row of an object
 pub record ObjectFacts : Type 0 where
@@ -108,28 +114,30 @@ abbrev pub is_set : Elf → Place → Result Bool TableFault
 is_set elf place = pointer_in elf place >>= λ pointer. Ok (not (is_null pointer))
 
 -- the four pointers to callbacks, in the order in which they run
-abbrev pub callbacks_at : Elf → Place → Result Callbacks TableFault
-callbacks_at elf place =
-    is_set elf place >>= λ pre. is_set elf (moved place 8) >>= λ post.
-    is_set elf (moved place 16) >>= λ preun. is_set elf (moved place 24) >>= λ postun.
+abbrev pub callbacks_at : Elf → CallbackPlaces → Place → Result Callbacks TableFault
+callbacks_at elf places place =
+    is_set elf (moved place places.pre_patch) >>= λ pre. is_set elf (moved place places.post_patch) >>= λ post.
+    is_set elf (moved place places.pre_unpatch) >>= λ preun. is_set elf (moved place places.post_unpatch) >>= λ postun.
     Ok (record { pre_patch = pre; post_patch = post; pre_unpatch = preun; post_unpatch = postun })
 
-abbrev pub named_object : Elf → Place → Pointer → Pointer → Result ObjectFacts TableFault
-named_object elf place name functions =
-    object_name_to elf place name >>= λ named. rows_to (moved place 8) functions >>= λ rows. callbacks_at elf (moved place 16) >>= λ callbacks.
+abbrev pub named_object : Elf → ObjectLayout → Place → Pointer → Pointer → Result ObjectFacts TableFault
+named_object elf layout place name functions =
+    object_name_to elf (moved place layout.name) name >>= λ named. rows_to (moved place layout.functions) functions >>= λ rows.
+    callbacks_at elf layout.callbacks place >>= λ callbacks.
     Ok (record { name = named; functions = rows; callbacks = callbacks })
 
 -- the row of a struct klp_object: name, funcs, and the four callbacks. An empty one ends the table
-abbrev pub object_at : Elf → Place → Result (Option ObjectFacts) TableFault
-object_at elf place =
-    pointer_in elf place >>= λ name. pointer_in elf (moved place 8) >>= λ functions.
-    if is_null name && is_null functions then Ok None else named_object elf place name functions >>= some_row
+abbrev pub object_at : Elf → ObjectLayout → Place → Result (Option ObjectFacts) TableFault
+object_at elf layout place =
+    pointer_in elf (moved place layout.name) >>= λ name. pointer_in elf (moved place layout.functions) >>= λ functions.
+    if is_null name && is_null functions then Ok None else named_object elf layout place name functions >>= some_row
 
 -- the row of a state: id and version. The id 0 ends the table
-abbrev pub state_at : Elf → Place → Result (Option State) TableFault
-state_at elf place =
-    number_in 8 elf place >>= λ number.
-    if number == 0 then Ok None else number_in 4 elf (moved place 8) >>= λ version. Ok (Some (record { id = number; version = version }))
+abbrev pub state_at : Elf → StateLayout → Place → Result (Option State) TableFault
+state_at elf layout place =
+    number_in 8 elf (moved place layout.id) >>= λ number.
+    if number == 0 then Ok None
+    else number_in 4 elf (moved place layout.version) >>= λ version. Ok (Some (record { id = number; version = version }))
 
 abbrev pub symbol_has_size : ℕ → Option Symbol → Bool
 symbol_has_size size None = true
@@ -139,38 +147,38 @@ symbol_has_size size (Some symbol) = symbol.size == size
 abbrev pub has_size : Elf → Place → ℕ → Bool
 has_size elf place size = symbol_has_size size (find (begins_object place) elf.symbols.items)
 
--- rows by their numbers. In Linux 5.5 to 6.12 on x86-64 a klp_func has 152 bytes, a klp_object 168, and a klp_state 24
-abbrev pub function_row : Elf → Place → ℕ → Result (Option FunctionRow) TableFault
-function_row elf table k = function_at elf (row_place table 152 k)
+-- rows by their numbers
+abbrev pub function_row : Elf → FunctionLayout → Place → ℕ → Result (Option FunctionRow) TableFault
+function_row elf layout table k = function_at elf layout (row_place table layout.size k)
 
-abbrev pub object_row : Elf → Place → ℕ → Result (Option ObjectFacts) TableFault
-object_row elf table k = object_at elf (row_place table 168 k)
+abbrev pub object_row : Elf → ObjectLayout → Place → ℕ → Result (Option ObjectFacts) TableFault
+object_row elf layout table k = object_at elf layout (row_place table layout.size k)
 
-abbrev pub state_row : Elf → Place → ℕ → Result (Option State) TableFault
-state_row elf table k = state_at elf (row_place table 24 k)
+abbrev pub state_row : Elf → StateLayout → Place → ℕ → Result (Option State) TableFault
+state_row elf layout table k = state_at elf layout (row_place table layout.size k)
 
 -- the functions of a table up to its empty row, whose variable has the size of all rows
-pub record IsFunctionTable (elf : Elf) (table : Place) (functions : List Function) : Type 0 where
-  pub rows : IsTable (function_row elf table) (map function_meaning functions)
-  pub size : has_size elf table (152 * (length functions + 1)) ≡ true
+pub record IsFunctionTable (elf : Elf) (layout : FunctionLayout) (table : Place) (functions : List Function) : Type 0 where
+  pub rows : IsTable (function_row elf layout table) (map function_meaning functions)
+  pub size : has_size elf table (layout.size * (length functions + 1)) ≡ true
 
 -- the functions of an object; none where it points to no table
-abbrev pub IsFunctions : Elf → Option Place → List Function → Type 0
-IsFunctions elf None functions = functions ≡ []
-IsFunctions elf (Some table) functions = IsFunctionTable elf table functions
+abbrev pub IsFunctions : Elf → FunctionLayout → Option Place → List Function → Type 0
+IsFunctions elf layout None functions = functions ≡ []
+IsFunctions elf layout (Some table) functions = IsFunctionTable elf layout table functions
 
-abbrev pub has_functions : Elf → Object → Type 0
-has_functions elf object = IsFunctions elf object.row.functions object.functions.items
+abbrev pub has_functions : Elf → FunctionLayout → Object → Type 0
+has_functions elf layout object = IsFunctions elf layout object.row.functions object.functions.items
 
 abbrev pub row_of : Object → ObjectFacts
 row_of object = object_meaning object.row
 
 -- the objects of a table up to its empty row, each with its functions
-pub record IsObjectTable (elf : Elf) (table : Place) (objects : List Object) : Type 0 where
-  pub rows : IsTable (object_row elf table) (map row_of objects)
-  pub functions : All (has_functions elf) objects
-  pub size : has_size elf table (168 * (length objects + 1)) ≡ true
+pub record IsObjectTable (elf : Elf) (layout : Layout) (table : Place) (objects : List Object) : Type 0 where
+  pub rows : IsTable (object_row elf layout.object table) (map row_of objects)
+  pub functions : All (has_functions elf layout.function) objects
+  pub size : has_size elf table (layout.object.size * (length objects + 1)) ≡ true
 
-pub record IsStateTable (elf : Elf) (table : Place) (states : List State) : Type 0 where
-  pub rows : IsTable (state_row elf table) states
-  pub size : has_size elf table (24 * (length states + 1)) ≡ true
+pub record IsStateTable (elf : Elf) (layout : StateLayout) (table : Place) (states : List State) : Type 0 where
+  pub rows : IsTable (state_row elf layout table) states
+  pub size : has_size elf table (layout.size * (length states + 1)) ≡ true

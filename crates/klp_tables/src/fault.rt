@@ -15,12 +15,17 @@ pub enum TableFault {
     NoFunction(Place),
     /// A row has no pointer to rows of the file here.
     NoRows(Place),
-    /// A table begins here and has another size than its rows by the known layout.
+    /// A table begins here and has another size than its rows by the layout.
     Layout { table: Place, wanted: u64 },
-    /// No variable looks like a struct klp_patch of this module.
+    /// No variable looks like a struct klp_patch of this module, and it has no section of a tool.
     NoPatch,
     /// Several variables look like it.
     SeveralPatches,
+    /// Rows of so many bytes don't fill the section that begins here.
+    Ragged { table: Place, width: u64 },
+    /// The callback in this row is its object's second one of a kind.
+    ExtraCallback(Place),
+    TooManyCallbacks,
     TooManyFunctions,
     TooManyObjects,
     TooManyStates,

@@ -6,36 +6,36 @@ ghost use Rattle.klp_tables.specs.Rows.{has_functions, object_at, object_row, ro
 ghost use Rattle.klp_tables.specs.declared.fault.TableFault.TheVariants.{NoMemory, TooManyObjects};
 
 use crate::fault::TableFault;
+use crate::layout::Layout;
 use crate::limits::{MAX_FUNCTIONS, MAX_OBJECTS};
 use crate::patch::Object;
-use crate::place::row_place;
+use crate::place::{bytes_of_rows, row_place};
 use crate::row::{has_size, object_at};
 use crate::rows::functions_of;
 use klp_elf::{Elf, Place};
 use std::alloc::Global;
 
-/// The bytes of a `struct klp_object` in Linux 5.5 to 6.12 on x86-64.
-const OBJECT: u64 = 168;
-
 /// Reads the object of a row with its functions, for which there is room. Returns `None` if the row is empty.
 fn object_with_functions<'a>(
     alloc: Global,
     elf: &Elf<'a>,
+    layout: Layout,
     place: Place,
     room: usize,
 ) -> Result<Option<Object<'a>>, TableFault>
     requires { room ≤ MAX_FUNCTIONS }
     ensures { MatchResult result
-        (λ object. MatchOption object (object_at elf.now place ≡ Ok None)
-        (λ o. (object_at elf.now place ≡ Ok (Some (row_of o))) × has_functions elf.now o × (length o.functions.items ≤ room)))
-        (λ fault. (fault ≡ NoMemory) ⊎ IsObjectFault elf.now place room fault) }
+        (λ object. MatchOption object (object_at elf.now layout.object place ≡ Ok None)
+        (λ o. (object_at elf.now layout.object place ≡ Ok (Some (row_of o))) × has_functions elf.now layout.function o
+        × (length o.functions.items ≤ room)))
+        (λ fault. (fault ≡ NoMemory) ⊎ IsObjectFault elf.now layout place room fault) }
 {
-    let row = match object_at(elf, place) {
+    let row = match object_at(elf, layout.object, place) {
         Ok(Some(row)) => row,
         Ok(None) => return Ok(None),
         Err(fault) => return Err(fault),
     };
-    match functions_of(alloc, elf, row.functions, room) {
+    match functions_of(alloc, elf, layout.function, row.functions, room) {
         Ok(functions) => Ok(Some(Object { row, functions })),
         Err(fault) => Err(fault),
     }
@@ -45,18 +45,20 @@ fn object_with_functions<'a>(
 fn objects_to_end<'a>(
     alloc: Global,
     elf: &Elf<'a>,
+    layout: Layout,
     table: Place,
 ) -> Result<Vec<Object<'a>>, TableFault>
     ensures { MatchResult result
-        (λ objects. IsTable (object_row elf.now table) (map row_of objects.items)
-        × All (has_functions elf.now) objects.items × (length objects.items ≤ MAX_OBJECTS))
-        (λ fault. (fault ≡ NoMemory) ⊎ (FailsAtObject elf.now table fault
-        ⊎ ((fault ≡ TooManyObjects) × HasMoreRows (object_row elf.now table) MAX_OBJECTS))) }
+        (λ objects. IsTable (object_row elf.now layout.object table) (map row_of objects.items)
+        × All (has_functions elf.now layout.function) objects.items × (length objects.items ≤ MAX_OBJECTS))
+        (λ fault. (fault ≡ NoMemory) ⊎ (FailsAtObject elf.now layout table fault
+        ⊎ ((fault ≡ TooManyObjects) × HasMoreRows (object_row elf.now layout.object table) MAX_OBJECTS))) }
 {
     let mut objects = Vec::new(alloc);
     let mut room = MAX_FUNCTIONS;
     for k in 0..MAX_OBJECTS + 1 {
-        match object_with_functions(alloc, elf, row_place(table, OBJECT, k as u64), room) {
+        let place = row_place(table, layout.object.size as u64, k as u64);
+        match object_with_functions(alloc, elf, layout, place, room) {
             Ok(Some(object)) => {
                 room -= object.functions.len();
                 objects.push(object)?;
@@ -72,16 +74,17 @@ fn objects_to_end<'a>(
 pub(crate) fn object_table<'a>(
     alloc: Global,
     elf: &Elf<'a>,
+    layout: Layout,
     table: Place,
 ) -> Result<Vec<Object<'a>>, TableFault>
-    ensures { MatchResult result (λ objects. IsObjectTable elf.now table objects.items)
-        (λ fault. (fault ≡ NoMemory) ⊎ IsObjectTableFault elf.now table fault) }
+    ensures { MatchResult result (λ objects. IsObjectTable elf.now layout table objects.items)
+        (λ fault. (fault ≡ NoMemory) ⊎ IsObjectTableFault elf.now layout table fault) }
 {
-    let objects = match objects_to_end(alloc, elf, table) {
+    let objects = match objects_to_end(alloc, elf, layout, table) {
         Ok(objects) => objects,
         Err(fault) => return Err(fault),
     };
-    let wanted = OBJECT * (objects.len() as u64 + 1);
+    let wanted = bytes_of_rows(layout.object.size, objects.len());
     if has_size(elf, table, wanted) {
         Ok(objects)
     } else {

@@ -3,11 +3,12 @@ ghost use Rattle.std.specs.Prelude.{◌≡◌, ◌==◌, Some, None, Ok, Err, op
 ghost use Rattle.klp_tables.specs.Rows.{callbacks_at, function_at, function_meaning, function_name_to, has_size, is_null, is_set, name_to, named_function, named_object, number_in, object_at, object_meaning, object_name_to, pointer_in, rows_to, state_at};
 
 use crate::fault::TableFault;
+use crate::layout::{CallbackPlaces, FunctionLayout, ObjectLayout, StateLayout};
 use crate::patch::{Callbacks, Function, ObjectRow, State};
 use crate::place::moved;
 use klp_elf::{Elf, Place, Pointer};
 
-fn pointer(elf: &Elf<'_>, place: Place) -> Result<Pointer, TableFault>
+pub(crate) fn pointer(elf: &Elf<'_>, place: Place) -> Result<Pointer, TableFault>
     ensures { result ≡ pointer_in elf.now place }
 {
     match elf.pointer(place) {
@@ -16,7 +17,7 @@ fn pointer(elf: &Elf<'_>, place: Place) -> Result<Pointer, TableFault>
     }
 }
 
-fn number64(elf: &Elf<'_>, place: Place) -> Result<u64, TableFault>
+pub(crate) fn number64(elf: &Elf<'_>, place: Place) -> Result<u64, TableFault>
     ensures { result ≡ number_in 8 elf.now place }
 {
     match elf.number64(place) {
@@ -25,7 +26,7 @@ fn number64(elf: &Elf<'_>, place: Place) -> Result<u64, TableFault>
     }
 }
 
-fn number32(elf: &Elf<'_>, place: Place) -> Result<u32, TableFault>
+pub(crate) fn number32(elf: &Elf<'_>, place: Place) -> Result<u32, TableFault>
     ensures { result ≡ number_in 4 elf.now place }
 {
     match elf.number32(place) {
@@ -41,7 +42,11 @@ fn is_null(pointer: Pointer) -> bool
 }
 
 /// Returns the name to which the pointer at a place points.
-fn name_to<'a>(elf: &Elf<'a>, at: Place, pointer: Pointer) -> Result<&'a [u8], TableFault>
+pub(crate) fn name_to<'a>(
+    elf: &Elf<'a>,
+    at: Place,
+    pointer: Pointer,
+) -> Result<&'a [u8], TableFault>
     ensures { MatchResult result (λ name. name_to elf.now at pointer ≡ Ok name.now) (λ fault. name_to elf.now at pointer ≡ Err fault) }
 {
     match pointer {
@@ -54,7 +59,11 @@ fn name_to<'a>(elf: &Elf<'a>, at: Place, pointer: Pointer) -> Result<&'a [u8], T
 }
 
 /// Returns the name of the function to which the pointer at a place points.
-fn function_name_to<'a>(elf: &Elf<'a>, at: Place, pointer: Pointer) -> Result<&'a [u8], TableFault>
+pub(crate) fn function_name_to<'a>(
+    elf: &Elf<'a>,
+    at: Place,
+    pointer: Pointer,
+) -> Result<&'a [u8], TableFault>
     ensures { MatchResult result (λ name. function_name_to elf.now at pointer ≡ Ok name.now)
         (λ fault. function_name_to elf.now at pointer ≡ Err fault) }
 {
@@ -70,16 +79,17 @@ fn function_name_to<'a>(elf: &Elf<'a>, at: Place, pointer: Pointer) -> Result<&'
 /// Returns the function of a row with these pointers and this position.
 fn named_function<'a>(
     elf: &Elf<'a>,
+    layout: FunctionLayout,
     place: Place,
     old: Pointer,
     new: Pointer,
     position: u64,
 ) -> Result<Function<'a>, TableFault>
-    ensures { MatchResult result (λ function. named_function elf.now place old new position ≡ Ok (function_meaning function))
-        (λ fault. named_function elf.now place old new position ≡ Err fault) }
+    ensures { MatchResult result (λ function. named_function elf.now layout place old new position ≡ Ok (function_meaning function))
+        (λ fault. named_function elf.now layout place old new position ≡ Err fault) }
 {
-    let old_name = name_to(elf, place, old)?;
-    let new_name = function_name_to(elf, moved(place, 8), new)?;
+    let old_name = name_to(elf, moved(place, layout.old_name as u64), old)?;
+    let new_name = function_name_to(elf, moved(place, layout.new_function as u64), new)?;
     Ok(Function {
         old_name,
         position,
@@ -90,18 +100,19 @@ fn named_function<'a>(
 /// Reads the row of a function. Returns `None` if it is empty.
 pub(crate) fn function_at<'a>(
     elf: &Elf<'a>,
+    layout: FunctionLayout,
     place: Place,
 ) -> Result<Option<Function<'a>>, TableFault>
-    ensures { MatchResult result (λ row. function_at elf.now place ≡ Ok (option_map function_meaning row))
-        (λ fault. function_at elf.now place ≡ Err fault) }
+    ensures { MatchResult result (λ row. function_at elf.now layout place ≡ Ok (option_map function_meaning row))
+        (λ fault. function_at elf.now layout place ≡ Err fault) }
 {
-    let old = pointer(elf, place)?;
-    let new = pointer(elf, moved(place, 8))?;
-    let position = number64(elf, moved(place, 16))?;
+    let old = pointer(elf, moved(place, layout.old_name as u64))?;
+    let new = pointer(elf, moved(place, layout.new_function as u64))?;
+    let position = number64(elf, moved(place, layout.position as u64))?;
     if is_null(old) && is_null(new) && position == 0 {
         return Ok(None);
     }
-    let function = named_function(elf, place, old, new, position)?;
+    let function = named_function(elf, layout, place, old, new, position)?;
     Ok(Some(function))
 }
 
@@ -142,14 +153,18 @@ fn is_set(elf: &Elf<'_>, place: Place) -> Result<bool, TableFault>
     Ok(!is_null(pointer))
 }
 
-/// Reads which of the four callbacks at a place there are.
-fn callbacks_at(elf: &Elf<'_>, place: Place) -> Result<Callbacks, TableFault>
-    ensures { result ≡ callbacks_at elf.now place }
+/// Reads which of the four callbacks an object has.
+fn callbacks_at(
+    elf: &Elf<'_>,
+    places: CallbackPlaces,
+    place: Place,
+) -> Result<Callbacks, TableFault>
+    ensures { result ≡ callbacks_at elf.now places place }
 {
-    let pre_patch = is_set(elf, place)?;
-    let post_patch = is_set(elf, moved(place, 8))?;
-    let pre_unpatch = is_set(elf, moved(place, 16))?;
-    let post_unpatch = is_set(elf, moved(place, 24))?;
+    let pre_patch = is_set(elf, moved(place, places.pre_patch as u64))?;
+    let post_patch = is_set(elf, moved(place, places.post_patch as u64))?;
+    let pre_unpatch = is_set(elf, moved(place, places.pre_unpatch as u64))?;
+    let post_unpatch = is_set(elf, moved(place, places.post_unpatch as u64))?;
     Ok(Callbacks {
         pre_patch,
         post_patch,
@@ -159,18 +174,19 @@ fn callbacks_at(elf: &Elf<'_>, place: Place) -> Result<Callbacks, TableFault>
 }
 
 /// Returns the object of a row with these pointers.
-fn named_object<'a>(
+pub(crate) fn named_object<'a>(
     elf: &Elf<'a>,
+    layout: ObjectLayout,
     place: Place,
     name: Pointer,
     functions: Pointer,
 ) -> Result<ObjectRow<'a>, TableFault>
-    ensures { MatchResult result (λ row. named_object elf.now place name functions ≡ Ok (object_meaning row))
-        (λ fault. named_object elf.now place name functions ≡ Err fault) }
+    ensures { MatchResult result (λ row. named_object elf.now layout place name functions ≡ Ok (object_meaning row))
+        (λ fault. named_object elf.now layout place name functions ≡ Err fault) }
 {
-    let name = object_name_to(elf, place, name)?;
-    let functions = rows_to(moved(place, 8), functions)?;
-    let callbacks = callbacks_at(elf, moved(place, 16))?;
+    let name = object_name_to(elf, moved(place, layout.name as u64), name)?;
+    let functions = rows_to(moved(place, layout.functions as u64), functions)?;
+    let callbacks = callbacks_at(elf, layout.callbacks, place)?;
     Ok(ObjectRow {
         name,
         functions,
@@ -181,29 +197,34 @@ fn named_object<'a>(
 /// Reads the row of a `struct klp_object`. Returns `None` if it is empty.
 pub(crate) fn object_at<'a>(
     elf: &Elf<'a>,
+    layout: ObjectLayout,
     place: Place,
 ) -> Result<Option<ObjectRow<'a>>, TableFault>
-    ensures { MatchResult result (λ row. object_at elf.now place ≡ Ok (option_map object_meaning row))
-        (λ fault. object_at elf.now place ≡ Err fault) }
+    ensures { MatchResult result (λ row. object_at elf.now layout place ≡ Ok (option_map object_meaning row))
+        (λ fault. object_at elf.now layout place ≡ Err fault) }
 {
-    let name = pointer(elf, place)?;
-    let functions = pointer(elf, moved(place, 8))?;
+    let name = pointer(elf, moved(place, layout.name as u64))?;
+    let functions = pointer(elf, moved(place, layout.functions as u64))?;
     if is_null(name) && is_null(functions) {
         return Ok(None);
     }
-    let row = named_object(elf, place, name, functions)?;
+    let row = named_object(elf, layout, place, name, functions)?;
     Ok(Some(row))
 }
 
 /// Reads the row of a `struct klp_state`. Returns `None` if it is empty.
-pub(crate) fn state_at(elf: &Elf<'_>, place: Place) -> Result<Option<State>, TableFault>
-    ensures { result ≡ state_at elf.now place }
+pub(crate) fn state_at(
+    elf: &Elf<'_>,
+    layout: StateLayout,
+    place: Place,
+) -> Result<Option<State>, TableFault>
+    ensures { result ≡ state_at elf.now layout place }
 {
-    let id = number64(elf, place)?;
+    let id = number64(elf, moved(place, layout.id as u64))?;
     if id == 0 {
         return Ok(None);
     }
-    let version = number32(elf, moved(place, 8))?;
+    let version = number32(elf, moved(place, layout.version as u64))?;
     Ok(Some(State { id, version }))
 }
 

@@ -5,33 +5,30 @@ ghost use Rattle.klp_tables.specs.Rows.{function_meaning, function_row, IsFuncti
 ghost use Rattle.klp_tables.specs.declared.fault.TableFault.TheVariants.{NoMemory, TooManyFunctions, TooManyStates};
 
 use crate::fault::TableFault;
+use crate::layout::{FunctionLayout, StateLayout};
 use crate::limits::{MAX_FUNCTIONS, MAX_STATES};
 use crate::patch::{Function, State};
-use crate::place::row_place;
+use crate::place::{bytes_of_rows, row_place};
 use crate::row::{function_at, has_size, state_at};
 use klp_elf::{Elf, Place};
 use std::alloc::Global;
-
-/// The bytes of a `struct klp_func` and a `struct klp_state`, in Linux 5.5 to 6.12 on x86-64.
-const FUNCTION: u64 = 152;
-
-const STATE: u64 = 24;
 
 /// Reads functions up to the first empty row. There is room for so many.
 fn functions_to_end<'a>(
     alloc: Global,
     elf: &Elf<'a>,
+    layout: FunctionLayout,
     table: Place,
     room: usize,
 ) -> Result<Vec<Function<'a>>, TableFault>
     requires { room ≤ MAX_FUNCTIONS }
     ensures { MatchResult result
-        (λ functions. IsTable (function_row elf.now table) (map function_meaning functions.items) × (length functions.items ≤ room))
-        (λ fault. (fault ≡ NoMemory) ⊎ IsRowsFault (function_row elf.now table) room TooManyFunctions fault) }
+        (λ functions. IsTable (function_row elf.now layout table) (map function_meaning functions.items) × (length functions.items ≤ room))
+        (λ fault. (fault ≡ NoMemory) ⊎ IsRowsFault (function_row elf.now layout table) room TooManyFunctions fault) }
 {
     let mut functions = Vec::new(alloc);
     for k in 0..room + 1 {
-        match function_at(elf, row_place(table, FUNCTION, k as u64)) {
+        match function_at(elf, layout, row_place(table, layout.size as u64, k as u64)) {
             Ok(Some(function)) => functions.push(function)?,
             Ok(None) => return Ok(functions),
             Err(fault) => return Err(fault),
@@ -44,18 +41,19 @@ fn functions_to_end<'a>(
 fn function_table<'a>(
     alloc: Global,
     elf: &Elf<'a>,
+    layout: FunctionLayout,
     table: Place,
     room: usize,
 ) -> Result<Vec<Function<'a>>, TableFault>
     requires { room ≤ MAX_FUNCTIONS }
-    ensures { MatchResult result (λ functions. IsFunctionTable elf.now table functions.items × (length functions.items ≤ room))
-        (λ fault. (fault ≡ NoMemory) ⊎ IsFunctionTableFault elf.now table room fault) }
+    ensures { MatchResult result (λ functions. IsFunctionTable elf.now layout table functions.items × (length functions.items ≤ room))
+        (λ fault. (fault ≡ NoMemory) ⊎ IsFunctionTableFault elf.now layout table room fault) }
 {
-    let functions = match functions_to_end(alloc, elf, table, room) {
+    let functions = match functions_to_end(alloc, elf, layout, table, room) {
         Ok(functions) => functions,
         Err(fault) => return Err(fault),
     };
-    let wanted = FUNCTION * (functions.len() as u64 + 1);
+    let wanted = bytes_of_rows(layout.size, functions.len());
     if has_size(elf, table, wanted) {
         Ok(functions)
     } else {
@@ -67,27 +65,33 @@ fn function_table<'a>(
 pub(crate) fn functions_of<'a>(
     alloc: Global,
     elf: &Elf<'a>,
+    layout: FunctionLayout,
     table: Option<Place>,
     room: usize,
 ) -> Result<Vec<Function<'a>>, TableFault>
     requires { room ≤ MAX_FUNCTIONS }
-    ensures { MatchResult result (λ functions. IsFunctions elf.now table functions.items × (length functions.items ≤ room))
-        (λ fault. (fault ≡ NoMemory) ⊎ IsFunctionsFault elf.now table room fault) }
+    ensures { MatchResult result (λ functions. IsFunctions elf.now layout table functions.items × (length functions.items ≤ room))
+        (λ fault. (fault ≡ NoMemory) ⊎ IsFunctionsFault elf.now layout table room fault) }
 {
     match table {
-        Some(table) => function_table(alloc, elf, table, room),
+        Some(table) => function_table(alloc, elf, layout, table, room),
         None => Ok(Vec::new(alloc)),
     }
 }
 
 /// Reads states up to the first empty row.
-fn states_to_end(alloc: Global, elf: &Elf<'_>, table: Place) -> Result<Vec<State>, TableFault>
-    ensures { MatchResult result (λ states. IsTable (state_row elf.now table) states.items)
-        (λ fault. (fault ≡ NoMemory) ⊎ IsRowsFault (state_row elf.now table) MAX_STATES TooManyStates fault) }
+fn states_to_end(
+    alloc: Global,
+    elf: &Elf<'_>,
+    layout: StateLayout,
+    table: Place,
+) -> Result<Vec<State>, TableFault>
+    ensures { MatchResult result (λ states. IsTable (state_row elf.now layout table) states.items × (length states.items ≤ MAX_STATES))
+        (λ fault. (fault ≡ NoMemory) ⊎ IsRowsFault (state_row elf.now layout table) MAX_STATES TooManyStates fault) }
 {
     let mut states = Vec::new(alloc);
     for k in 0..MAX_STATES + 1 {
-        match state_at(elf, row_place(table, STATE, k as u64)) {
+        match state_at(elf, layout, row_place(table, layout.size as u64, k as u64)) {
             Ok(Some(state)) => states.push(state)?,
             Ok(None) => return Ok(states),
             Err(fault) => return Err(fault),
@@ -100,16 +104,17 @@ fn states_to_end(alloc: Global, elf: &Elf<'_>, table: Place) -> Result<Vec<State
 pub(crate) fn state_table(
     alloc: Global,
     elf: &Elf<'_>,
+    layout: StateLayout,
     table: Place,
 ) -> Result<Vec<State>, TableFault>
-    ensures { MatchResult result (λ states. IsStateTable elf.now table states.items)
-        (λ fault. (fault ≡ NoMemory) ⊎ IsStateTableFault elf.now table fault) }
+    ensures { MatchResult result (λ states. IsStateTable elf.now layout table states.items)
+        (λ fault. (fault ≡ NoMemory) ⊎ IsStateTableFault elf.now layout table fault) }
 {
-    let states = match states_to_end(alloc, elf, table) {
+    let states = match states_to_end(alloc, elf, layout, table) {
         Ok(states) => states,
         Err(fault) => return Err(fault),
     };
-    let wanted = STATE * (states.len() as u64 + 1);
+    let wanted = bytes_of_rows(layout.size, states.len());
     if has_size(elf, table, wanted) {
         Ok(states)
     } else {

@@ -7,8 +7,8 @@ use Rattle.klp_tables.proofs.objects.objects_to_end.Given as goal
 
 abbrev pub invariant-loop-k : goal.invariant-loop-k
 invariant-loop-k l = record {
-  rows : IsBegun (object_row l.elf l.table) (map row_of l.objects.items);
-  functions : All (has_functions l.elf) l.objects.items;
+  rows : IsBegun (object_row l.elf l.layout.object l.table) (map row_of l.objects.items);
+  functions : All (has_functions l.elf l.layout.function) l.objects.items;
   count : length l.objects.items ≡ l.k;
   small : l.room ≤ MAX_FUNCTIONS;
   left : l.room ≡ room_behind l.objects.items;
