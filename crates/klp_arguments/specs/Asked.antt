@@ -40,6 +40,7 @@ pub record Modules : Type 0 where
   pub patches : List Text
   pub question : ModuleQuestion
   pub is_json : Bool
+  pub layout : Option Text
   pub symbols : Option Text
   pub objects : List Text
   pub traceable : Option Text
@@ -109,12 +110,13 @@ has_kernel symbols objects traceable = is_some symbols || nat_lt 0 (length objec
 abbrev pub is_for_catalog : Bool → Bool → Bool
 is_for_catalog kernel cut = kernel || cut
 
-abbrev pub modules_by : List Text → Option Text → Option Text → Option Text → Option Text → List Text → Option Text → Option Text → Option Modules
-modules_by patches list matrix json symbols objects traceable cut =
+abbrev pub modules_by : List Text → Option Text → Option Text → Option Text → Option Text → Option Text → List Text → Option Text → Option Text → Option Modules
+modules_by patches list matrix json layout symbols objects traceable cut =
     option_map (λ question. record {
       patches = patches;
       question = question;
       is_json = is_given json;
+      layout = layout;
       symbols = symbols;
       objects = objects;
       traceable = traceable;
@@ -144,7 +146,7 @@ seen_in rows =
 abbrev pub modules_in : List Row → Option Modules
 modules_in rows =
     modules_by (values_in (all_of (codes "PATCH") rows)) (first_of (codes "LIST") rows) (first_of (codes "MATRIX") rows) (first_of (codes "JSON") rows)
-    (first_of (codes "SYMBOLS") rows) (values_in (all_of (codes "MODULE") rows)) (first_of (codes "TRACEABLE") rows) (first_of (codes "CUT") rows)
+    (first_of (codes "BTF") rows) (first_of (codes "SYMBOLS") rows) (values_in (all_of (codes "MODULE") rows)) (first_of (codes "TRACEABLE") rows) (first_of (codes "CUT") rows)
 
 abbrev pub watch_asked : List Text → Option Watched
 watch_asked words = unless (fault_of watch_app words) (watched_in (matches_of watch_app words))
@@ -185,6 +187,7 @@ module_meaning words = record {
   patches = map (λ patch. patch.now) words.modules.items;
   question = words.question;
   is_json = words.is_json;
+  layout = option_map (λ layout. layout.now) words.layout;
   symbols = option_map (λ symbols. symbols.now) words.symbols;
   objects = map (λ object. object.now) words.objects.items;
   traceable = option_map (λ traceable. traceable.now) words.traceable;

@@ -85,11 +85,19 @@ objects = record (valued (codes "MODULE") (codes "module")) { action = Some Appe
 abbrev pub traceable : Rule
 traceable = valued (codes "TRACEABLE") (codes "traceable")
 
+-- the layout of the structs
+abbrev pub layout : Rule
+layout = valued (codes "BTF") (codes "btf")
+
+-- what is asked of which modules
+abbrev pub question_app : App
+question_app =
+    let listed = with_rule (with_rule (bare (codes "klpko")) patches) (flag (codes "LIST") (codes "list")) in
+    with_rule listed (flag (codes "MATRIX") (codes "matrix"))
+
 -- for what the tables of modules say
 abbrev pub table_app : App
-table_app =
-    let listed = with_rule (with_rule (bare (codes "klpko")) patches) (flag (codes "LIST") (codes "list")) in
-    with_rule (with_rule listed (flag (codes "MATRIX") (codes "matrix"))) json
+table_app = with_rule (with_rule question_app layout) json
 
 abbrev pub module_app : App
 module_app = with_rule (with_rule (with_rule (with_rule table_app symbols) objects) traceable) (flag (codes "CUT") (codes "cut"))

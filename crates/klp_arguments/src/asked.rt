@@ -64,6 +64,8 @@ pub struct ModuleWords<'a> {
     pub question: ModuleQuestion,
     /// Whether the answer is for programs.
     pub is_json: bool,
+    /// The path of the layout of the kernel's structs, if it is given.
+    pub layout: Option<&'a str>,
     /// The path of the kernel's symbols, if they are given.
     pub symbols: Option<&'a str>,
     /// The paths of modules whose functions the patches change.

@@ -1,8 +1,9 @@
 //! The command of each program, by which `clap` reads its arguments and writes its help.
 ghost use Rattle.std.specs.Prelude.{◌≡◌, IfOk};
 ghost use Rattle.clap.specs.Words.{app_of, new_rule};
-ghost use Rattle.klp_arguments.specs.Commands.{answer_app, bare, flag, folder, follow, json, known, lint_app, logs, metrics, module_app, objects};
-ghost use Rattle.klp_arguments.specs.Commands.{name_of, page_app, patches, required, see_app, symbols, table_app, trace, traceable, valued, watch_app, IsArg};
+ghost use Rattle.klp_arguments.specs.Commands.{answer_app, bare, flag, folder, follow, json, known, layout, lint_app, logs, metrics, module_app};
+ghost use Rattle.klp_arguments.specs.Commands.{name_of, objects, page_app, patches, question_app, required, see_app, symbols, table_app, trace, traceable, valued};
+ghost use Rattle.klp_arguments.specs.Commands.{watch_app, IsArg};
 ghost use Rattle.klp_arguments.specs.Commands.{IsCommand};
 
 use crate::program::Program;
@@ -42,6 +43,8 @@ pub(crate) const MODULE: &str = "MODULE";
 pub(crate) const TRACEABLE: &str = "TRACEABLE";
 
 pub(crate) const CUT: &str = "CUT";
+
+pub(crate) const BTF: &str = "BTF";
 
 /// Returns the command of a program with its version and the texts of its help, but without arguments. The words that it
 /// matches begin after the program's name.
@@ -271,10 +274,21 @@ fn traceable<'a>(alloc: Global) -> Arg<'a>
     )
 }
 
-/// Returns the command of klpko for what it says of modules: it takes these, and the options `--list`, `--matrix` and
-/// `--json`.
-fn table_command<'a>(alloc: Global) -> Result<Command<'a>, AllocError>
-    ensures { IfOk result (λ command. IsCommand command table_app) }
+/// Returns klpko's option `--btf`. Its value is the file with the layout of the kernel's structs.
+fn layout<'a>(alloc: Global) -> Arg<'a>
+    ensures { IsArg result layout }
+{
+    valued(
+        alloc,
+        BTF,
+        "btf",
+        "The layout of the kernel's structs, /sys/kernel/btf/vmlinux",
+    )
+}
+
+/// Returns the command of klpko for what is asked of modules: it takes these, and the options `--list` and `--matrix`.
+fn question_command<'a>(alloc: Global) -> Result<Command<'a>, AllocError>
+    ensures { IfOk result (λ command. IsCommand command question_app) }
 {
     command_of(alloc, Program::Klpko)
         .arg(patches(alloc))?
@@ -284,12 +298,21 @@ fn table_command<'a>(alloc: Global) -> Result<Command<'a>, AllocError>
             MATRIX,
             "matrix",
             "Say what becomes of each one under each other one",
-        ))?
+        ))
+}
+
+/// Returns the command of klpko for what it says of modules: it takes these, and the options `--list`, `--matrix`, `--btf`
+/// and `--json`.
+fn table_command<'a>(alloc: Global) -> Result<Command<'a>, AllocError>
+    ensures { IfOk result (λ command. IsCommand command table_app) }
+{
+    question_command(alloc)?
+        .arg(layout(alloc))?
         .arg(json(alloc))
 }
 
-/// Returns the command of klpko: it takes modules, and the options `--list`, `--matrix`, `--json`, `--symbols`,
-/// `--module`, `--traceable` and `--cut`.
+/// Returns the command of klpko: it takes modules, and the options `--list`, `--matrix`, `--btf`, `--json`,
+/// `--symbols`, `--module`, `--traceable` and `--cut`.
 pub(crate) fn module_command<'a>(alloc: Global) -> Result<Command<'a>, AllocError>
     ensures { IfOk result (λ command. IsCommand command module_app) }
 {

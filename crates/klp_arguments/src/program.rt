@@ -99,7 +99,7 @@ impl Program {
             Program::Klpsee =>
                 "klpsee [-o FOLDER] [--json|--follow] [--catalog FILE] LOG|[--metrics] LOG..",
             Program::Klpko =>
-                "klpko [--symbols FILE] [--module FILE].. [--traceable FILE] [--cut] PATCH..|--list|--matrix [--json] PATCH..",
+                "klpko [--btf FILE] [--symbols FILE] [--module FILE].. [--traceable FILE] [--cut] PATCH..|--list|--matrix [--json] PATCH..",
         }
     }
 

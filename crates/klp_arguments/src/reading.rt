@@ -8,8 +8,8 @@ ghost use Rattle.klp_arguments.specs.Commands.{lint_app, module_app, page_app, s
 
 use crate::asked::{LintWords, ModuleQuestion, ModuleWords, PageWords, SeeWords, WatchWords};
 use crate::commands::{
-    CATALOG, CUT, FOLDER, FOLLOW, JSON, LIST, LOG, MATRIX, METRICS, MODULE, NAMES, PATCH, SCRIPT,
-    SYMBOLS, TRACE, TRACEABLE, lint_command, module_command, page_command, see_command,
+    BTF, CATALOG, CUT, FOLDER, FOLLOW, JSON, LIST, LOG, MATRIX, METRICS, MODULE, NAMES, PATCH,
+    SCRIPT, SYMBOLS, TRACE, TRACEABLE, lint_command, module_command, page_command, see_command,
     watch_command,
 };
 use crate::ending::Ending;
@@ -312,6 +312,7 @@ fn modules<'a>(
         modules: values_of(alloc, matches, PATCH)?,
         question,
         is_json,
+        layout: value_of(matches, BTF),
         symbols,
         objects,
         traceable,
