@@ -2,7 +2,7 @@
 import dataclasses
 import struct
 
-# The sizes of the structs, in Linux 5.5 to 6.12 on x86-64.
+# The sizes of the structs, in Linux 5.5 to 7.3 on x86-64.
 PATCH, OBJECT, FUNCTION, STATE, MODULE = 200, 168, 152, 24, 896
 HEADER, SECTION = 64, 64
 # Kinds of relocations, symbols and sections, and flags of sections.
@@ -83,6 +83,8 @@ class Livepatch:
     sets_replace: bool = False
     is_livepatch: bool = True
     is_named: bool = True
+    # The bytes of the structs klp_patch, klp_object, klp_func and klp_state.
+    struct_sizes: tuple = (PATCH, OBJECT, FUNCTION, STATE)
 
     def said(self):
         """What klpko tells of it to programs, but for the file."""
@@ -97,12 +99,13 @@ class Livepatch:
 
     def tables(self):
         """Where each table begins in .data, and its bytes."""
-        made = {"patch": (0, PATCH), "states": (PATCH, STATE * (len(self.states) + 1))}
-        made["objs"] = (sum(made["states"]), OBJECT * (len(self.objects) + 1))
+        patch, row, function, state = self.struct_sizes
+        made = {"patch": (0, patch), "states": (patch, state * (len(self.states) + 1))}
+        made["objs"] = (sum(made["states"]), row * (len(self.objects) + 1))
         end = sum(made["objs"])
         for number, it in enumerate(self.objects):
             if it.functions is not None:
-                made[f"funcs{number}"] = (end, FUNCTION * (len(it.functions) + 1))
+                made[f"funcs{number}"] = (end, function * (len(it.functions) + 1))
                 end = sum(made[f"funcs{number}"])
         return made
 
@@ -120,27 +123,28 @@ class Livepatch:
 
     def write_tables(self):
         """The bytes of .data, its pointers by their places, and the names."""
+        _, object_size, function_size, state_size = self.struct_sizes
         at, names = {name: begin for name, (begin, _) in self.tables().items()}, Strings()
         data, pointers = bytearray(max(sum(it) for it in self.tables().values())), {0: (OWN, 0), 8: (".data", at["objs"])}
         data[24] = self.replaces
         if self.states:
             pointers[16] = (".data", at["states"])
         for number, state in enumerate(self.states):
-            struct.pack_into("<QI", data, at["states"] + STATE * number, *state)
+            struct.pack_into("<QI", data, at["states"] + state_size * number, *state)
         for number, it in enumerate(self.objects):
-            row = at["objs"] + OBJECT * number
+            row = at["objs"] + object_size * number
             if it.name is not None:
                 pointers[row] = (NAMES, names.add(it.name))
             if it.functions is not None:
                 pointers[row + 8] = (".data", at[f"funcs{number}"])
             pointers.update({row + 16 + 8 * k: ("function", b"callback") for k, name in enumerate(CALLBACKS) if name in it.callbacks})
             for k, function in enumerate(it.functions or []):
-                row = at[f"funcs{number}"] + FUNCTION * k
+                row = at[f"funcs{number}"] + function_size * k
                 pointers.update({row: (NAMES, names.add(function.name)), row + 8: ("function", function.new_name)})
                 struct.pack_into("<Q", data, row + 16, function.position)
         return data, pointers, names
 
-    def module(self, *, section_behind=None, without_symbols=False, patch_size=PATCH, patches=1, doubled=None, short=None, numbers=(), dropped=None,
+    def module(self, *, section_behind=None, without_symbols=False, patch_size=None, patches=1, doubled=None, short=None, numbers=(), dropped=None,
                outside=None, endless=False, sizes=(), data_name=".data"):
         """The bytes of the module, with these faults."""
         data, pointers, names = self.write_tables()
@@ -150,12 +154,12 @@ class Livepatch:
         symbols.append((strings.add(b"__this_module"), VARIABLE, NUMBERS[OWN], 0, MODULE))
         by_section["patch"] = len(symbols)
         for name, (begin, size) in self.tables().items():
-            size = patch_size if name == "patch" else dict(sizes).get(name, size)
+            size = patch_size or size if name == "patch" else dict(sizes).get(name, size)
             symbols.append((strings.add(name.encode()), VARIABLE, NUMBERS[".data"], begin, size))
         for number in range(1, patches):
             pointers[len(data)] = (OWN, 0)
-            symbols.append((strings.add(b"patch%d" % number), VARIABLE, NUMBERS[".data"], len(data), PATCH))
-            data += bytes(PATCH)
+            symbols.append((strings.add(b"patch%d" % number), VARIABLE, NUMBERS[".data"], len(data), self.struct_sizes[0]))
+            data += bytes(self.struct_sizes[0])
         for name in [it[1] for it in pointers.values() if it[0] == "function"] + [b"init_module"]:
             if name not in functions:
                 functions[name] = len(symbols)

@@ -21,7 +21,8 @@ CALLBACKS = ("pre_patch", "post_patch", "pre_unpatch", "post_unpatch")
 # How many functions are named in a line.
 NAMED = 5
 NO_LIVEPATCH = "it isn't a livepatch: livepatch=Y is wanted in its section .modinfo"
-NO_PATCH = "a struct klp_patch is wanted: no variable of its size begins with a pointer to the module"
+NO_PATCH = ("a struct klp_patch is wanted: no variable of its size begins with a pointer to the module, and there is no section .kpatch.funcs or "
+            ".init.klp_objects")
 SEVERAL = "one struct klp_patch is wanted: several variables of its size begin with a pointer to the module"
 SETS = "its code sets whether it replaces"
 REPLACES = {"no": "replaces no other patch", "yes": "replaces all patches before it",
@@ -306,9 +307,6 @@ def faults():
     yield "no name", sample(is_named=False).module(), "its name is wanted in its section .modinfo: name="
     yield "no symbols", good.module(without_symbols=True), "it has no symbols, so no kernel loads it"
     yield "no struct klp_patch", good.module(patch_size=192), NO_PATCH
-    for section, tool in ((".kpatch.funcs", "kpatch-build"), ("__klp_objects", "klp-build"), (".init.klp_objects", "klp-build")):
-        yield f"the section {section}", good.module(patch_size=192, data_name=section), (
-            f"its tables are in the section {section}, as {tool} makes them: only a struct klp_patch that the compiler lays out is read")
     yield "two structs klp_patch", good.module(patches=2), SEVERAL
     at = good.place
     pointer = "a pointer is wanted, and "
@@ -322,7 +320,7 @@ def faults():
     yield "no new function", good.module(dropped=at("funcs0", 160)), f"{at('funcs0', 160)}: a pointer to a function of the module is wanted"
     yield "a callback that is a number", good.module(numbers={at("objs", 40): 9}), f"{at('objs', 40)}: {pointer}a number is there"
     yield "a name without an end", good.module(endless=True), f"{good.place('names', good.last_name)}: a name's end is wanted, a 0"
-    layout = "by the layout of Linux 5.5 to 6.12"
+    layout = "by the layout of Linux 5.5 to 7.3: --btf gives another one"
     yield "a smaller row of functions", good.module(sizes={"funcs0": 448}), f"{at('funcs0', 0)}: funcs0 has 448 bytes, and its rows have 456 bytes {layout}"
     yield "a smaller row of objects", good.module(sizes={"objs": 320}), f"{at('objs', 0)}: objs has 320 bytes, and its rows have 336 bytes {layout}"
     yield "a smaller row of states", good.module(sizes={"states": 32}), f"{at('states', 0)}: states has 32 bytes, and its rows have 48 bytes {layout}"

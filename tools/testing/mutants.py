@@ -1,6 +1,6 @@
 """Whether klpko answers modules that were changed at random. `tools/hostile modules [COUNT [SEED]]` calls this.
 
-Of each module of examples/modules, 10,000 mutants are made, or so many: bytes, numbers or whole rows are changed, or its end is
+Of each module of examples/modules, of the two that tools made too, 10,000 mutants are made, or so many: bytes, numbers or whole rows are changed, or its end is
 cut off. klpko has to answer each of them within the time of its call: with its tables, or with one line that says what is wrong.
 It prints how many were listed and how many weren't, and each call that came to something else.
 """
@@ -21,6 +21,7 @@ FILES, SECONDS = 64, 2
 # Numbers that are written over others, by their bytes.
 WIDTHS = (1, 2, 4, 8)
 ROW = 24
+MADE_BY_TOOLS = ("livepatch_built", "livepatch_fixes")
 
 
 def mutant(data, random_of):
@@ -62,7 +63,7 @@ def main(given):
     count, seed = (int(it) for it in (*given, *("10000", "1")[len(given) :]))
     run(["klpko", "--version"])
     tried, was_read, wrong = 0, 0, 0
-    for name in modules.NAMES:
+    for name in (*modules.NAMES, *MADE_BY_TOOLS):
         random_of, data = random.Random(f"{seed} {name}"), read(f"{modules.FOLDER}/{name}.ko")
         with tempfile.TemporaryDirectory(prefix="mutants-") as room:
             paths = [f"{room}/{number}.ko" for number in range(FILES)]

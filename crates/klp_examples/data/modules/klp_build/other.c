@@ -1,0 +1,1 @@
+static int again __attribute__((used)) = 2;

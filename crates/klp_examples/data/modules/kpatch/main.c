@@ -1,0 +1,2 @@
+/* what stands in the kernel's init/main.c, which isn't compiled here */
+char *saved_command_line;
