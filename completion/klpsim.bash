@@ -100,12 +100,12 @@ _klpsee() {
 _klpko() {
   local klp_words klp_before klp_option klp_word
   _klp_words || return 0
-  if _klp_options --btf --symbols --module --traceable; then _klp_files ko "$klp_word"
+  if _klp_options --btf --symbols --module --traceable --kernel; then _klp_files ko "$klp_word"
   elif [ "$klp_option" = --module ]; then _klp_files ko "$klp_word"
-  elif [ "$klp_option" = --btf ] || [ "$klp_option" = --symbols ] || [ "$klp_option" = --traceable ]; then
+  elif [[ "$klp_option" = --@(btf|symbols|traceable|kernel) ]]; then
     compopt -o filenames 2>/dev/null
     mapfile -t COMPREPLY < <(compgen -f -- "$klp_word")
-  else _klp_offer '--list --matrix --json --btf --symbols --module --traceable --cut --help --version'; fi
+  else _klp_offer '--list --matrix --json --btf --symbols --module --traceable --kernel --cut --help --version'; fi
 }
 
 complete -F _klpsim klpsim

@@ -10,7 +10,7 @@ import os
 import re
 import tempfile
 
-from testing import elf, module_catalogs
+from testing import elf, images, module_catalogs
 from testing.elf import Function, Livepatch, Object
 from testing.run import EXAMPLES, fault, read, run
 
@@ -364,6 +364,7 @@ def cases():
     made.update({f"the tables of {name}": (written, list_written, *patches) for name, patches in WRITTEN.items()})
     made.update({f"the pairs of {name}": (written, matrix, *patches) for name, patches in WRITTEN.items()})
     made.update(module_catalogs.cases(source_of, LIVEPATCHES, written))
+    made.update(images.cases(written))
     made["a faulty file and another"] = (beside_faulty,)
     made["a file twice"] = (twice,)
     made["65 files"] = (too_many_files,)

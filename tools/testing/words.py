@@ -12,7 +12,7 @@ USAGE = {
     "klppage": "klppage CATALOG SCRIPT|--trace TRACE [NAMES]",
     "klplint": "klplint [--json] CATALOG [SCRIPT]",
     "klpsee": "klpsee [-o FOLDER] [--json|--follow] [--catalog FILE] LOG|[--metrics] LOG..",
-    "klpko": "klpko [--btf FILE] [--symbols FILE] [--module FILE].. [--traceable FILE] [--cut] PATCH..|--list|--matrix [--json] PATCH..",
+    "klpko": "klpko [--btf FILE] [--kernel IMAGE|[--symbols FILE] [--traceable FILE]] [--module FILE].. [--cut] PATCH..|--list|--matrix [--json] PATCH..",
 }
 REFUSED = {
     "klpsim": [
@@ -39,7 +39,9 @@ REFUSED = {
         ("--module", "y", "--list", "x"), ("--matrix", "x", "--traceable", "y"), ("--module", "y"), ("x", "--module"), ("x", "--traceable"),
         ("--traceable", "y", "--traceable", "y", "x"), ("--module", "y", "--json", "x"), ("--cut",), ("--cut", "--list", "x"),
         ("--matrix", "--cut", "x"), ("--cut", "--json", "x"), ("--cut", "x", "--cut"), ("--btf", "x"), ("x", "--btf"), ("--list", "--btf", "y"),
-        ("--btf", "y", "--btf", "y", "x"),
+        ("--btf", "y", "--btf", "y", "x"), ("--kernel", "y"), ("x", "--kernel"),
+        ("--kernel", "y", "--symbols", "z", "x"), ("--kernel", "y", "x", "--traceable", "z"), ("--kernel", "y", "--list", "x"),
+        ("--matrix", "x", "--kernel", "y"), ("--kernel", "y", "--json", "x"), ("--kernel", "y", "--kernel", "y", "x"),
     ],
 }
 # Words that mean the same, in each line those in front.
@@ -215,6 +217,7 @@ def cases():
     made.update({f"{words[0]}, twice standard input, {words[1:]}": (twice, *words) for words in (
         ("klpwatch", "-", "-"), ("klplint", "-", "-"), ("klppage", "-", "-"), ("klppage", "-", "x", "-"), ("klppage", "x", "-", "-"), ("klppage", "-", "--trace", "-"), ("klpko", "--list", "-", "x", "-"),
         ("klpko", "--symbols", "-", "-"), ("klpko", "--module", "-", "--module", "-", "x"), ("klpko", "--traceable", "-", "--symbols", "-", "x"), ("klpko", "--btf", "-", "--list", "-"),
+        ("klpko", "--kernel", "-", "-"),
     )})
     odd = "\x1b[2J"
     paths = (("klpwatch", odd, "x"), ("klpwatch", "k.catalog", odd), ("klppage", odd, "x"), ("klplint", odd), ("klplint", "k.catalog", odd), ("klpsee", odd), ("klpko", "--list", odd))

@@ -44,6 +44,7 @@ pub record Modules : Type 0 where
   pub symbols : Option Text
   pub objects : List Text
   pub traceable : Option Text
+  pub kernel : Option Text
   pub is_cut : Bool
 
 -- an option without a value is given
@@ -106,12 +107,21 @@ question_of list matrix json for_catalog = None
 abbrev pub has_kernel : Option Text → List Text → Option Text → Bool
 has_kernel symbols objects traceable = is_some symbols || nat_lt 0 (length objects) || is_some traceable
 
--- an option is given that is for a catalog alone: what is known of the kernel, or that the catalog may be cut
-abbrev pub is_for_catalog : Bool → Bool → Bool
-is_for_catalog kernel cut = kernel || cut
+-- an option is given that is for a catalog alone: what is known of the kernel, its image, or that the catalog may be cut
+abbrev pub is_for_catalog : Bool → Option Text → Bool → Bool
+is_for_catalog known kernel cut = known || is_some kernel || cut
 
-abbrev pub modules_by : List Text → Option Text → Option Text → Option Text → Option Text → Option Text → List Text → Option Text → Option Text → Option Modules
-modules_by patches list matrix json layout symbols objects traceable cut =
+-- the kernel's image has its symbols, and the functions that can be traced, so neither is given beside it
+abbrev pub clash : Option Text → Option Text → Option Text → Bool
+clash kernel symbols traceable = is_some kernel && (is_some symbols || is_some traceable)
+
+abbrev pub unless_clash : Bool → Option ModuleQuestion → Option ModuleQuestion
+unless_clash true question = None
+unless_clash false question = question
+
+abbrev pub modules_by : List Text → Option Text → Option Text → Option Text → Option Text → Option Text → List Text → Option Text → Option Text → Option Text
+    → Option Modules
+modules_by patches list matrix json layout symbols objects traceable kernel cut =
     option_map (λ question. record {
       patches = patches;
       question = question;
@@ -120,9 +130,11 @@ modules_by patches list matrix json layout symbols objects traceable cut =
       symbols = symbols;
       objects = objects;
       traceable = traceable;
+      kernel = kernel;
       is_cut = is_given cut;
     })
-    (question_of (is_given list) (is_given matrix) (is_given json) (is_for_catalog (has_kernel symbols objects traceable) (is_given cut)))
+    (unless_clash (clash kernel symbols traceable)
+    (question_of (is_given list) (is_given matrix) (is_given json) (is_for_catalog (has_kernel symbols objects traceable) kernel (is_given cut))))
 
 -- what the values ask for, unless the words are at fault
 abbrev pub unless : {Z : Type 0} → Kinds → Option Z → Option Z
@@ -146,7 +158,8 @@ seen_in rows =
 abbrev pub modules_in : List Row → Option Modules
 modules_in rows =
     modules_by (values_in (all_of (codes "PATCH") rows)) (first_of (codes "LIST") rows) (first_of (codes "MATRIX") rows) (first_of (codes "JSON") rows)
-    (first_of (codes "BTF") rows) (first_of (codes "SYMBOLS") rows) (values_in (all_of (codes "MODULE") rows)) (first_of (codes "TRACEABLE") rows) (first_of (codes "CUT") rows)
+    (first_of (codes "BTF") rows) (first_of (codes "SYMBOLS") rows) (values_in (all_of (codes "MODULE") rows)) (first_of (codes "TRACEABLE") rows)
+    (first_of (codes "KERNEL") rows) (first_of (codes "CUT") rows)
 
 abbrev pub watch_asked : List Text → Option Watched
 watch_asked words = unless (fault_of watch_app words) (watched_in (matches_of watch_app words))
@@ -191,6 +204,7 @@ module_meaning words = record {
   symbols = option_map (λ symbols. symbols.now) words.symbols;
   objects = map (λ object. object.now) words.objects.items;
   traceable = option_map (λ traceable. traceable.now) words.traceable;
+  kernel = option_map (λ kernel. kernel.now) words.kernel;
   is_cut = words.is_cut;
 }
 

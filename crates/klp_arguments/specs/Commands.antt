@@ -89,6 +89,9 @@ traceable = valued (codes "TRACEABLE") (codes "traceable")
 abbrev pub layout : Rule
 layout = valued (codes "BTF") (codes "btf")
 
+abbrev pub kernel : Rule
+kernel = valued (codes "KERNEL") (codes "kernel")
+
 -- what is asked of which modules
 abbrev pub question_app : App
 question_app =
@@ -99,8 +102,12 @@ question_app =
 abbrev pub table_app : App
 table_app = with_rule (with_rule question_app layout) json
 
+-- for what is known of the kernel, too
+abbrev pub known_app : App
+known_app = with_rule (with_rule (with_rule table_app symbols) objects) traceable
+
 abbrev pub module_app : App
-module_app = with_rule (with_rule (with_rule (with_rule table_app symbols) objects) traceable) (flag (codes "CUT") (codes "cut"))
+module_app = with_rule (with_rule known_app kernel) (flag (codes "CUT") (codes "cut"))
 
 -- the command is this one
 abbrev pub IsCommand : Command → App → Type 0

@@ -72,6 +72,8 @@ pub struct ModuleWords<'a> {
     pub objects: Vec<&'a str>,
     /// The path of the list of functions that the kernel can trace, if it is given.
     pub traceable: Option<&'a str>,
+    /// The path of the kernel's image, if it is given. Then neither its symbols are, nor that list.
+    pub kernel: Option<&'a str>,
     /// Whether functions and objects are left out of a catalog that has no room for them.
     pub is_cut: bool,
 }

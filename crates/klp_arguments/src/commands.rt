@@ -1,9 +1,9 @@
 //! The command of each program, by which `clap` reads its arguments and writes its help.
 ghost use Rattle.std.specs.Prelude.{◌≡◌, IfOk};
 ghost use Rattle.clap.specs.Words.{app_of, new_rule};
-ghost use Rattle.klp_arguments.specs.Commands.{answer_app, bare, flag, folder, follow, json, known, layout, lint_app, logs, metrics, module_app};
-ghost use Rattle.klp_arguments.specs.Commands.{name_of, objects, page_app, patches, question_app, required, see_app, symbols, table_app, trace, traceable, valued};
-ghost use Rattle.klp_arguments.specs.Commands.{watch_app, IsArg};
+ghost use Rattle.klp_arguments.specs.Commands.{answer_app, bare, flag, folder, follow, json, kernel, known, known_app, layout, lint_app, logs, metrics};
+ghost use Rattle.klp_arguments.specs.Commands.{module_app, name_of, objects, page_app, patches, question_app, required, see_app, symbols, table_app};
+ghost use Rattle.klp_arguments.specs.Commands.{trace, traceable, valued, watch_app, IsArg};
 ghost use Rattle.klp_arguments.specs.Commands.{IsCommand};
 
 use crate::program::Program;
@@ -41,6 +41,8 @@ pub(crate) const SYMBOLS: &str = "SYMBOLS";
 pub(crate) const MODULE: &str = "MODULE";
 
 pub(crate) const TRACEABLE: &str = "TRACEABLE";
+
+pub(crate) const KERNEL: &str = "KERNEL";
 
 pub(crate) const CUT: &str = "CUT";
 
@@ -286,6 +288,18 @@ fn layout<'a>(alloc: Global) -> Arg<'a>
     )
 }
 
+/// Returns klpko's option `--kernel`. Its value is the file of the kernel's image.
+fn kernel<'a>(alloc: Global) -> Arg<'a>
+    ensures { IsArg result kernel }
+{
+    valued(
+        alloc,
+        KERNEL,
+        "kernel",
+        "The kernel's image, unpacked, in place of both lists",
+    )
+}
+
 /// Returns the command of klpko for what is asked of modules: it takes these, and the options `--list` and `--matrix`.
 fn question_command<'a>(alloc: Global) -> Result<Command<'a>, AllocError>
     ensures { IfOk result (λ command. IsCommand command question_app) }
@@ -311,19 +325,26 @@ fn table_command<'a>(alloc: Global) -> Result<Command<'a>, AllocError>
         .arg(json(alloc))
 }
 
-/// Returns the command of klpko: it takes modules, and the options `--list`, `--matrix`, `--btf`, `--json`,
-/// `--symbols`, `--module`, `--traceable` and `--cut`.
-pub(crate) fn module_command<'a>(alloc: Global) -> Result<Command<'a>, AllocError>
-    ensures { IfOk result (λ command. IsCommand command module_app) }
+/// Returns the command of klpko for what it says of modules and for what is known of the kernel: it takes the options
+/// `--symbols`, `--module` and `--traceable`, too.
+fn known_command<'a>(alloc: Global) -> Result<Command<'a>, AllocError>
+    ensures { IfOk result (λ command. IsCommand command known_app) }
 {
     table_command(alloc)?
         .arg(symbols(alloc))?
         .arg(objects(alloc))?
-        .arg(traceable(alloc))?
-        .arg(flag(
-            alloc,
-            CUT,
-            "cut",
-            "Leave out functions for which a catalog has no room",
-        ))
+        .arg(traceable(alloc))
+}
+
+/// Returns the command of klpko: it takes modules, and the options `--list`, `--matrix`, `--json`, `--symbols`,
+/// `--module`, `--traceable`, `--kernel` and `--cut`.
+pub(crate) fn module_command<'a>(alloc: Global) -> Result<Command<'a>, AllocError>
+    ensures { IfOk result (λ command. IsCommand command module_app) }
+{
+    known_command(alloc)?.arg(kernel(alloc))?.arg(flag(
+        alloc,
+        CUT,
+        "cut",
+        "Leave out functions for which a catalog has no room",
+    ))
 }

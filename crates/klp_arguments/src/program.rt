@@ -63,6 +63,7 @@ Exit status:
 Examples:
   klpko --matrix examples/modules/two_objects.ko examples/modules/cumulative.ko
   klpko --symbols /proc/kallsyms fix.ko >fix.catalog
+  klpko --kernel vmlinux fix.ko >fix.catalog
 
 More: man klpko";
 
@@ -99,7 +100,7 @@ impl Program {
             Program::Klpsee =>
                 "klpsee [-o FOLDER] [--json|--follow] [--catalog FILE] LOG|[--metrics] LOG..",
             Program::Klpko =>
-                "klpko [--btf FILE] [--symbols FILE] [--module FILE].. [--traceable FILE] [--cut] PATCH..|--list|--matrix [--json] PATCH..",
+                "klpko [--btf FILE] [--kernel IMAGE|[--symbols FILE] [--traceable FILE]] [--module FILE].. [--cut] PATCH..|--list|--matrix [--json] PATCH..",
         }
     }
 

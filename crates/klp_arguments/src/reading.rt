@@ -3,12 +3,12 @@ ghost use Rattle.std.specs.Prelude.{◌≡◌, ◌⊎◌, [], true, length, map,
 ghost use Rattle.clap.specs.Words.{all_of, app_of, fault_of, first_of, found_of, is_simple, is_simple_and_free, matches_of, rows_of};
 ghost use Rattle.klp_arguments.specs.Asked.{is_given, lint_asked, module_asked, page_asked, see_asked, watch_asked, Ends, EndsBy, EndsWith};
 ghost use Rattle.klp_arguments.specs.Asked.{lint_meaning, module_meaning, page_meaning, see_meaning, watch_meaning};
-ghost use Rattle.klp_arguments.specs.Asked.{go_together, has_kernel, is_for_catalog, linted_in, modules_in, paged_in, question_of, seen_in, values_in, watched_in};
+ghost use Rattle.klp_arguments.specs.Asked.{clash, go_together, has_kernel, is_for_catalog, linted_in, modules_in, paged_in, question_of, seen_in, unless_clash, values_in, watched_in};
 ghost use Rattle.klp_arguments.specs.Commands.{lint_app, module_app, page_app, see_app, watch_app};
 
 use crate::asked::{LintWords, ModuleQuestion, ModuleWords, PageWords, SeeWords, WatchWords};
 use crate::commands::{
-    BTF, CATALOG, CUT, FOLDER, FOLLOW, JSON, LIST, LOG, MATRIX, METRICS, MODULE, NAMES, PATCH,
+    BTF, CATALOG, CUT, FOLDER, FOLLOW, JSON, KERNEL, LIST, LOG, MATRIX, METRICS, MODULE, NAMES, PATCH,
     SCRIPT, SYMBOLS, TRACE, TRACEABLE, lint_command, module_command, page_command, see_command,
     watch_command,
 };
@@ -283,10 +283,23 @@ fn has_kernel(symbols: Option<&str>, objects: &[&str], traceable: Option<&str>) 
 }
 
 /// Whether an option is given that is for a catalog alone.
-fn is_for_catalog(has_kernel: bool, is_cut: bool) -> bool
-    ensures { result ≡ is_for_catalog has_kernel is_cut }
+fn is_for_catalog(has_kernel: bool, kernel: Option<&str>, is_cut: bool) -> bool
+    ensures { result ≡ is_for_catalog has_kernel (option_map (λ k. k.now) kernel.entry) is_cut }
 {
-    has_kernel || is_cut
+    has_kernel || kernel.is_some() || is_cut
+}
+
+/// Whether a kernel's image is given, and beside it what the image has.
+fn clash(kernel: Option<&str>, symbols: Option<&str>, traceable: Option<&str>) -> bool
+    ensures { result ≡ clash (option_map (λ k. k.now) kernel.entry) (option_map (λ s. s.now) symbols.entry) (option_map (λ t. t.now) traceable.entry) }
+{
+    kernel.is_some() && (symbols.is_some() || traceable.is_some())
+}
+
+fn unless_clash(clashes: bool, question: Option<ModuleQuestion>) -> Option<ModuleQuestion>
+    ensures { result ≡ unless_clash clashes question }
+{
+    if clashes { None } else { question }
 }
 
 /// Returns from the matched arguments of klpko which modules it is to read, what it is to say of them, and the form of
@@ -303,9 +316,11 @@ fn modules<'a>(
         values_of(alloc, matches, MODULE)?,
         value_of(matches, TRACEABLE),
     );
-    let is_cut = is_given(matches, CUT);
-    let is_for_catalog = is_for_catalog(has_kernel(symbols, &objects, traceable), is_cut);
-    let Some(question) = question_of(lists, compares, is_json, is_for_catalog) else {
+    let (kernel, is_cut) = (value_of(matches, KERNEL), is_given(matches, CUT));
+    let has_kernel = has_kernel(symbols, &objects, traceable);
+    let is_for_catalog = is_for_catalog(has_kernel, kernel, is_cut);
+    let asked = question_of(lists, compares, is_json, is_for_catalog);
+    let Some(question) = unless_clash(clash(kernel, symbols, traceable), asked) else {
         return Ok(None);
     };
     Ok(Some(ModuleWords {
@@ -316,6 +331,7 @@ fn modules<'a>(
         symbols,
         objects,
         traceable,
+        kernel,
         is_cut,
     }))
 }

@@ -19,6 +19,6 @@ mod variable;
 
 pub use files::add_file;
 pub use objects::{CatalogSymbol, ObjectSymbols, objects_of};
-pub use rows::{KernelRow, RowsFault, read_rows};
+pub use rows::{KernelRow, RowsFault, is_function_letter, read_rows};
 pub use traceable::{TraceableFault, TraceableRow, is_judged, read_traceable, untraceable};
 pub use variable::variables;

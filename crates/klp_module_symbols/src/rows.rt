@@ -78,7 +78,7 @@ pub(crate) fn bracketed(word: &[u8]) -> Option<&[u8]>
 }
 
 /// Whether a symbol with this letter is a function.
-fn is_function_letter(letter: &[u8]) -> bool
+pub fn is_function_letter(letter: &[u8]) -> bool
     ensures { result ≡ is_function_letter letter.now }
 {
     letter == b"t".as_slice()

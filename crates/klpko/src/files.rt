@@ -28,6 +28,8 @@ pub(crate) struct Files<'w> {
     pub(crate) targets: Vec<File<'w>>,
     /// The functions that the kernel can trace.
     pub(crate) traceable: Option<File<'w>>,
+    /// The kernel's image, in place of its symbols and of these functions.
+    pub(crate) image: Option<File<'w>>,
 }
 
 /// Writes that memory ran out, and returns the exit status.
@@ -85,7 +87,7 @@ fn count_inputs(paths: &[&str]) -> usize {
 /// Returns how many files are standard input.
 fn count_all_inputs(words: &ModuleWords<'_>) -> usize {
     let mut count = count_inputs(&words.modules).saturating_add(count_inputs(&words.objects));
-    for path in [words.symbols, words.traceable] {
+    for path in [words.symbols, words.traceable, words.kernel] {
         if path == Some(STANDARD_INPUT) {
             count = count.saturating_add(1);
         }
@@ -116,5 +118,6 @@ pub(crate) fn files_in<'w, E: Write>(
         symbols: given_file(rt, words.symbols, err)?,
         targets: files_at(rt, &words.objects, err)?,
         traceable: given_file(rt, words.traceable, err)?,
+        image: given_file(rt, words.kernel, err)?,
     })
 }

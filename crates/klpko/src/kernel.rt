@@ -1,5 +1,7 @@
 //! What is known of the kernel for which a catalog is.
 use crate::files::{FAULT, File, Files, NAME, out_of_memory, tell_fault};
+use crate::image::{Release, release_of, tell_release};
+use klp_kernel_image::KernelImage;
 use klp_messages::Escaped;
 use klp_module_answer::{Livepatch, TargetModule, read_target};
 use klp_module_matrix::{name_of_row, object_name};
@@ -15,13 +17,26 @@ use std::io::Write;
 pub(crate) struct Kernel<'k> {
     /// Its symbols, and those of modules that aren't loaded.
     pub(crate) rows: Vec<KernelRow<'k>>,
-    /// The path of the list of functions that it can trace, with these functions.
+    /// The functions that it can trace, if they are known.
     traceable: Option<Traceable<'k>>,
+    /// Its release, if its image is given.
+    release: Option<Release<'k>>,
 }
 
+/// What says which functions a kernel can trace.
+#[derive(Clone, Copy)]
+enum Source {
+    /// The list of the kernel.
+    List,
+    /// The entry sites of its image.
+    Image,
+}
+
+/// The functions that a kernel can trace, with the path of the file that says so.
 #[derive(Drop)]
 struct Traceable<'k> {
     path: &'k str,
+    source: Source,
     rows: Vec<TraceableRow<'k>>,
 }
 
@@ -43,12 +58,20 @@ pub(crate) fn targets_in<'f, E: Write>(
     Ok(targets)
 }
 
-/// Returns the symbols of a kernel, none if none are given. Returns the exit status as `Err` if they are faulty.
+/// Returns the symbols of a kernel: of its image, of the list of them, or none if neither is given. Returns the exit status as
+/// `Err` if the list is faulty.
 fn rows_in<'f, E: Write>(
     alloc: Global,
+    image: Option<&'f KernelImage<'_>>,
     symbols: Option<&'f File<'_>>,
     err: &mut E,
 ) -> Result<Vec<KernelRow<'f>>, u8> {
+    if let Some(image) = image {
+        return match image.rows(alloc) {
+            Ok(rows) => Ok(rows),
+            Err(_) => Err(out_of_memory(err)),
+        };
+    }
     let Some(file) = symbols else {
         return Ok(Vec::new(alloc));
     };
@@ -82,7 +105,24 @@ fn add_targets<'k, E: Write>(
     Ok(())
 }
 
-/// Returns the functions that a kernel can trace, if they are given. Returns the exit status as `Err` if they are faulty.
+/// Returns the functions that a kernel can trace by its image, which is in this file.
+fn traced_by_image<'f, E: Write>(
+    alloc: Global,
+    file: &'f File<'_>,
+    image: &'f KernelImage<'_>,
+    err: &mut E,
+) -> Result<Option<Traceable<'f>>, u8> {
+    match image.traceable(alloc) {
+        Ok(rows) => Ok(Some(Traceable {
+            path: file.path,
+            source: Source::Image,
+            rows,
+        })),
+        Err(_) => Err(out_of_memory(err)),
+    }
+}
+
+/// Returns the functions that a kernel can trace by its list, if it is given. Returns the exit status as `Err` if it is faulty.
 fn traceable_in<'f, E: Write>(
     alloc: Global,
     traceable: Option<&'f File<'_>>,
@@ -94,6 +134,7 @@ fn traceable_in<'f, E: Write>(
     match read_traceable(alloc, &file.bytes) {
         Ok(rows) => Ok(Some(Traceable {
             path: file.path,
+            source: Source::List,
             rows,
         })),
         Err(TraceableFault::NoMemory) => Err(out_of_memory(err)),
@@ -105,13 +146,21 @@ fn traceable_in<'f, E: Write>(
 pub(crate) fn kernel_in<'k, E: Write>(
     alloc: Global,
     files: &'k Files<'_>,
+    image: Option<&'k KernelImage<'_>>,
     targets: &[TargetModule<'k>],
     err: &mut E,
 ) -> Result<Kernel<'k>, u8> {
-    let mut rows = rows_in(alloc, files.symbols.as_ref(), err)?;
+    let mut rows = rows_in(alloc, image, files.symbols.as_ref(), err)?;
     add_targets(&mut rows, targets, err)?;
-    let traceable = traceable_in(alloc, files.traceable.as_ref(), err)?;
-    Ok(Kernel { rows, traceable })
+    let traceable = match (&files.image, image) {
+        (Some(file), Some(image)) => traced_by_image(alloc, file, image, err)?,
+        _ => traceable_in(alloc, files.traceable.as_ref(), err)?,
+    };
+    Ok(Kernel {
+        rows,
+        traceable,
+        release: release_of(files.image.as_ref(), image),
+    })
 }
 
 /// Writes of which objects of a livepatch the list has no function. Returns whether there are any.
@@ -126,10 +175,16 @@ fn tell_unlisted<E: Write>(list: &Traceable<'_>, livepatch: &Livepatch<'_>, err:
         if !object.functions.is_empty() && !is_judged(&list.rows, name) {
             is_any = true;
             let name = Escaped(name);
-            let _ = writeln!(
-                err,
-                "{NAME}: {file}: {path} lists no function of {name}, so it isn't known which of them the kernel can patch"
-            );
+            let _ = match list.source {
+                Source::List => writeln!(
+                    err,
+                    "{NAME}: {file}: {path} lists no function of {name}, so it isn't known which of them the kernel can patch"
+                ),
+                Source::Image => writeln!(
+                    err,
+                    "{NAME}: {file}: {path} has nothing of {name}, so it isn't known which of its functions the kernel can patch"
+                ),
+            };
         }
     }
     is_any
@@ -149,10 +204,16 @@ fn tell_untraceable<E: Write>(
     let refused = untraceable(alloc, &list.rows, &livepatch.changed)?;
     for change in &refused {
         let (name, object) = (Escaped(change.name), Escaped(object_name(change.object)));
-        let _ = writeln!(
-            err,
-            "{NAME}: {file}: the kernel refuses the patch: {path} doesn't list {name} of {object}, so it can't be patched"
-        );
+        let _ = match list.source {
+            Source::List => writeln!(
+                err,
+                "{NAME}: {file}: the kernel refuses the patch: {path} doesn't list {name} of {object}, so it can't be patched"
+            ),
+            Source::Image => writeln!(
+                err,
+                "{NAME}: {file}: the kernel refuses the patch: {path} has no entry site of {name} of {object}, so it can't be patched"
+            ),
+        };
     }
     Ok(!refused.is_empty())
 }
@@ -182,8 +243,8 @@ fn tell_variables<E: Write>(
     Ok(!refused.is_empty())
 }
 
-/// Writes what stands against the livepatches by the kernel's symbols, and by the list of functions that it can trace, if
-/// they are given. Returns whether nothing does.
+/// Writes what stands against the livepatches by the kernel's release and symbols, and by the functions that it can trace, if
+/// these are known. Returns whether nothing does.
 pub(crate) fn can_patch<E: Write>(
     alloc: Global,
     kernel: &Kernel<'_>,
@@ -192,6 +253,11 @@ pub(crate) fn can_patch<E: Write>(
 ) -> Result<bool, AllocError> {
     let mut can_all = true;
     for livepatch in livepatches {
+        if let Some(release) = kernel.release
+            && tell_release(release, livepatch, err)
+        {
+            can_all = false;
+        }
         if tell_variables(alloc, &kernel.rows, livepatch, err)? {
             can_all = false;
         }

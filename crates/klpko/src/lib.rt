@@ -5,10 +5,12 @@
 
 mod cutting;
 mod files;
+mod image;
 mod kernel;
 
 use crate::cutting::cut_draft;
 use crate::files::{FAULT, File, Files, NAME, files_in, out_of_memory};
+use crate::image::image_in;
 use crate::kernel::{can_patch, kernel_in, targets_in};
 use klp_arguments::{ModuleQuestion, ModuleWords, Program, given_words, module_words};
 use klp_messages::Escaped;
@@ -211,7 +213,11 @@ fn write_catalog<W: Write, E: Write>(
         Ok(targets) => targets,
         Err(status) => return Ok(Err(status)),
     };
-    let kernel = match kernel_in(alloc, files, &targets, err) {
+    let image = match image_in(alloc, files, err) {
+        Ok(image) => image,
+        Err(status) => return Ok(Err(status)),
+    };
+    let kernel = match kernel_in(alloc, files, image.as_ref(), &targets, err) {
         Ok(kernel) => kernel,
         Err(status) => return Ok(Err(status)),
     };
