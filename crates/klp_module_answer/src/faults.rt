@@ -17,13 +17,6 @@ const IMAGE_WORD: usize = 0x202;
 
 const IMAGE: &[u8] = b"HdrS";
 
-/// The sections in which tools keep a livepatch's tables that its code reads, each with the tool.
-const SECTIONS: [(&[u8], &str); 3] = [
-    (b".kpatch.funcs", "kpatch-build"),
-    (b"__klp_objects", "klp-build"),
-    (b".init.klp_objects", "klp-build"),
-];
-
 /// What is wrong with a file that isn't an ELF file as a module is one.
 #[derive(Clone, Copy)]
 pub(crate) struct FileWords<'b> {
@@ -94,6 +87,8 @@ impl From<AllocError> for ModuleFault {
 pub(crate) struct ModuleFaultWords<'e, 'a> {
     pub(crate) elf: &'e Elf<'a>,
     pub(crate) fault: ModuleFault,
+    /// The file from which the layout of the structs is, if it isn't the known one.
+    pub(crate) layout_file: Option<&'e str>,
 }
 
 /// A place in a file, by its section and the offset into it.
@@ -162,26 +157,25 @@ impl<'e, 'a> ModuleFaultWords<'e, 'a> {
             let (name, size) = (self.elf.symbol_name(symbol), symbol.size);
             write!(f, "{} has {size} bytes, and ", Escaped(name))?;
         }
-        write!(
-            f,
-            "its rows have {wanted} bytes by the layout of Linux 5.5 to 6.12"
-        )
+        write!(f, "its rows have {wanted} bytes by the layout of ")?;
+        match self.layout_file {
+            Some(file) => write!(f, "{}", Escaped(file.as_bytes())),
+            None => f.write_str("Linux 5.5 to 7.3: --btf gives another one"),
+        }
     }
 
-    /// Writes that no variable is a struct klp_patch, or in which other form the tables are.
-    fn write_no_patch<W: fmt::Write>(&self, f: &mut fmt::Formatter<W>) -> fmt::Result {
-        for (section, tool) in SECTIONS {
-            if self.elf.section_named(section).is_some() {
-                return write!(
-                    f,
-                    "its tables are in the section {}, as {tool} makes them: only a struct klp_patch that the compiler lays out is read",
-                    Escaped(section)
-                );
-            }
+    /// Writes that rows of so many bytes don't fill the section that begins at a place.
+    fn write_ragged<W: fmt::Write>(
+        &self,
+        f: &mut fmt::Formatter<W>,
+        table: Place,
+        width: u64,
+    ) -> fmt::Result {
+        write!(f, "{}: rows of {width} bytes are wanted", self.place(table))?;
+        match self.elf.sections.get(table.section as usize) {
+            Some(section) => write!(f, ", and the section has {} bytes", section.size),
+            None => Ok(()),
         }
-        f.write_str(
-            "a struct klp_patch is wanted: no variable of its size begins with a pointer to the module",
-        )
     }
 
     fn write_table<W: fmt::Write>(
@@ -205,10 +199,21 @@ impl<'e, 'a> ModuleFaultWords<'e, 'a> {
                 self.place(at)
             ),
             TableFault::Layout { table, wanted } => self.write_layout(f, table, wanted),
-            TableFault::NoPatch => self.write_no_patch(f),
+            TableFault::NoPatch => f.write_str(
+                "a struct klp_patch is wanted: no variable of its size begins with a pointer to the module, and there is no section .kpatch.funcs or .init.klp_objects",
+            ),
             TableFault::SeveralPatches => f.write_str(
                 "one struct klp_patch is wanted: several variables of its size begin with a pointer to the module",
             ),
+            TableFault::Ragged { table, width } => self.write_ragged(f, table, width),
+            TableFault::ExtraCallback(at) => write!(
+                f,
+                "{}: its object has a callback of this kind already",
+                self.place(at)
+            ),
+            TableFault::TooManyCallbacks => {
+                write!(f, "it has over {MAX_OBJECTS} callbacks of a kind")
+            }
             TableFault::TooManyFunctions => write!(f, "it has over {MAX_FUNCTIONS} functions"),
             TableFault::TooManyObjects => write!(f, "it has over {MAX_OBJECTS} objects"),
             TableFault::TooManyStates => write!(f, "it has over {MAX_STATES} states"),

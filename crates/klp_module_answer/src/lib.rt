@@ -16,7 +16,7 @@ mod pairs;
 mod spelled;
 
 pub use listing::list;
-pub use livepatch::{Livepatch, TargetModule, read_livepatch, read_target};
+pub use livepatch::{LayoutSource, Livepatch, TargetModule, read_livepatch, read_target};
 pub use pairs::compare;
 
 /// The form of an answer: lines of words, or objects of JSON, each in a line.

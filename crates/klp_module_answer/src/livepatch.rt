@@ -4,9 +4,16 @@ use crate::modinfo::info_of;
 use klp_elf::Elf;
 use klp_messages::Escaped;
 use klp_module_matrix::{Changed, Side, changed_by};
-use klp_tables::{MAX_FILE, Patch};
+use klp_tables::{Layout, MAX_FILE, Patch};
 use std::alloc::Global;
 use std::io::Write;
+
+/// The layout of the kernel's structs, and the file that it is from. Without one it is the known layout.
+#[derive(Clone, Copy)]
+pub struct LayoutSource<'s> {
+    pub layout: Layout,
+    pub file: Option<&'s str>,
+}
 
 /// A livepatch, and what its module says of itself.
 #[derive(Drop)]
@@ -41,6 +48,7 @@ fn livepatch_of<'a>(
     alloc: Global,
     file: &'a str,
     elf: &Elf<'a>,
+    layout: Layout,
 ) -> Result<Livepatch<'a>, ModuleFault> {
     let info = info_of(elf);
     if info.livepatch.is_none() {
@@ -49,7 +57,7 @@ fn livepatch_of<'a>(
     let Some(name) = info.name else {
         return Err(ModuleFault::NoName);
     };
-    let patch = klp_tables::read(alloc, elf)?;
+    let patch = klp_tables::read(alloc, elf, layout)?;
     let changed = changed_by(alloc, &patch.objects)?;
     Ok(Livepatch {
         file,
@@ -102,7 +110,11 @@ pub fn read_target<'a, E: Write>(
     let elf = read_elf(alloc, program, file, bytes, err)?;
     let Some(name) = info_of(&elf).name else {
         let fault = ModuleFault::NoName;
-        let words = ModuleFaultWords { elf: &elf, fault };
+        let words = ModuleFaultWords {
+            elf: &elf,
+            fault,
+            layout_file: None,
+        };
         let name = Escaped(file.as_bytes());
         let _ = writeln!(err, "{program}: {name}: {words}");
         return None;
@@ -114,16 +126,21 @@ pub fn read_target<'a, E: Write>(
 pub fn read_livepatch<'a, E: Write>(
     alloc: Global,
     program: &str,
+    source: LayoutSource<'_>,
     file: &'a str,
     bytes: &'a [u8],
     err: &mut E,
 ) -> Option<Livepatch<'a>> {
     let elf = read_elf(alloc, program, file, bytes, err)?;
     let name = Escaped(file.as_bytes());
-    match livepatch_of(alloc, file, &elf) {
+    match livepatch_of(alloc, file, &elf, source.layout) {
         Ok(livepatch) => Some(livepatch),
         Err(fault) => {
-            let words = ModuleFaultWords { elf: &elf, fault };
+            let words = ModuleFaultWords {
+                elf: &elf,
+                fault,
+                layout_file: source.file,
+            };
             let _ = writeln!(err, "{program}: {name}: {words}");
             None
         }
