@@ -12,7 +12,7 @@ use Rattle.klp_lint_findings.specs.declared.linted.NamedText.{NamedText}
 use Rattle.klp_lint_findings.specs.Claims.{AddsTrue}
 use Rattle.klp_lint_findings.specs.Listed.{Lists}
 use Rattle.klp_lint_findings.specs.Saying.{is_said_of, Adds}
-use Rattle.klp_lint_findings.specs.Standing.{Standing, sealed}
+use Rattle.klp_lint_findings.specs.Standing.{Standing}
 use Rattle.klp_lint_findings.proofs.ListedLemmas.{lists_later, lists_on}
 use Rattle.klp_lint_worlds.specs.Worlds.{with_modules, world_state, AddsIn, AllListed, IsLine, IsScripted}
 use Rattle.klp_lint_worlds.proofs.ReadyLemmas.{scripted_on}

@@ -1,5 +1,5 @@
 -- What a list assures of patches.
-use Rattle.std.proofs.Common.{◌≡◌, ◌⊎◌, ℕ, ◌<◌, ◌≤◌, Bool, true, false, not, ◌&&◌, List, Option, Some, None, length, refl, sym, ap, subst, ◌∙◌, inl, inr}
+use Rattle.std.proofs.Common.{◌≡◌, ◌⊎◌, ℕ, ◌<◌, ◌≤◌, Bool, true, false, not, ◌&&◌, List, Option, Some, None, length, refl, sym, ap, subst, inl, inr}
 use Rattle.std.specs.List.{list_any}
 use Rattle.klp_types.specs.Setting.{Setting}
 use Rattle.klp_model.specs.State.{State, is_installed}
@@ -8,8 +8,6 @@ use Rattle.klp_lint.specs.Premises.{ArePatchesOf}
 use Rattle.klp_manager_state.specs.Managed.{Managed, setting_of}
 use Rattle.klp_lint_findings.specs.declared.findings.Findings.{Findings}
 use Rattle.klp_lint_findings.specs.declared.linted.Linted.{Linted}
-use Rattle.klp_lint_findings.specs.declared.findings.Said.{Said}
-use Rattle.klp_lint_findings.specs.declared.marks.Mark.{Mark}
 use Rattle.klp_lint_findings.specs.Deciding.{is_unknown, is_clean}
 use Rattle.klp_lint_findings.specs.Sound.{one_decides, Grows, IsRight, VouchesBelow}
 use Rattle.klp_lint_together.specs.Starting.{CanStart, StartsUnlessReported}

@@ -1,12 +1,9 @@
 -- The lines of a script are done one after another.
 use Rattle.std.proofs.Common.{◌≡◌, ◌⊎◌, ℕ, Bool, true, false, ◌||◌, List, [], ◌∷◌, ◌++◌, Option, Some, None, Result, Ok, Err, refl, sym, ap, subst, ◌∙◌, inl, inr, append_assoc, append-nil}
-use Rattle.std.specs.List.{list_any}
 use Rattle.klp_model.specs.declared.event.Event.{Event}
 use Rattle.klp_model.specs.declared.event.Reply.{Reply}
 use Rattle.klp_model.specs.declared.event.Refusal.{Refusal}
-use Rattle.klp_types.specs.Image.{Image}
-use Rattle.klp_types.specs.Setting.{Setting}
-use Rattle.klp_catalog.specs.Catalog.{Catalog, patches_of}
+use Rattle.klp_catalog.specs.Catalog.{patches_of}
 use Rattle.klp_manager_state.specs.Managed.{Managed, setting_of}
 use Rattle.klp_core.specs.Journaled.{Journaled}
 use Rattle.klp_core.specs.Rewinding.{IsRewound}
@@ -23,7 +20,7 @@ use Rattle.klp_lint_findings.specs.declared.findings.Findings.{Findings}
 use Rattle.klp_lint_findings.specs.Saying.{Adds}
 use Rattle.klp_lint_findings.specs.Sound.{one_decides, Grows}
 use Rattle.klp_lint_findings.proofs.SayLemmas.{adds_as}
-use Rattle.klp_lint_worlds.specs.Worlds.{one_is_refused, IsLine, IsLineDone, IsLineReported, IsScripted}
+use Rattle.klp_lint_worlds.specs.Worlds.{one_is_refused, IsLine, IsLineReported, IsScripted}
 
 same_setting : (before after : Journaled) → after ≡ before → setting_of after.managed ≡ setting_of before.managed
 same_setting before after same = ap (λ (m : Journaled). setting_of m.managed) same

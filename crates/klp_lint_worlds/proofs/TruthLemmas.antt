@@ -1,5 +1,5 @@
 -- Each finding is true of the world of which it is said.
-use Rattle.std.proofs.Common.{◌≡◌, ◌⊎◌, ℕ, Bool, true, false, List, [], Option, Some, None, length, refl, sym, ap, subst, ◌∙◌, inl, inr, arith}
+use Rattle.std.proofs.Common.{◌≡◌, ℕ, Bool, true, false, List, [], Option, Some, None, refl, sym, ap, subst, inl, inr, arith}
 use Rattle.klp_types.specs.Setting.{Setting}
 use Rattle.klp_lint.specs.Premises.{ArePatchesOf}
 use Rattle.klp_lint_findings.specs.declared.finding.Finding.{Finding}

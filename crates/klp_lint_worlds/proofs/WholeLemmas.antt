@@ -1,9 +1,9 @@
 -- What the list assures is so of the text.
-use Rattle.std.proofs.Common.{◌≡◌, ℕ, suc, ◌-◌, ◌<◌, ◌≤◌, Bool, true, false, not, ◌&&◌, List, length, map, Option, Some, None, Ok, refl, sym, ap, subst, ◌∙◌, arith}
+use Rattle.std.proofs.Common.{◌≡◌, ℕ, ◌-◌, ◌≤◌, Bool, true, false, not, ◌&&◌, List, length, map, Option, Some, None, Ok, refl, sym, ap, subst, ◌∙◌, arith}
 use Rattle.std.specs.List.{list_any}
 use Rattle.klp_types.specs.declared.limits.TheConstants.{MAX_PATCHES}
 use Rattle.klp_types.specs.Image.{Image, Object}
-use Rattle.klp_types.specs.Setting.{Setting, Patch}
+use Rattle.klp_types.specs.Setting.{Setting}
 use Rattle.klp_modules.specs.Names.{names_of}
 use Rattle.klp_catalog_text.specs.Plan.{Plan, PlanPatch}
 use Rattle.klp_catalog_text.specs.Text.{plan_of}
@@ -14,21 +14,19 @@ use Rattle.klp_model.specs.State.{State}
 use Rattle.klp_model.specs.Opening.{opening_state}
 use Rattle.klp_manager_state.specs.Managed.{Managed, setting_of}
 use Rattle.klp_core.specs.Journaled.{Journaled}
-use Rattle.klp_boot.specs.Booted.{IsBootedOver, image_of}
+use Rattle.klp_boot.specs.Booted.{IsBootedOver}
 use Rattle.klp_lint.specs.Premises.{ArePatchesOf}
 use Rattle.klp_lint_findings.specs.declared.linted.NamedText.{NamedText}
 use Rattle.klp_lint_findings.specs.declared.linted.LintInput.{LintInput}
 use Rattle.klp_lint_findings.specs.declared.linted.Linted.{Linted}
 use Rattle.klp_lint_worlds.specs.declared.lint_plan.LintPlan.{LintPlan}
 use Rattle.klp_lint_findings.specs.declared.findings.Findings.{Findings}
-use Rattle.klp_lint_findings.specs.declared.findings.Said.{Said}
-use Rattle.klp_lint_findings.specs.declared.marks.Mark.{Mark}
-use Rattle.klp_lint_findings.specs.Deciding.{decides, is_unknown, is_clean}
+use Rattle.klp_lint_findings.specs.Deciding.{is_unknown, is_clean}
 use Rattle.klp_lint_findings.specs.Marking.{has_unknown}
 use Rattle.klp_lint_findings.specs.Sound.{one_decides}
-use Rattle.klp_lint_worlds.specs.Worlds.{with_modules, world_state, one_is_refused, IsReady, Assures, AssuresAll, IsScripted, AreAllTrue, AllListed}
-use Rattle.klp_lint_worlds.specs.Whole.{setting_of_plan, modules_in, AreReady, IsClean, IsBehind, IsCleanText, IsReadFrom, AreSo, AreSoOver, AreSoOfText, AreListedOver, AreListedOfText}
-use Rattle.klp_lint_findings.specs.Listed.{IsFairOrListed, Lists}
+use Rattle.klp_lint_worlds.specs.Worlds.{with_modules, world_state, one_is_refused, IsReady, Assures, AssuresAll, AreAllTrue, AllListed}
+use Rattle.klp_lint_worlds.specs.Whole.{setting_of_plan, modules_in, AreReady, IsClean, IsCleanText, IsReadFrom, AreSo, AreSoOver, AreSoOfText, AreListedOver, AreListedOfText}
+use Rattle.klp_lint_findings.specs.Listed.{IsFairOrListed}
 use Rattle.klp_lint_findings.specs.Standing.{sealed}
 use Rattle.klp_lint_worlds.proofs.TruthLemmas.{so_of}
 

@@ -1,7 +1,7 @@
 use Rattle.std.proofs.Common.{◌≡◌, subst}
 use Rattle.klp_manager_state.specs.Managed.{Managed, setting_of}
 use Rattle.klp_lint_findings.specs.Listed.{Lists}
-use Rattle.klp_lint_findings.specs.Standing.{Standing, standing, sealed}
+use Rattle.klp_lint_findings.specs.Standing.{standing, sealed}
 use Rattle.klp_lint_findings.proofs.ClaimLemmas.{adds_true_on, adds_true_at}
 use Rattle.klp_lint_findings.proofs.ListedLemmas.{lists_on}
 use Rattle.klp_lint_worlds.proofs.ReadyLemmas.{assured_now}

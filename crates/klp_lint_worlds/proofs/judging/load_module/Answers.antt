@@ -1,4 +1,4 @@
-use Rattle.std.proofs.Common.{◌≡◌, ap, ◌∙◌, ◌+◌}
+use Rattle.std.proofs.Common.{ap, ◌∙◌, ◌+◌}
 use Rattle.klp_model.specs.declared.event.Event.TheVariants.{Coming}
 use Rattle.klp_model.specs.Run.{next}
 use Rattle.klp_manager_state.specs.Managed.{Managed, setting_of}

@@ -1,4 +1,4 @@
-use Rattle.std.proofs.Common.{ℕ, ◌≡◌, ◌∷◌, List, take, drop, length, ◌-◌, ◌+◌, ◌∙◌, ap, sym, false, true, eq-eqb}
+use Rattle.std.proofs.Common.{ℕ, ◌≡◌, ◌∷◌, List, take, length, ◌+◌, ◌∙◌, ap, sym, false, true, eq-eqb}
 use Rattle.klp_console.specs.Lines.{lines_of}
 use Rattle.klp_lint_worlds.proofs.LineLemmas.{line_cut, line_last, whole_rest}
 use Rattle.klp_lint_worlds.proofs.script.cut_line.Goals as goal
