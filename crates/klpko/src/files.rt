@@ -22,6 +22,8 @@ pub(crate) struct File<'w> {
 #[derive(Drop)]
 pub(crate) struct Files<'w> {
     pub(crate) livepatches: Vec<File<'w>>,
+    /// The layout of the kernel's structs.
+    pub(crate) layout: Option<File<'w>>,
     /// The symbols of the kernel.
     pub(crate) symbols: Option<File<'w>>,
     /// Modules whose functions the patches change.
@@ -87,7 +89,7 @@ fn count_inputs(paths: &[&str]) -> usize {
 /// Returns how many files are standard input.
 fn count_all_inputs(words: &ModuleWords<'_>) -> usize {
     let mut count = count_inputs(&words.modules).saturating_add(count_inputs(&words.objects));
-    for path in [words.symbols, words.traceable, words.kernel] {
+    for path in [words.layout, words.symbols, words.traceable, words.kernel] {
         if path == Some(STANDARD_INPUT) {
             count = count.saturating_add(1);
         }
@@ -115,6 +117,7 @@ pub(crate) fn files_in<'w, E: Write>(
     }
     Ok(Files {
         livepatches: files_at(rt, &words.modules, err)?,
+        layout: given_file(rt, words.layout, err)?,
         symbols: given_file(rt, words.symbols, err)?,
         targets: files_at(rt, &words.objects, err)?,
         traceable: given_file(rt, words.traceable, err)?,

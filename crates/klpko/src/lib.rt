@@ -7,14 +7,16 @@ mod cutting;
 mod files;
 mod image;
 mod kernel;
+mod layout;
 
 use crate::cutting::cut_draft;
 use crate::files::{FAULT, File, Files, NAME, files_in, out_of_memory};
 use crate::image::image_in;
 use crate::kernel::{can_patch, kernel_in, targets_in};
+use crate::layout::layout_in;
 use klp_arguments::{ModuleQuestion, ModuleWords, Program, given_words, module_words};
 use klp_messages::Escaped;
-use klp_module_answer::{Form, Livepatch, compare, list, read_livepatch};
+use klp_module_answer::{Form, LayoutSource, Livepatch, compare, list, read_livepatch};
 use klp_module_catalog::{
     CatalogFault, Draft, FaultWords, LeftOut, NamedPatch, Unknown, draft_of, is_catalog_of,
 };
@@ -43,6 +45,7 @@ struct Livepatches<'a> {
 /// Reads the livepatches of their files. Writes to `err` what is wrong with each other file.
 fn livepatches_in<'f, E: Write>(
     alloc: Global,
+    source: LayoutSource<'_>,
     files: &'f [File<'_>],
     err: &mut E,
 ) -> Result<Livepatches<'f>, AllocError> {
@@ -51,7 +54,8 @@ fn livepatches_in<'f, E: Write>(
         are_all: true,
     };
     for file in files {
-        let Some(livepatch) = read_livepatch(alloc, NAME, file.path, &file.bytes, err) else {
+        let Some(livepatch) = read_livepatch(alloc, NAME, source, file.path, &file.bytes, err)
+        else {
             read.are_all = false;
             continue;
         };
@@ -275,7 +279,8 @@ fn status_in(rt: &HostRuntime) -> Result<u8, u8> {
     let given = given_words(rt, Program::Klpko, &mut out, &mut err)?;
     let words = module_words(rt.alloc(), &given, &mut out, &mut err)?;
     let files = files_in(rt, &words, &mut err)?;
-    match livepatches_in(rt.alloc(), &files.livepatches, &mut err) {
+    let source = layout_in(files.layout.as_ref(), &mut err)?;
+    match livepatches_in(rt.alloc(), source, &files.livepatches, &mut err) {
         Ok(read) => Ok(answer(rt.alloc(), &words, &read, &files, &mut out, &mut err)),
         Err(_) => Err(out_of_memory(&mut err)),
     }
