@@ -8,9 +8,9 @@ ghost use Rattle.klp_arguments.specs.Commands.{lint_app, module_app, page_app, s
 
 use crate::asked::{LintWords, ModuleQuestion, ModuleWords, PageWords, SeeWords, WatchWords};
 use crate::commands::{
-    BTF, CATALOG, CUT, FOLDER, FOLLOW, JSON, KERNEL, LIST, LOG, MATRIX, METRICS, MODULE, NAMES, PATCH,
-    SCRIPT, SYMBOLS, TRACE, TRACEABLE, lint_command, module_command, page_command, see_command,
-    watch_command,
+    BTF, CATALOG, CUT, FOLDER, FOLLOW, JSON, KERNEL, LIST, LOG, MATRIX, METRICS, MODULE, NAMES,
+    PATCH, SCRIPT, SYMBOLS, TRACE, TRACEABLE, lint_command, module_command, page_command,
+    see_command, watch_command,
 };
 use crate::ending::Ending;
 use crate::program::Program;
