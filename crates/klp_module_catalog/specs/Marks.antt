@@ -70,8 +70,8 @@ is_unknown Unknown = true
 is_unknown Yes = false
 is_unknown No = false
 
-abbrev pub replace_mark : NamedPatch → Bool
-replace_mark p = is_unknown p.patch.now.replaces
+abbrev pub needs_replace_mark : NamedPatch → Bool
+needs_replace_mark p = is_unknown p.patch.now.replaces
 
 -- something of the patch is left out
 abbrev pub cut_mark : NamedPatch → Bool
@@ -86,6 +86,6 @@ symbols_mark object = object.is_made_up && nat_lt 0 (length object.symbols)
 -- there.
 pub record AreMarked (text : List ℕ) (objects : List ObjectFacts) (patches : List NamedPatch) : Type 0 where
   pub callbacks : marks_of Callback (without CutPatch (lines text)) ≡ flat_map patch_marks patches
-  pub replaces : marks_of Patch (without CutPatch (lines text)) ≡ map replace_mark patches
+  pub replaces : marks_of Patch (without CutPatch (lines text)) ≡ map needs_replace_mark patches
   pub cuts : marks_of CutPatch (without Patch (lines text)) ≡ map cut_mark patches
   pub symbols : marks_of ObjectLine (without CutPatch (lines text)) ≡ map symbols_mark objects

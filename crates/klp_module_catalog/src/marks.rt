@@ -4,7 +4,7 @@ ghost use Rattle.std.specs.List.{flat_map, starts_with};
 ghost use Rattle.std.specs.Str.Lines.{lines};
 ghost use Rattle.klp_catalog_text.specs.Lines.{words_of};
 ghost use Rattle.klp_module_symbols.specs.Symbols.{object_meaning};
-ghost use Rattle.klp_module_catalog.specs.Marks.{begins, callback_marks, cut_mark, without, is_line_of, is_mark, mark_of, marks_of, object_marks, patch_marks, replace_mark, symbols_mark, AreMarked};
+ghost use Rattle.klp_module_catalog.specs.Marks.{begins, callback_marks, cut_mark, without, is_line_of, is_mark, mark_of, marks_of, object_marks, patch_marks, needs_replace_mark, symbols_mark, AreMarked};
 
 use klp_catalog_text::{Lines, words_of};
 use klp_module_fit::NamedPatch;
@@ -140,20 +140,20 @@ fn callback_marks(alloc: Global, patches: &[NamedPatch<'_, '_>]) -> Result<Vec<b
     Ok(marks)
 }
 
-/// Whether it isn't known whether a patch replaces others.
-fn replace_mark(named: &NamedPatch<'_, '_>) -> bool
-    ensures { result ≡ replace_mark named.now }
+/// Whether a patch's line should have a mark, because its tables don't say whether it replaces others.
+fn needs_replace_mark(named: &NamedPatch<'_, '_>) -> bool
+    ensures { result ≡ needs_replace_mark named.now }
 {
     matches!(named.patch.replaces, Replaces::Unknown)
 }
 
 /// Returns the marks that the lines of some patches should have.
 fn patch_marks(alloc: Global, patches: &[NamedPatch<'_, '_>]) -> Result<Vec<bool>, AllocError>
-    ensures { IfOk result (λ marks. marks.items ≡ map replace_mark patches.now) }
+    ensures { IfOk result (λ marks. marks.items ≡ map needs_replace_mark patches.now) }
 {
     let mut marks = Vec::new(alloc);
     for named in patches {
-        marks.push(replace_mark(named))?;
+        marks.push(needs_replace_mark(named))?;
     }
     Ok(marks)
 }
