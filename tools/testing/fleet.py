@@ -24,7 +24,7 @@ NUMBER = re.compile(r'^(klp_[a-z_]+)(?:\{((?:[a-z_]+="(?:[^"\\\n]|\\["\\n])*",?)
 LABEL = re.compile(r'([a-z_]+)="((?:[^"\\\n]|\\["\\n])*)"')
 # Worked out by hand from the samples of the log, which names both tasks with their first lines, and billing's next ones at
 # 12.39 s, awake: it had got a processor.
-STALLED = ["8.56 s: eventfd_fix is being enabled",
+STALLED = ["8.56 s: eventfd_fix is being enabled, since this sample or before",
            "8.56 s:   billing[90] holds it up, asleep (S) in eventfd_read",
            "8.56 s:   indexer[91] holds it up, asleep (S) in eventfd_read"]
 

@@ -100,7 +100,7 @@ impl fmt::Display for Change {
         match self {
             Change::Begins { patch, becomes } => {
                 let (patch, becomes) = (printable(patch), becomes_word(*becomes));
-                write!(f, "{patch} is being {becomes}")
+                write!(f, "{patch} is being {becomes}, since this sample or before")
             }
             Change::Reverses { patch, becomes } => {
                 let (patch, becomes) = (printable(patch), becomes_word(*becomes));

@@ -15,7 +15,7 @@ pub struct Status<'a> {
 
 impl Status<'_> {
     /// Writes the transition that is under way, who holds it up, and how many more tasks lag:
-    /// `PATCH is being enabled for 3.20 s; held up by billing[90]; 2 more lag`. Leaves out who holds it up if nobody is known
+    /// `PATCH is being enabled for at least 3.20 s; held up by billing[90]; 2 more lag`. Leaves out who holds it up if nobody is known
     /// to, and the number if it is 0.
     fn write_under_way<W: fmt::Write>(
         &self,
@@ -27,7 +27,7 @@ impl Status<'_> {
             write!(f, "{patch} is being {becomes} (seen once)")?;
         } else {
             let time = Elapsed(under_way.from, self.at);
-            write!(f, "{patch} is being {becomes} for {time} s")?;
+            write!(f, "{patch} is being {becomes} for at least {time} s")?;
         }
         let mut separator = "; held up by ";
         for held in &self.follower.holding {

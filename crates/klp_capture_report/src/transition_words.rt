@@ -418,12 +418,12 @@ pub(crate) fn print_way_back<W: Write>(
         return Ok(());
     }
     let name = shown(&transition.patch);
-    let before = match transition.becomes {
-        Becomes::Enabled => 0,
-        Becomes::Disabled => 1,
+    let (before, then) = match transition.becomes {
+        Becomes::Enabled => (0, ", so that its fix isn't applied"),
+        Becomes::Disabled => (1, ""),
     };
     writeln!(
         out,
-        "  to turn it back, write {before} to /sys/kernel/livepatch/{name}/enabled; what else can help is in klpsee(1), HOLDERS"
+        "  to turn {name} back, write {before} to /sys/kernel/livepatch/{name}/enabled{then}; what else can help is in klpsee(1), HOLDERS"
     )
 }

@@ -336,7 +336,7 @@ impl Report {
         if let Some(booted) = self.booted
             && let Ok(date) = HttpDate::from_unix_secs(booted)
         {
-            writeln!(out, "second 0 was {date}, within a second")?;
+            writeln!(out, "second 0, its boot, was {date}, within a second")?;
         }
         Ok(())
     }
