@@ -22,6 +22,7 @@ pub(crate) fn known_in<E: Write>(
     match klp_catalog_text::read(alloc, &bytes) {
         Ok(plan) => Ok(KnownPatches::of(bytes, plan)),
         Err(fault) => {
+            let nothing = Vec::new(alloc);
             let inputs = Inputs {
                 program: NAME,
                 catalog: FileText {
@@ -30,7 +31,7 @@ pub(crate) fn known_in<E: Write>(
                 },
                 second: FileText {
                     name: "",
-                    bytes: &[],
+                    bytes: &nothing,
                 },
                 kind: FileKind::Script,
             };
