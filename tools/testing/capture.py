@@ -665,7 +665,7 @@ def torn(shell):
                     lines = process.communicate(timeout=SECONDS)[0].decode().splitlines()
                     found = [line.split(" ")[6] for line in of(lines, "sample")]
                     came = (process.returncode, found, lines[-1:], said())
-                    wrong.append(differs(((number, send, name, came), (number, send, name, (0, ["1"], ["end stopped"], words)))))
+                    wrong.append(differs(((number, send, name, came), (number, send, name, (0, ["1"], ["end stopped"], [*words, READS])))))
         return "; ".join([*filter(None, wrong), *it.left_behind()]) or None
 
 
