@@ -132,7 +132,7 @@ def broken(text, words):
     """No kernel can have done what this log says, and klpsee names what."""
     status, out, err = seen(text)
     unless = "unless a transition was forced before it" if " sleeps in " in words else "whatever came before it"
-    is_well = (status, err) == (BROKEN, "") and words in out.decode() and f" s, {unless}\n" in out.decode()
+    is_well = (status, err) == (BROKEN, "") and words in out.decode() and f" s shows, {unless}\n" in out.decode()
     return None if is_well else f"{status}, {out.decode()} and {err}"
 
 
@@ -326,7 +326,7 @@ def named_and(word, runs):
     text += f"{'frames =' if runs == 1 else frames.strip()}\n{word} 90\nsample 9.00 9.10 51 0 0 0 0\n{patches('1 0')}"
     text += "sample 9.40 9.50 0 0 0 0 0\nsample 9.60 9.70 0 0 0 0 0\n"
     status, out, err = seen(f"{text}{SYMBOLS}end over\n")
-    is_well = (status, err) == (0, "") and b"shows each of " in out and b"\n  up to 5 more were unswitched inside of patched " in out
+    is_well = (status, err) == (0, "") and b"\nexplained: the livepatch rules allow what each of " in out and b"\n  up to 5 more were unswitched inside of patched " in out
     return None if is_well else f"{status}, {out} and {err}"
 
 
